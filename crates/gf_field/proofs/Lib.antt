@@ -1,0 +1,4 @@
+pub mod Bits
+pub mod Field
+pub mod Powers
+pub mod Steps
