@@ -1,0 +1,5 @@
+pub mod CryptLemmas
+pub mod RoundLemmas
+pub mod StateLemmas
+pub mod TableLemmas
+pub mod Vectors

@@ -1,0 +1,64 @@
+-- Functions on bytes that agree, shown by computing them at every byte; and the entries of the tables.
+use Rattle.std.proofs.Common.{◌≡◌, ℕ, ◌+◌, ◌-◌, ◌*◌, ◌≤◌, ◌<◌, List, map, get_or, bit_xor, refl, ap, sym, ◌∙◌, arith}
+use Rattle.std.proofs.lemmas.List.FromFn.{get_or-map-range_with_len}
+use Rattle.std.specs.List.{range_with_len}
+use Rattle.aes_ctr.specs.Field.{times, times_bits, times_x}
+use Rattle.aes_ctr.specs.SBox.{s_box, inverse, affine, affine_bit}
+use Rattle.aes_ctr.specs.declared.tables.TheConstants.{S_BOX}
+
+-- a list of a function's values has its value at each place
+value_at : (f : ℕ → ℕ) (xs : List ℕ) (a n : ℕ) → xs ≡ map f (range_with_len a n)
+    → (x i : ℕ) → a + i ≡ x → i < n → get_or xs i 0 ≡ f x
+value_at f xs a n same x i at h =
+    ap (λ (ys : List ℕ). get_or ys i 0) same ∙ get_or-map-range_with_len f a n i x 0 h at
+
+-- two functions with the same list of values agree at each place
+same_values : (f g : ℕ → ℕ) (a n : ℕ) → map f (range_with_len a n) ≡ map g (range_with_len a n)
+    → (x : ℕ) → a ≤ x → x < a + n → f x ≡ g x
+same_values f g a n same x low high =
+    let i = x - a in
+    let at : a + i ≡ x = omega arith in
+    let h : i < n = omega arith in
+    sym (get_or-map-range_with_len f a n i x 0 h at)
+    ∙ value_at g (map f (range_with_len a n)) a n same x i at h
+
+s_box_entries : S_BOX ≡ map s_box (range_with_len 0 256)
+unfolding times times_bits times_x s_box inverse affine affine_bit
+s_box_entries = refl
+
+-- the table of the S-box is the S-box
+pub s_box_of : (x : ℕ) → x < 256 → get_or S_BOX x 0 ≡ s_box x
+s_box_of x h = value_at s_box S_BOX 0 256 s_box_entries x x (omega arith) h
+
+low_doubles : map (λ x. 2 * x) (range_with_len 0 128) ≡ map times_x (range_with_len 0 128)
+unfolding times_x
+low_doubles = refl
+
+high_doubles : map (λ x. bit_xor (2 * (x - 128)) 0x1b) (range_with_len 128 128) ≡ map times_x (range_with_len 128 128)
+unfolding times_x
+high_doubles = refl
+
+-- a byte below 128 times x
+pub low_double : (x : ℕ) → x < 128 → 2 * x ≡ times_x x
+low_double x h = same_values (λ y. 2 * y) times_x 0 128 low_doubles x (omega arith) h
+
+-- a byte from 128 on times x
+pub high_double : (x : ℕ) → 128 ≤ x → x < 256 → bit_xor (2 * (x - 128)) 0x1b ≡ times_x x
+high_double x low high =
+    same_values (λ y. bit_xor (2 * (y - 128)) 0x1b) times_x 128 128 high_doubles x low high
+
+doubles : map times_x (range_with_len 0 256) ≡ map (times 2) (range_with_len 0 256)
+unfolding times times_bits times_x
+doubles = refl
+
+triples : map (λ x. bit_xor (times_x x) x) (range_with_len 0 256) ≡ map (times 3) (range_with_len 0 256)
+unfolding times times_bits times_x
+triples = refl
+
+-- twice a byte
+pub double_of : (x : ℕ) → x < 256 → times_x x ≡ times 2 x
+double_of x h = same_values times_x (times 2) 0 256 doubles x (omega arith) h
+
+-- three times a byte
+pub triple_of : (x : ℕ) → x < 256 → bit_xor (times_x x) x ≡ times 3 x
+triple_of x h = same_values (λ y. bit_xor (times_x y) y) (times 3) 0 256 triples x (omega arith) h

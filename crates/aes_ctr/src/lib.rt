@@ -1,0 +1,15 @@
+//! AES-128 in counter mode (FIPS 197, SP 800-38A) at any place of the keystream.
+//!
+//! A `Key` is made of 16 bytes. `Key::apply` adds its keystream to bytes in place, from any offset on, so it
+//! both encrypts and decrypts, whole or piece by piece. No call takes memory.
+#![tactic(auto)]
+
+mod key;
+pub mod laws;
+mod plain;
+mod tables;
+
+pub use key::Key;
+
+#[cfg(test)]
+mod tests;

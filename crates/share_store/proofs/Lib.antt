@@ -1,0 +1,4 @@
+pub mod Kept
+pub mod Search
+pub mod Sorted
+pub mod Toggling
