@@ -1,6 +1,6 @@
 -- Laws of bytes under the keystream.
 use Rattle.std.proofs.Common.{◌≡◌, ℕ, zero, suc, ◌+◌, ◌-◌, ◌/◌, ◌%◌, ◌≤◌, ◌<◌, List, [], ◌∷◌, ◌++◌, length, get_or, take, drop, bit_xor, refl, ap, sym, ◌∙◌, arith, add-zero}
-use Rattle.std.proofs.lemmas.List.{ext_get_or, append_assoc, take_at, drop_at, drop-drop, take-append-drop, take-take, length-take-le, get_or-take, get_or-drop}
+use Rattle.std.proofs.lemmas.List.{ext_get_or, append_assoc, take_at, drop_at, drop-drop, take-append-drop, take-take, length-take-le}
 use Rattle.std.proofs.lemmas.Slice.{between_is}
 use Rattle.std.specs.Int.Bits.{xor_assoc, xor_self, xor_zero_r}
 use Rattle.aes_ctr.specs.Cipher.{encrypt}
@@ -46,21 +46,19 @@ crypt_from-twice key p (b ∷ bs) =
     cc
 
 -- bytes that lie in one block of the keystream
-pub crypt_from_block : (key : List ℕ) (p : ℕ) (xs ys zs : List ℕ) → length ys ≡ length xs → p % 16 + length xs ≤ 16
-    → zs ≡ take (16 - p % 16) (drop (p % 16) (encrypt key (counter_block (p / 16))))
-    → ((i : ℕ) → i < length xs → get_or ys i 0 ≡ bit_xor (get_or xs i 0) (get_or zs i 0))
+pub crypt_from_block : (key : List ℕ) (p : ℕ) (xs ys : List ℕ) → length ys ≡ length xs → p % 16 + length xs ≤ 16
+    → ((i : ℕ) → i < length xs
+    → get_or ys i 0 ≡ bit_xor (get_or xs i 0) (get_or (encrypt key (counter_block (p / 16))) (p % 16 + i) 0))
     → ys ≡ crypt_from key p xs
 unfolding stream
-crypt_from_block key p xs ys zs long fits is added =
+crypt_from_block key p xs ys long fits added =
     let out = encrypt key (counter_block (p / 16)) in
-    ext_get_or 0 ys (crypt_from key p xs) (long ∙ sym (length-crypt_from key p xs))
-    (λ i h.
+    ext_get_or 0 ys (crypt_from key p xs) (long ∙ sym (length-crypt_from key p xs)) (λ i h.
     let within : i < length xs = omega arith in
     let same_block : (p + i) / 16 ≡ p / 16 = omega arith in
     let place : (p + i) % 16 ≡ p % 16 + i = omega arith in
-    let byte : get_or zs i 0 ≡ stream key (p + i) =
-    ap (λ (l : List ℕ). get_or l i 0) is ∙ get_or-take (16 - p % 16) (drop (p % 16) out) i 0 (omega arith)
-    ∙ get_or-drop (p % 16) out i 0 ∙ ap (λ (q : ℕ). get_or out q 0) (sym place)
+    let byte : get_or out (p % 16 + i) 0 ≡ stream key (p + i) =
+    ap (λ (q : ℕ). get_or out q 0) (sym place)
     ∙ ap (λ (q : ℕ). get_or (encrypt key (counter_block q)) ((p + i) % 16) 0) (sym same_block) in
     added i within ∙ ap (bit_xor (get_or xs i 0)) byte ∙ sym (get_or-crypt_from key p xs i within))
 

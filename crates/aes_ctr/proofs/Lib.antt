@@ -3,3 +3,4 @@ pub mod RoundLemmas
 pub mod StateLemmas
 pub mod TableLemmas
 pub mod Vectors
+pub mod WordLemmas

@@ -1,26 +1,27 @@
 -- Functions on bytes that agree, shown by computing them at every byte; and the entries of the tables.
-use Rattle.std.proofs.Common.{◌≡◌, ℕ, ◌+◌, ◌-◌, ◌*◌, ◌≤◌, ◌<◌, List, map, get_or, bit_xor, refl, ap, sym, ◌∙◌, arith}
+use Rattle.std.proofs.Common.{[], ◌∷◌, ◌≡◌, ℕ, ◌+◌, ◌-◌, ◌*◌, ◌≤◌, ◌<◌, List, map, get_or, bit_xor, refl, ap, sym, ◌∙◌, arith}
 use Rattle.std.proofs.lemmas.List.FromFn.{get_or-map-range_with_len}
 use Rattle.std.specs.List.{range_with_len}
 use Rattle.aes_ctr.specs.Field.{times, times_bits, times_x}
 use Rattle.aes_ctr.specs.SBox.{s_box, inverse, affine, affine_bit}
-use Rattle.aes_ctr.specs.declared.tables.TheConstants.{S_BOX}
+use Rattle.aes_ctr.specs.Words.{word_bytes}
+use Rattle.aes_ctr.specs.declared.tables.TheConstants.{S_BOX, FROM_ROW_0, FROM_ROW_1, FROM_ROW_2, FROM_ROW_3}
 
 -- a list of a function's values has its value at each place
-value_at : (f : ℕ → ℕ) (xs : List ℕ) (a n : ℕ) → xs ≡ map f (range_with_len a n)
-    → (x i : ℕ) → a + i ≡ x → i < n → get_or xs i 0 ≡ f x
-value_at f xs a n same x i at h =
-    ap (λ (ys : List ℕ). get_or ys i 0) same ∙ get_or-map-range_with_len f a n i x 0 h at
+value_at : {X : Type 0} (f : ℕ → X) (xs : List X) (a n : ℕ) (d : X) → xs ≡ map f (range_with_len a n)
+    → (x i : ℕ) → a + i ≡ x → i < n → get_or xs i d ≡ f x
+value_at {X} f xs a n d same x i at h =
+    ap (λ (ys : List X). get_or ys i d) same ∙ get_or-map-range_with_len f a n i x d h at
 
 -- two functions with the same list of values agree at each place
-same_values : (f g : ℕ → ℕ) (a n : ℕ) → map f (range_with_len a n) ≡ map g (range_with_len a n)
+same_values : {X : Type 0} (f g : ℕ → X) (a n : ℕ) → map f (range_with_len a n) ≡ map g (range_with_len a n)
     → (x : ℕ) → a ≤ x → x < a + n → f x ≡ g x
 same_values f g a n same x low high =
     let i = x - a in
     let at : a + i ≡ x = omega arith in
     let h : i < n = omega arith in
-    sym (get_or-map-range_with_len f a n i x 0 h at)
-    ∙ value_at g (map f (range_with_len a n)) a n same x i at h
+    sym (get_or-map-range_with_len f a n i x (f x) h at)
+    ∙ value_at g (map f (range_with_len a n)) a n (f x) same x i at h
 
 s_box_entries : S_BOX ≡ map s_box (range_with_len 0 256)
 unfolding times times_bits times_x s_box inverse affine affine_bit
@@ -28,7 +29,7 @@ s_box_entries = refl
 
 -- the table of the S-box is the S-box
 pub s_box_of : (x : ℕ) → x < 256 → get_or S_BOX x 0 ≡ s_box x
-s_box_of x h = value_at s_box S_BOX 0 256 s_box_entries x x (omega arith) h
+s_box_of x h = value_at s_box S_BOX 0 256 0 s_box_entries x x (omega arith) h
 
 low_doubles : map (λ x. 2 * x) (range_with_len 0 128) ≡ map times_x (range_with_len 0 128)
 unfolding times_x
@@ -62,3 +63,67 @@ double_of x h = same_values times_x (times 2) 0 256 doubles x (omega arith) h
 -- three times a byte
 pub triple_of : (x : ℕ) → x < 256 → bit_xor (times_x x) x ≡ times 3 x
 triple_of x h = same_values (λ y. bit_xor (times_x y) y) (times 3) 0 256 triples x (omega arith) h
+
+-- what a byte of row 0 adds to each row
+part_0 : ℕ → List ℕ
+part_0 s = times 2 s ∷ s ∷ s ∷ times 3 s ∷ []
+
+entries_0 : map (λ x. word_bytes (get_or FROM_ROW_0 x 0)) (range_with_len 0 256)
+    ≡ map (λ x. part_0 (get_or S_BOX x 0)) (range_with_len 0 256)
+unfolding times times_bits times_x word_bytes part_0
+entries_0 = refl
+
+-- the table for row 0
+pub from_row_0_of : (x : ℕ) → x < 256 → (let s = s_box x in word_bytes (get_or FROM_ROW_0 x 0) ≡ times 2 s ∷ s ∷ s ∷ times 3 s ∷ [])
+unfolding part_0
+from_row_0_of x h =
+    same_values (λ y. word_bytes (get_or FROM_ROW_0 y 0)) (λ y. part_0 (get_or S_BOX y 0)) 0 256 entries_0 x (omega arith) h
+    ∙ ap part_0 (s_box_of x h)
+
+-- what a byte of row 1 adds to each row
+part_1 : ℕ → List ℕ
+part_1 s = times 3 s ∷ times 2 s ∷ s ∷ s ∷ []
+
+entries_1 : map (λ x. word_bytes (get_or FROM_ROW_1 x 0)) (range_with_len 0 256)
+    ≡ map (λ x. part_1 (get_or S_BOX x 0)) (range_with_len 0 256)
+unfolding times times_bits times_x word_bytes part_1
+entries_1 = refl
+
+-- the table for row 1
+pub from_row_1_of : (x : ℕ) → x < 256 → (let s = s_box x in word_bytes (get_or FROM_ROW_1 x 0) ≡ times 3 s ∷ times 2 s ∷ s ∷ s ∷ [])
+unfolding part_1
+from_row_1_of x h =
+    same_values (λ y. word_bytes (get_or FROM_ROW_1 y 0)) (λ y. part_1 (get_or S_BOX y 0)) 0 256 entries_1 x (omega arith) h
+    ∙ ap part_1 (s_box_of x h)
+
+-- what a byte of row 2 adds to each row
+part_2 : ℕ → List ℕ
+part_2 s = s ∷ times 3 s ∷ times 2 s ∷ s ∷ []
+
+entries_2 : map (λ x. word_bytes (get_or FROM_ROW_2 x 0)) (range_with_len 0 256)
+    ≡ map (λ x. part_2 (get_or S_BOX x 0)) (range_with_len 0 256)
+unfolding times times_bits times_x word_bytes part_2
+entries_2 = refl
+
+-- the table for row 2
+pub from_row_2_of : (x : ℕ) → x < 256 → (let s = s_box x in word_bytes (get_or FROM_ROW_2 x 0) ≡ s ∷ times 3 s ∷ times 2 s ∷ s ∷ [])
+unfolding part_2
+from_row_2_of x h =
+    same_values (λ y. word_bytes (get_or FROM_ROW_2 y 0)) (λ y. part_2 (get_or S_BOX y 0)) 0 256 entries_2 x (omega arith) h
+    ∙ ap part_2 (s_box_of x h)
+
+-- what a byte of row 3 adds to each row
+part_3 : ℕ → List ℕ
+part_3 s = s ∷ s ∷ times 3 s ∷ times 2 s ∷ []
+
+entries_3 : map (λ x. word_bytes (get_or FROM_ROW_3 x 0)) (range_with_len 0 256)
+    ≡ map (λ x. part_3 (get_or S_BOX x 0)) (range_with_len 0 256)
+unfolding times times_bits times_x word_bytes part_3
+entries_3 = refl
+
+-- the table for row 3
+pub from_row_3_of : (x : ℕ) → x < 256 → (let s = s_box x in word_bytes (get_or FROM_ROW_3 x 0) ≡ s ∷ s ∷ times 3 s ∷ times 2 s ∷ [])
+unfolding part_3
+from_row_3_of x h =
+    same_values (λ y. word_bytes (get_or FROM_ROW_3 y 0)) (λ y. part_3 (get_or S_BOX y 0)) 0 256 entries_3 x (omega arith) h
+    ∙ ap part_3 (s_box_of x h)

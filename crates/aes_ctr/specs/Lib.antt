@@ -4,5 +4,6 @@ pub mod State
 pub mod Rounds
 pub mod KeyExpansion
 pub mod Cipher
+pub mod Words
 pub mod Keystream
 pub mod Crypt

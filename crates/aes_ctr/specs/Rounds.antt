@@ -13,12 +13,16 @@ sub_bytes s = state (λ row column. s_box (cell s row column))
 unfoldable pub shift_rows : List ℕ → List ℕ
 shift_rows s = state (λ row column. cell s row ((column + row) % 4))
 
--- MixColumns: twice a byte and three times the next one below it in its column, round the column's end,
--- and the other two
+-- a byte of MixColumns from the byte a of its place, the byte b below it, round the column's end, and the
+-- two others
+unfoldable pub mixed : ℕ → ℕ → ℕ → ℕ → ℕ
+mixed a b c d = bit_xor (bit_xor (times 2 a) (times 3 b)) (bit_xor c d)
+
+-- MixColumns: each byte is mixed from those of its column
 unfoldable pub mix_columns : List ℕ → List ℕ
 mix_columns s = state (λ row column.
-    bit_xor (bit_xor (times 2 (cell s row column)) (times 3 (cell s ((row + 1) % 4) column)))
-    (bit_xor (cell s ((row + 2) % 4) column) (cell s ((row + 3) % 4) column)))
+    mixed (cell s row column) (cell s ((row + 1) % 4) column) (cell s ((row + 2) % 4) column)
+    (cell s ((row + 3) % 4) column))
 
 -- AddRoundKey: the sum with a round key, byte by byte
 unfoldable pub add_round_key : List ℕ → List ℕ → List ℕ

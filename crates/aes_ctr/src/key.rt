@@ -1,29 +1,30 @@
-// A key and its keystream.
+//! A key and its keystream.
 
-ghost use Rattle.std.specs.Prelude.{◌≡◌, ℕ, ◌+◌, ◌^◌, ◌<◌, ◌≤◌, List, length, bit_xor, slice_index, EachIndex};
+ghost use Rattle.std.specs.Prelude.{◌≡◌, ℕ, ◌+◌, ◌*◌, ◌/◌, ◌%◌, ◌^◌, ◌<◌, ◌≤◌, List, length, bit_xor, slice_index, EachIndex};
 ghost use Rattle.aes_ctr.specs.Cipher.{encrypt};
+ghost use Rattle.aes_ctr.specs.Words.{columns, word_byte};
 ghost use Rattle.aes_ctr.specs.Keystream.{counter_block};
 ghost use Rattle.aes_ctr.specs.Crypt.{crypt_from};
 
-use crate::plain::{encrypted, expanded};
+use crate::rounds::encrypted;
+use crate::schedule::expanded;
 use std::marker::Model;
 
 /// A key of AES-128, ready for use. Contracts see its 16 bytes.
 #[derive(Drop)]
 pub struct Key {
-    round_keys: [[u8; 16]; 11],
+    round_keys: [[u32; 4]; 11],
 }
 
 impl Model for Key {
-    ghost use Rattle.std.specs.Prelude.{◌≡◌, ℕ, List, [], map, slice_index_or};
-    ghost use Rattle.std.specs.List.{range_with_len};
-    ghost use Rattle.aes_ctr.specs.KeyExpansion.{round_key};
+    ghost use Rattle.std.specs.Prelude.{ℕ, List, [], slice_index_or};
+    ghost use Rattle.aes_ctr.specs.Words.{columns, AreRoundKeys};
 
     ghost Value = { List ℕ };
 
-    ghost view = { λ k. slice_index_or k.round_keys 0 [] };
+    ghost view = { λ k. columns (slice_index_or k.round_keys 0 []) };
 
-    ghost invariant = { λ k. k.round_keys ≡ map (round_key (slice_index_or k.round_keys 0 [])) (range_with_len 0 11) };
+    ghost invariant = { λ k. AreRoundKeys (columns (slice_index_or k.round_keys 0 [])) k.round_keys };
 }
 
 impl Key {
@@ -50,18 +51,52 @@ impl Key {
             let place = offset + done as u64;
             let skip = (place % 16) as usize;
             let end = bytes.len().min(done + (16 - skip));
-            let block = self.block(place / 16);
-            add(&mut bytes[done..end], &block[skip..]);
+            self.apply_in_block(place, &mut bytes[done..end]);
             done = end;
         }
     }
 
-    // The encryption of counter block `number`: 16 bytes of the keystream.
-    fn block(&self, number: u64) -> [u8; 16]
-        ensures { result ≡ encrypt self.now (counter_block number) }
+    // `apply` to bytes whose places are in one block of the keystream.
+    #[inline(always)]
+    fn apply_in_block(&self, place: u64, bytes: &mut [u8])
+        requires { place % 16 + length bytes.old ≤ 16 }
+        ensures { bytes.new ≡ crypt_from self.now place bytes.old }
     {
-        encrypted(&self.round_keys, u128::from(number).to_be_bytes())
+        let words = self.block(place / 16);
+        if bytes.len() == 16 {
+            add_words(bytes, words);
+        } else {
+            add(bytes, &bytes_of(words)[(place % 16) as usize..]);
+        }
     }
+
+    // Block `number` of the keystream.
+    #[inline(always)]
+    fn block(&self, number: u64) -> [u32; 4]
+        ensures { columns result ≡ encrypt self.now (counter_block number) }
+    {
+        encrypted(&self.round_keys, counter_words(number))
+    }
+}
+
+// Counter block `number`.
+#[inline(always)]
+fn counter_words(number: u64) -> [u32; 4]
+    ensures { columns result ≡ counter_block number }
+{
+    [0, 0, (number >> 32) as u32, (number % 0x1_0000_0000) as u32]
+}
+
+// The bytes of four words, the first and highest first.
+#[inline(always)]
+pub(crate) fn bytes_of(words: [u32; 4]) -> [u8; 16]
+    ensures { result ≡ columns words }
+{
+    let [a, b, c, d] = words[0].to_be_bytes();
+    let [e, f, g, h] = words[1].to_be_bytes();
+    let [i, j, k, l] = words[2].to_be_bytes();
+    let [m, n, o, p] = words[3].to_be_bytes();
+    [a, b, c, d, e, f, g, h, i, j, k, l, m, n, o, p]
 }
 
 // Adds to each byte the one at its place in `stream`.
@@ -72,4 +107,31 @@ fn add(bytes: &mut [u8], stream: &[u8])
     for i in 0..bytes.len() {
         bytes[i] ^= stream[i];
     }
+}
+
+// Adds to each byte of a block the one at its place in four words.
+#[inline(always)]
+fn add_words(block: &mut [u8], words: [u32; 4])
+    requires { length block.old ≡ 16 }
+    ensures { (i : ℕ) → i < 16 → slice_index block.new i ≡ bit_xor (slice_index block.old i) (slice_index (columns words) i) }
+{
+    for j in 0..4 {
+        add_word(block, 4 * j, words[j]);
+    }
+}
+
+// Adds to the four bytes from `at` on those of a word.
+#[inline(always)]
+fn add_word(bytes: &mut [u8], at: usize, word: u32)
+    requires { at + 4 ≤ length bytes.old }
+    ensures added { (i : ℕ) → i < 4 → slice_index bytes.new (at + i) ≡ bit_xor (slice_index bytes.old (at + i)) (word_byte word i) }
+    ensures below { (i : ℕ) → i < at → slice_index bytes.new i ≡ slice_index bytes.old i }
+    ensures above { (i : ℕ) → at + 4 ≤ i → slice_index bytes.new i ≡ slice_index bytes.old i }
+{
+    let old = u32::from_be_bytes([bytes[at], bytes[at + 1], bytes[at + 2], bytes[at + 3]]);
+    let sum = (old ^ word).to_be_bytes();
+    bytes[at] = sum[0];
+    bytes[at + 1] = sum[1];
+    bytes[at + 2] = sum[2];
+    bytes[at + 3] = sum[3];
 }

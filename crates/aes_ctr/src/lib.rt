@@ -5,11 +5,15 @@
 #![tactic(auto)]
 
 mod key;
-pub mod laws;
-mod plain;
+mod laws;
+mod rounds;
+mod schedule;
 mod tables;
 
 pub use key::Key;
+pub use laws::{keystream_by_place, parts_agree, pieces_join, twice_is_unchanged};
 
+#[cfg(test)]
+mod plain;
 #[cfg(test)]
 mod tests;

@@ -1,32 +1,16 @@
-// The cipher as FIPS 197 writes it, on a block's 16 bytes.
+//! The cipher as FIPS 197 writes it, on a block's 16 bytes.
 
-ghost use Rattle.std.specs.Prelude.{◌≡◌, ℕ, ◌+◌, ◌<◌, List, bit_xor, map};
+ghost use Rattle.std.specs.Prelude.{◌≡◌, ℕ, List, map};
 ghost use Rattle.std.specs.List.{range_with_len};
-ghost use Rattle.aes_ctr.specs.Field.{times, times_x};
-ghost use Rattle.aes_ctr.specs.SBox.{s_box};
-ghost use Rattle.aes_ctr.specs.Rounds.{sub_bytes, shift_rows, mix_columns, add_round_key};
-ghost use Rattle.aes_ctr.specs.KeyExpansion.{next_round_key, round_key, x_power};
+ghost use Rattle.aes_ctr.specs.Rounds.{sub_bytes, shift_rows, mix_columns, mixed, add_round_key};
+ghost use Rattle.aes_ctr.specs.KeyExpansion.{round_key};
 ghost use Rattle.aes_ctr.specs.Cipher.{encrypt};
 
-use crate::tables::S_BOX;
-
-// SubBytes on one byte (section 5.1.1).
-pub(crate) fn sub(x: u8) -> u8
-    ensures { result ≡ s_box x }
-{
-    S_BOX[x as usize]
-}
-
-// A byte times x in the field (section 4.2.1).
-pub(crate) fn double(x: u8) -> u8
-    ensures { result ≡ times_x x }
-{
-    if x < 128 { 2 * x } else { 2 * (x - 128) ^ 0x1b }
-}
+use crate::schedule::{double, next_round_key, sub};
 
 // One byte of MixColumns: twice the first, three times the second, and the others (section 5.1.3).
 fn mixed(a: u8, b: u8, c: u8, d: u8) -> u8
-    ensures { result ≡ bit_xor (bit_xor (times 2 a) (times 3 b)) (bit_xor c d) }
+    ensures { result ≡ mixed a b c d }
 {
     (double(a) ^ (double(b) ^ b)) ^ (c ^ d)
 }
@@ -109,36 +93,6 @@ pub(crate) fn with_key(s: [u8; 16], key: &[u8; 16]) -> [u8; 16]
     ]
 }
 
-// The round key after `key`, where `power` is Rcon (section 5.2).
-pub(crate) fn next_round_key(key: &[u8; 16], power: u8) -> [u8; 16]
-    ensures { (n : ℕ) → power ≡ x_power n → result ≡ next_round_key key.now n }
-{
-    let a = key[0] ^ (sub(key[13]) ^ power);
-    let b = key[1] ^ sub(key[14]);
-    let c = key[2] ^ sub(key[15]);
-    let d = key[3] ^ sub(key[12]);
-    let [e, f, g, h] = [key[4] ^ a, key[5] ^ b, key[6] ^ c, key[7] ^ d];
-    let [i, j, k, l] = [key[8] ^ e, key[9] ^ f, key[10] ^ g, key[11] ^ h];
-    [
-        a,
-        b,
-        c,
-        d,
-        e,
-        f,
-        g,
-        h,
-        i,
-        j,
-        k,
-        l,
-        key[12] ^ i,
-        key[13] ^ j,
-        key[14] ^ k,
-        key[15] ^ l,
-    ]
-}
-
 // The round keys of a key (section 5.2).
 pub(crate) fn expanded(key: [u8; 16]) -> [[u8; 16]; 11]
     ensures { result ≡ map (round_key key) (range_with_len 0 11) }
@@ -146,7 +100,7 @@ pub(crate) fn expanded(key: [u8; 16]) -> [[u8; 16]; 11]
     let mut keys = [key; 11];
     let mut power = 1;
     for n in 0..10 {
-        keys[n + 1] = next_round_key(&keys[n], power);
+        keys[n + 1] = next_round_key(keys[n], power);
         power = double(power);
     }
     keys

@@ -1,5 +1,8 @@
 use super::*;
-use crate::plain::{encrypted, expanded};
+use crate::key::bytes_of;
+use crate::plain;
+use crate::rounds::encrypted;
+use crate::schedule::{expanded, words_of};
 use std::test::Fail;
 
 // A key, an offset that is a multiple of 16 or not, bytes, and what `openssl enc -aes-128-ctr` made of them.
@@ -94,17 +97,28 @@ fn the_keystream_of_the_zero_key_goes_on_at_any_offset(rt: HostRuntime) {
     assert_eq!(rt; two, *b"\x5a\x03");
 }
 
-// FIPS 197, appendix C.1.
+// FIPS 197, appendices B and C.1: a key, a block and its encryption.
+const EXAMPLES: [(&[u8; 16], &[u8; 16], &[u8; 16]); 2] = [
+    (
+        b"\x2b\x7e\x15\x16\x28\xae\xd2\xa6\xab\xf7\x15\x88\x09\xcf\x4f\x3c",
+        b"\x32\x43\xf6\xa8\x88\x5a\x30\x8d\x31\x31\x98\xa2\xe0\x37\x07\x34",
+        b"\x39\x25\x84\x1d\x02\xdc\x09\xfb\xdc\x11\x85\x97\x19\x6a\x0b\x32",
+    ),
+    (
+        b"\x00\x01\x02\x03\x04\x05\x06\x07\x08\x09\x0a\x0b\x0c\x0d\x0e\x0f",
+        b"\x00\x11\x22\x33\x44\x55\x66\x77\x88\x99\xaa\xbb\xcc\xdd\xee\xff",
+        b"\x69\xc4\xe0\xd8\x6a\x7b\x04\x30\xd8\xcd\xb7\x80\x70\xb4\xc5\x5a",
+    ),
+];
+
 #[test]
-fn the_example_of_the_standard_is_encrypted(rt: HostRuntime) {
-    let keys = expanded(*b"\x00\x01\x02\x03\x04\x05\x06\x07\x08\x09\x0a\x0b\x0c\x0d\x0e\x0f");
-    assert_eq!(rt;
-        encrypted(
-            &keys,
-            *b"\x00\x11\x22\x33\x44\x55\x66\x77\x88\x99\xaa\xbb\xcc\xdd\xee\xff"
-        ),
-        *b"\x69\xc4\xe0\xd8\x6a\x7b\x04\x30\xd8\xcd\xb7\x80\x70\xb4\xc5\x5a"
-    );
+fn the_examples_of_the_standard_are_encrypted(rt: HostRuntime) {
+    for (key, block, want) in EXAMPLES {
+        let got = bytes_of(encrypted(&expanded(*key), words_of(*block)));
+        assert_eq!(rt; got.as_slice(), want.as_slice());
+        let plain = plain::encrypted(&plain::expanded(*key), *block);
+        assert_eq!(rt; plain.as_slice(), want.as_slice());
+    }
 }
 
 // SP 800-38A, appendix F.5.1: counter blocks, plaintext blocks and ciphertext blocks.
@@ -135,10 +149,24 @@ const COUNTER_MODE: [(&[u8; 16], &[u8; 16], &[u8; 16]); 4] = [
 fn the_counter_mode_example_is_encrypted(rt: HostRuntime) {
     let keys = expanded(*b"\x2b\x7e\x15\x16\x28\xae\xd2\xa6\xab\xf7\x15\x88\x09\xcf\x4f\x3c");
     for (counter, plaintext, want) in COUNTER_MODE {
-        let mut got = encrypted(&keys, *counter);
+        let mut got = bytes_of(encrypted(&keys, words_of(*counter)));
         for (x, y) in got.iter_mut().zip(plaintext) {
             *x ^= *y;
         }
         assert_eq!(rt; got.as_slice(), want.as_slice());
+    }
+}
+
+// Each encryption is the next block and the next key.
+#[test]
+fn the_cipher_agrees_with_the_plain_program(rt: HostRuntime) {
+    let mut key = [0; 16];
+    let mut block = [0; 16];
+    for _ in 0..64 {
+        let got = bytes_of(encrypted(&expanded(key), words_of(block)));
+        let want = plain::encrypted(&plain::expanded(key), block);
+        assert_eq!(rt; got.as_slice(), want.as_slice());
+        key = block;
+        block = got;
     }
 }

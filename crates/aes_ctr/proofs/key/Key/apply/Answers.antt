@@ -1,6 +1,6 @@
-use Rattle.std.proofs.Common.{◌≡◌, ℕ, ◌+◌, ◌-◌, ◌%◌, ◌≤◌, List, ◌++◌, take, drop, length, refl, ap, ◌∙◌, arith, length-take, length-drop}
+use Rattle.std.proofs.Common.{◌≡◌, ℕ, ◌-◌, ◌≤◌, List, ◌++◌, take, drop, length, refl, ap, ◌∙◌, arith}
 use Rattle.aes_ctr.specs.Crypt.{crypt_from}
-use Rattle.aes_ctr.proofs.CryptLemmas.{crypt_from_block, crypt_from_more}
+use Rattle.aes_ctr.proofs.CryptLemmas.{crypt_from_more}
 use Rattle.aes_ctr.proofs.key.Key.apply.Goals as goal
 
 pub loop-done-init : goal.loop-done-init
@@ -15,19 +15,12 @@ loop-done-preserved c =
     let now = c.loop-done.bytes in
     let i = c.loop-done.done in
     let j = c.min-end.result in
-    let part = take (j - i) (drop i now) in
-    let written = c.add.new.bytes in
     let long : length now ≡ length bs = omega arith in
     let end_is = c.min-end.ensures in
     let low : i ≤ j = omega arith in
     let high : j ≤ length bs = omega arith in
-    let part_long : length part ≡ j - i = rw (length-take, length-drop) (omega arith) in
-    let same_length : length written ≡ length part = c.add.auto.bytes in
-    let added : written ≡ crypt_from key (p + i) part =
-    crypt_from_block key (p + i) part written _ same_length (omega arith)
-    (ap (λ (l : List ℕ). take (16 - (p + i) % 16) (drop ((p + i) % 16) l)) c.block-block.ensures) c.add.ensures in
     let more = crypt_from_more key p bs now i j low high c.loop-done.invariant.so_far in
     record {
       within = high;
-      so_far = ap (λ (w : List ℕ). take i now ++ (w ++ drop (j - i) (drop i now))) added ∙ more;
+      so_far = ap (λ (w : List ℕ). take i now ++ (w ++ drop (j - i) (drop i now))) c.apply_in_block.ensures ∙ more;
     }

@@ -1,0 +1,120 @@
+//! The cipher (FIPS 197, section 5.1) on words, each a column of the state.
+
+ghost use Rattle.std.specs.Prelude.{◌≡◌, ℕ, ◌<◌, List, [], ◌∷◌, bit_xor, slice_index};
+ghost use Rattle.aes_ctr.specs.Field.{times};
+ghost use Rattle.aes_ctr.specs.SBox.{s_box};
+ghost use Rattle.aes_ctr.specs.Rounds.{sub_bytes, shift_rows, mix_columns, mixed, add_round_key};
+ghost use Rattle.aes_ctr.specs.Cipher.{encrypt};
+ghost use Rattle.aes_ctr.specs.Words.{word_bytes, word_byte, columns, AreRoundKeys};
+
+use crate::schedule::sub;
+use crate::tables::{FROM_ROW_0, FROM_ROW_1, FROM_ROW_2, FROM_ROW_3};
+
+// What the byte in row 0 of a word adds to the column that SubBytes and MixColumns make. So the next three
+// do for the other rows.
+#[inline(always)]
+fn from_row_0(word: u32) -> u32
+    ensures { let s = s_box (word_byte word 0) in word_bytes result ≡ times 2 s ∷ s ∷ s ∷ times 3 s ∷ [] }
+{
+    FROM_ROW_0[((word >> 24) % 256) as usize]
+}
+
+#[inline(always)]
+fn from_row_1(word: u32) -> u32
+    ensures { let s = s_box (word_byte word 1) in word_bytes result ≡ times 3 s ∷ times 2 s ∷ s ∷ s ∷ [] }
+{
+    FROM_ROW_1[((word >> 16) % 256) as usize]
+}
+
+#[inline(always)]
+fn from_row_2(word: u32) -> u32
+    ensures { let s = s_box (word_byte word 2) in word_bytes result ≡ s ∷ times 3 s ∷ times 2 s ∷ s ∷ [] }
+{
+    FROM_ROW_2[((word >> 8) % 256) as usize]
+}
+
+#[inline(always)]
+fn from_row_3(word: u32) -> u32
+    ensures { let s = s_box (word_byte word 3) in word_bytes result ≡ s ∷ s ∷ times 3 s ∷ times 2 s ∷ [] }
+{
+    FROM_ROW_3[(word % 256) as usize]
+}
+
+// A column after a round, from the words that ShiftRows takes its four bytes from.
+#[inline(always)]
+fn column(a: u32, b: u32, c: u32, d: u32, key: u32) -> u32
+    ensures { let s = s_box (word_byte a 0) in
+        let t = s_box (word_byte b 1) in
+        let u = s_box (word_byte c 2) in
+        let v = s_box (word_byte d 3) in
+        word_bytes result ≡ bit_xor (mixed s t u v) (word_byte key 0) ∷ bit_xor (mixed t u v s) (word_byte key 1)
+        ∷ bit_xor (mixed u v s t) (word_byte key 2) ∷ bit_xor (mixed v s t u) (word_byte key 3) ∷ [] }
+{
+    from_row_0(a) ^ from_row_1(b) ^ from_row_2(c) ^ from_row_3(d) ^ key
+}
+
+// A column after the last round, which mixes no columns.
+#[inline(always)]
+fn last_column(a: u32, b: u32, c: u32, d: u32, key: u32) -> u32
+    ensures { word_bytes result
+        ≡ bit_xor (s_box (word_byte a 0)) (word_byte key 0) ∷ bit_xor (s_box (word_byte b 1)) (word_byte key 1)
+        ∷ bit_xor (s_box (word_byte c 2)) (word_byte key 2) ∷ bit_xor (s_box (word_byte d 3)) (word_byte key 3) ∷ [] }
+{
+    let bytes = [
+        sub(((a >> 24) % 256) as u8),
+        sub(((b >> 16) % 256) as u8),
+        sub(((c >> 8) % 256) as u8),
+        sub((d % 256) as u8),
+    ];
+    u32::from_be_bytes(bytes) ^ key
+}
+
+// The sum with a round key.
+#[inline(always)]
+fn with_key(s: [u32; 4], key: &[u32; 4]) -> [u32; 4]
+    ensures { columns result ≡ add_round_key (columns s) (columns key.now) }
+{
+    [s[0] ^ key[0], s[1] ^ key[1], s[2] ^ key[2], s[3] ^ key[3]]
+}
+
+// A whole round.
+#[inline(always)]
+fn round(s: [u32; 4], key: &[u32; 4]) -> [u32; 4]
+    ensures { columns result
+        ≡ add_round_key (mix_columns (shift_rows (sub_bytes (columns s)))) (columns key.now) }
+{
+    let [a, b, c, d] = s;
+    [
+        column(a, b, c, d, key[0]),
+        column(b, c, d, a, key[1]),
+        column(c, d, a, b, key[2]),
+        column(d, a, b, c, key[3]),
+    ]
+}
+
+// The last round.
+#[inline(always)]
+fn last_round(s: [u32; 4], key: &[u32; 4]) -> [u32; 4]
+    ensures { columns result ≡ add_round_key (shift_rows (sub_bytes (columns s))) (columns key.now) }
+{
+    let [a, b, c, d] = s;
+    [
+        last_column(a, b, c, d, key[0]),
+        last_column(b, c, d, a, key[1]),
+        last_column(c, d, a, b, key[2]),
+        last_column(d, a, b, c, key[3]),
+    ]
+}
+
+// The encryption of a block by the round keys of a key.
+#[inline(always)]
+pub(crate) fn encrypted(keys: &[[u32; 4]; 11], block: [u32; 4]) -> [u32; 4]
+    ensures { (key : List ℕ) → AreRoundKeys key keys.now → columns result ≡ encrypt key (columns block) }
+{
+    let mut s = with_key(block, &keys[0]);
+    for n in 1..10 {
+        let next = round(s, &keys[n]);
+        s = next;
+    }
+    last_round(s, &keys[10])
+}

@@ -1,0 +1,5 @@
+pub mod Bits
+pub mod Alphabet
+pub mod Base32
+pub mod Refusals
+pub mod Reading
