@@ -16,8 +16,8 @@ unfoldable pub turned_column : List ℕ → ℕ → ℕ → ℕ
 turned_column key n row =
     bit_xor (s_box (cell key ((row + 1) % 4) 3)) (if row == 0 then x_power n else 0)
 
--- a byte of round key n + 1, from round key n: the byte above it in the schedule's order of columns, and
--- that of the same place in the round key before
+-- a byte of round key n + 1, from round key n: the byte in the same place there, added to the byte of the
+-- new round key in the column before, or in column 0 to the turned column
 unfoldable pub next_cell : List ℕ → ℕ → ℕ → ℕ → ℕ
 next_cell key n row zero = bit_xor (cell key row 0) (turned_column key n row)
 next_cell key n row (suc column) = bit_xor (cell key row (suc column)) (next_cell key n row column)

@@ -41,7 +41,7 @@ impl Key {
     /// byte `offset + i` of the keystream. The counter blocks are 0, 1, 2, .. as 128-bit numbers, high byte first.
     ///
     /// Applied twice at one offset it gives the bytes back, and bytes may be passed in pieces, each at its own
-    /// offset.
+    /// offset. The offset and the length together must fit a `u64`.
     pub fn apply(&self, offset: u64, bytes: &mut [u8])
         requires { offset + length bytes.old < 2 ^ 64 }
         ensures { bytes.new ≡ crypt_from self.now offset bytes.old }

@@ -11,7 +11,10 @@ mod schedule;
 mod tables;
 
 pub use key::Key;
-pub use laws::{keystream_by_place, parts_agree, pieces_join, twice_is_unchanged};
+pub use laws::{
+    bytes_stay_bytes, examples_of_the_standard, keystream_by_place, parts_agree, pieces_join,
+    twice_is_unchanged,
+};
 
 #[cfg(test)]
 mod plain;
