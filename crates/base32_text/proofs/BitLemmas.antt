@@ -1,8 +1,8 @@
 -- Bits of numbers, joined and parted.
-use Rattle.std.proofs.Common.{◌≡◌, ℕ, zero, suc, ◌+◌, ◌-◌, ◌*◌, ◌/◌, ◌%◌, ◌^◌, ◌<◌, ◌≤◌, List, [], ◌∷◌, ◌++◌, length, take, drop, map, replicate, get_or, refl, ap, sym, ◌∙◌, subst, arith, append_assoc, length-append, zero-add, add-one}
-use Rattle.std.specs.List.{All, AllByRecursion, flat_map}
-use Rattle.std.proofs.Math.Pow.{pow-add, shr-shr, high, low, split, pow_pos}
-use Rattle.std.proofs.Math.Nat.{add-mul-div_left, mod-lt, mod-eq_of_lt}
+use Rattle.std.proofs.Common.{◌≡◌, ℕ, zero, suc, ◌+◌, ◌-◌, ◌*◌, ◌/◌, ◌%◌, ◌^◌, ◌<◌, ◌≤◌, List, [], ◌∷◌, ◌++◌, length, take, drop, replicate, refl, ap, sym, ◌∙◌, arith, append_assoc, length-append, zero-add}
+use Rattle.std.specs.List.{AllByRecursion}
+use Rattle.std.proofs.Math.Pow.{pow-add, shr-shr, high, split, pow_pos}
+use Rattle.std.proofs.Math.Nat.{add-mul-div_left, mod-lt}
 use Rattle.std.proofs.Math.Seq.{take-add}
 use Rattle.std.proofs.lemmas.Nat.{div_below}
 use Rattle.std.proofs.lemmas.List.{take_at, drop_at, length-drop}

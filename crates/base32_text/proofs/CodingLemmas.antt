@@ -1,15 +1,14 @@
 -- What stands between a text and bytes while one is made of the other.
-use Rattle.std.proofs.Common.{◌≡◌, below_more, Fits, w8, ◌==◌, ℕ, zero, suc, ◌+◌, ◌-◌, ◌*◌, ◌/◌, ◌%◌, ◌^◌, ◌<◌, ◌≤◌, Bool, true, false, List, [], ◌∷◌, ◌++◌, length, take, drop, map, get_or, refl, ap, sym, ◌∙◌, subst, arith, append_assoc, length-append}
+use Rattle.std.proofs.Common.{◌≡◌, below_more, Fits, w8, ◌==◌, ℕ, ◌+◌, ◌*◌, ◌/◌, ◌<◌, ◌≤◌, Bool, true, false, List, [], ◌∷◌, ◌++◌, length, take, drop, map, get_or, refl, ap, sym, ◌∙◌, subst, arith, append_assoc, length-append}
 use Rattle.std.specs.List.{All, AllByRecursion, AllPass, list_any}
 use Rattle.std.proofs.lemmas.Bool.Decides.{nat_tests}
 use Rattle.std.proofs.lemmas.List.{append-nil, map-append, take_more, take_all, drop_at, get_or_default}
-use Rattle.base32_text.specs.Bits.{bits_of, joined, groups}
+use Rattle.base32_text.specs.Bits.{bits_of, joined}
 use Rattle.base32_text.specs.Alphabet.{is_letter, value_of, letter_of}
 use Rattle.base32_text.specs.Base32.{letter_bits, Spells, spelling}
-use Rattle.base32_text.specs.Refusals.{is_bad_length, loose_bits, is_loose, IsFirstBad, Refuses}
-use Rattle.base32_text.proofs.BitLemmas.{AreBits, bits_of-number_of, length-bits_of, length-joined, joined-push, are_bits-joined, are_bits-drop}
-use Rattle.base32_text.proofs.WaitingLemmas.{bits_of-zero}
-use Rattle.base32_text.proofs.AlphabetLemmas.{all_from, AreLetters, values-letters, are_letters}
+use Rattle.base32_text.specs.Refusals.{is_bad_length, loose_bits, is_loose, Refuses}
+use Rattle.base32_text.proofs.BitLemmas.{AreBits, length-bits_of, length-joined, joined-push, are_bits-joined, are_bits-drop}
+use Rattle.base32_text.proofs.AlphabetLemmas.{all_from, values-letters, are_letters}
 use Rattle.base32_text.proofs.SpellingLemmas.{noughts, length-letter_bits, is_spelling}
 use Rattle.base32_text.specs.declared.fault.B32Fault.TheVariants.{BadLength, LooseBits}
 use Rattle.base32_text.proofs.ReadingLemmas.{noughts_by}

@@ -1,18 +1,18 @@
 -- What a text is read as.
-use Rattle.std.proofs.Common.{◌≡◌, ◌≢◌, ◌↔◌, ℕ, zero, suc, ◌+◌, ◌-◌, ◌*◌, ◌/◌, ◌%◌, ◌<◌, ◌≤◌, Bool, true, false, not, ◌||◌, ◌==◌, cond, List, [], ◌∷◌, ◌++◌, length, take, drop, get_or, replicate, Option, Some, None, Result, Ok, Err, refl, ap, sym, ◌∙◌, subst, arith, eqb-true}
-use Rattle.std.specs.List.{All, AllPass, AllByRecursion, list_any, position_from}
+use Rattle.std.proofs.Common.{◌≡◌, ◌≢◌, ◌↔◌, ℕ, zero, suc, ◌+◌, ◌-◌, ◌*◌, ◌/◌, ◌<◌, ◌≤◌, Bool, true, false, not, ◌==◌, cond, List, [], ◌∷◌, ◌++◌, length, drop, get_or, Option, Some, None, Result, Ok, Err, refl, ap, sym, ◌∙◌, subst, arith}
+use Rattle.std.specs.List.{AllPass, list_any, position_from}
 use Rattle.std.proofs.lemmas.Bool.Decides.{nat_tests}
-use Rattle.std.proofs.lemmas.List.{take-append-drop, drop_at, length-drop, length-replicate}
+use Rattle.std.proofs.lemmas.List.{take-append-drop, drop_at, length-drop}
 use Rattle.base32_text.specs.Bits.{joined, groups}
-use Rattle.base32_text.specs.Alphabet.{is_letter, value_of}
+use Rattle.base32_text.specs.Alphabet.{is_letter}
 use Rattle.base32_text.specs.Base32.{letter_bits, Spells}
 use Rattle.base32_text.specs.Refusals.{is_bad_length, loose_bits, is_loose, IsFirstBad, Refuses}
 use Rattle.base32_text.specs.Reading.{reading_at, reading}
 use Rattle.base32_text.specs.declared.fault.B32Fault.{B32Fault}
 use Rattle.base32_text.specs.declared.fault.B32Fault.TheVariants.{BadCharacter, BadLength, LooseBits, NoMemory}
 use Rattle.base32_text.proofs.BitLemmas.{AreBits, joined-groups, are_bits-joined, are_bits-drop, length-joined}
-use Rattle.base32_text.proofs.AlphabetLemmas.{all_parts, all_from, AreLetters}
-use Rattle.base32_text.proofs.SpellingLemmas.{noughts, length-letter_bits, counts, bytes_count, octets_of, one_meaning, groups-lt}
+use Rattle.base32_text.proofs.AlphabetLemmas.{all_from, AreLetters}
+use Rattle.base32_text.proofs.SpellingLemmas.{noughts, length-letter_bits, counts, bytes_count, one_meaning, groups-lt}
 
 -- bits none of which is 1 are zeros, and the other way round
 pub any_one-noughts : (n : ℕ) → list_any (λ bit. bit == 1) (noughts n) ≡ false

@@ -1,10 +1,10 @@
 -- Bytes have one text, and a text spells one list of bytes.
-use Rattle.std.proofs.Common.{◌≡◌, Bool, true, false, ℕ, zero, suc, ◌+◌, ◌-◌, ◌*◌, ◌/◌, ◌%◌, ◌^◌, ◌<◌, ◌≤◌, List, [], ◌∷◌, ◌++◌, length, take, drop, map, replicate, refl, ap, sym, ◌∙◌, subst, arith, append_assoc, length-append}
-use Rattle.std.specs.List.{All, AllByRecursion, AllPass}
+use Rattle.std.proofs.Common.{◌≡◌, true, ℕ, zero, suc, ◌+◌, ◌-◌, ◌*◌, ◌/◌, ◌^◌, ◌<◌, ◌≤◌, List, ◌∷◌, ◌++◌, length, take, drop, map, replicate, refl, ap, sym, ◌∙◌, arith, append_assoc, length-append}
+use Rattle.std.specs.List.{All, AllByRecursion}
 use Rattle.std.proofs.Math.Pow.{pow_mono}
 use Rattle.std.proofs.Math.Seq.{take-append-add}
 use Rattle.std.proofs.lemmas.List.{length-map, length-replicate, replicate-append-replicate, length-take}
-use Rattle.base32_text.specs.Bits.{bits_of, joined, number_of, groups}
+use Rattle.base32_text.specs.Bits.{joined, number_of, groups}
 use Rattle.base32_text.specs.Alphabet.{is_letter, value_of, letter_of}
 use Rattle.base32_text.specs.Base32.{letter_bits, Spells, spelling}
 use Rattle.base32_text.proofs.BitLemmas.{AreBits, length-joined, groups-joined, joined-groups, are_bits-joined, are_bits-append, are_bits-zeros, are_bits-take, are_bits-drop, number_of-lt}

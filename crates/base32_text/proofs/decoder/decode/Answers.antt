@@ -1,8 +1,5 @@
-use Rattle.std.proofs.Common.{true, false, ◌≡◌, ℕ, ◌+◌, ◌-◌, ◌<◌, ◌≤◌, List, [], ◌∷◌, ◌++◌, length, take, get_or, refl, ap, sym, ◌∙◌, subst, arith, length-append}
-use Rattle.base32_text.specs.Bits.{bits_of, joined}
-use Rattle.base32_text.specs.Base32.{Spells}
-use Rattle.base32_text.specs.Refusals.{Refuses}
-use Rattle.base32_text.proofs.CodingLemmas.{Taken, nothing_taken, letter_taken, byte_taken, Ended, ended, refused_length, refused_loose, spelled_by, rest_length, put_length}
+use Rattle.std.proofs.Common.{true, false, ◌≡◌, ◌+◌, length, refl, arith}
+use Rattle.base32_text.proofs.CodingLemmas.{Taken, nothing_taken, letter_taken, byte_taken, ended, refused_length, refused_loose, spelled_by, rest_length, put_length}
 use Rattle.base32_text.proofs.decoder.decode.Goals as goal
 use Rattle.base32_text.proofs.decoder.decode.Goals.{then-len-ge8+in_ok-push, else-len-ge8}
 

@@ -1,5 +1,5 @@
-use Rattle.std.proofs.Common.{◌≡◌, ◌∙◌, sym, subst, string_bytes, ◌++◌, ap}
-use Rattle.base32_text.specs.Base32.{Spells, spelling}
+use Rattle.std.proofs.Common.{◌≡◌, ◌∙◌, string_bytes, ◌++◌, ap}
+use Rattle.base32_text.specs.Base32.{spelling}
 use Rattle.base32_text.proofs.SpellingLemmas.{spells_spelling}
 use Rattle.base32_text.proofs.CodingLemmas.{all_fit}
 use Rattle.base32_text.proofs.encoder.encode.Goals as goal

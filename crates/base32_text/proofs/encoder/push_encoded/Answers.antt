@@ -1,6 +1,5 @@
-use Rattle.std.proofs.Common.{◌≡◌, ℕ, ◌+◌, ◌-◌, ◌<◌, ◌≤◌, List, [], ◌∷◌, ◌++◌, length, take, get_or, string_bytes, refl, ap, sym, ◌∙◌, subst, arith, length-append}
-use Rattle.base32_text.specs.Bits.{bits_of, joined}
-use Rattle.base32_text.proofs.BitLemmas.{length-bits_of}
+use Rattle.std.proofs.Common.{◌≡◌, ◌+◌, ◌-◌, ◌<◌, ◌++◌, length, take, string_bytes, ap, ◌∙◌, subst, arith}
+use Rattle.base32_text.specs.Bits.{joined}
 use Rattle.base32_text.proofs.WaitingLemmas.{bits_of-zero}
 use Rattle.base32_text.proofs.SpellingLemmas.{noughts}
 use Rattle.base32_text.proofs.CodingLemmas.{Written, nothing_written, bits_put, letter_written, all_written, joined_more, rest_length, put_length, all_are_taken, nothing_more, all_fit}

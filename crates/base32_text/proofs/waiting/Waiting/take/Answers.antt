@@ -1,4 +1,4 @@
-use Rattle.std.proofs.Common.{◌≡◌, ◌+◌, ◌≤◌, ◌∙◌, ap, sym, length, arith}
+use Rattle.std.proofs.Common.{◌≡◌, ◌∙◌, ap, sym, length, arith}
 use Rattle.base32_text.proofs.BitLemmas.{length-bits_of}
 use Rattle.base32_text.proofs.WaitingLemmas.{take_fits, take_bits}
 use Rattle.base32_text.proofs.waiting.Waiting.take.Goals as goal

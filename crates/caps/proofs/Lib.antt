@@ -1,0 +1,6 @@
+pub mod BeginningLemmas
+pub mod FieldLemmas
+pub mod StoredLemmas
+pub mod ReadingLemmas
+pub mod NumberLemmas
+pub mod ParserLemmas

@@ -1,0 +1,6 @@
+pub mod Fields
+pub mod CapTexts
+pub mod Beginnings
+pub mod Refusals
+pub mod Reading
+pub mod Steps

@@ -1,0 +1,25 @@
+//! What holds of caps and their texts.
+ghost use Rattle.std.specs.Prelude.{◌≡◌, ◌≢◌, ◌↔◌, ℕ, List, Ok, Err};
+ghost use Rattle.caps.specs.CapTexts.{IsCapText, IsCap, cap_text};
+ghost use Rattle.caps.specs.Refusals.{Refuses};
+ghost use Rattle.caps.specs.Reading.{cap_reading};
+ghost use Rattle.caps.specs.declared.cap.Cap.{Cap};
+ghost use Rattle.caps.specs.declared.fault.CapFault.{CapFault};
+ghost use Rattle.caps.specs.declared.fault.CapFault.TheVariants.{NoMemory};
+
+/// A cap has one text, which `cap_text` gives.
+pub fn caps_have_one_text()
+    ensures some { (cap : Cap) → IsCap cap → IsCapText cap (cap_text cap) }
+    ensures one { (cap : Cap) (text : List ℕ) → IsCapText cap text → text ≡ cap_text cap }
+{}
+
+/// A text is one cap's at most.
+pub fn texts_have_one_cap()
+    ensures { (text : List ℕ) (cap other : Cap) → IsCapText cap text → IsCapText other text → cap ≡ other }
+{}
+
+/// `cap_reading` says yes with a cap just where the text is its text, and gives each fault just where it holds.
+pub fn reading_is_decided()
+    ensures read { (text : List ℕ) (cap : Cap) → IsCapText cap text ↔ (cap_reading text ≡ Ok cap) }
+    ensures refused { (text : List ℕ) (fault : CapFault) → fault ≢ NoMemory → (Refuses fault text ↔ (cap_reading text ≡ Err fault)) }
+{}

@@ -1,0 +1,170 @@
+-- Lines that are cut at their spaces.
+use Rattle.std.proofs.Common.{◌≡◌, ◌≢◌, ℕ, ◌-◌, ◌^◌, ◌<◌, List, [], ◌∷◌, ◌++◌, length, Bool, true, false, All, Option, Some, None, refl, sym, ap, ◌∙◌, arith, ne_eqb}
+use Rattle.std.specs.Str.{bytes_eq}
+use Rattle.std.specs.Prelude.{codes, ◌&&◌, ◌==◌, option_and_then, cond, nat_le, not, ◌||◌, slice_index}
+use Rattle.std.specs.Char.{is_ascii_digit}
+use Rattle.std.specs.Str.Parse.{digits_value}
+use Rattle.std.specs.List.{slice_split, join_with_byte, list_all, count_by}
+use Rattle.std.specs.Option.{option_map}
+use Rattle.std.proofs.lemmas.List.Elements.{All-weaker}
+use Rattle.std.proofs.lemmas.List.Splits.{slice_split_at, slice_split_none, join_with_byte-slice_split, length-slice_split}
+use Rattle.gate_main.specs.Cut.{IsCutAt}
+use Rattle.gate_main.specs.Decimal.{is_decimal, number_to}
+use Rattle.gate_main.specs.Text.{unescaped}
+use Rattle.gate_main.specs.Command.{words, asked_by, grid_of, open_of, bytes_of, end_of, take_of, long_number}
+use Rattle.gate_main.specs.declared.command.Command.{Command}
+use Rattle.gate_main.specs.declared.command.Command.TheVariants.{Open, Bytes, End, Take}
+
+is_other : (b : ℕ) → b ≢ 32 → (b == 32) ≡ false
+is_other b other = ne_eqb b 32 other
+
+-- a line that is cut at its first space
+pub words_cut : (line word rest : List ℕ) → IsCutAt 32 line word rest → words line ≡ word ∷ words rest
+words_cut line word rest cut =
+    ap words cut.parts ∙ slice_split_at (λ b. b == 32) word 32 rest (All-weaker (λ b. b ≢ 32) (λ b. (b == 32) ≡ false) is_other word cut.before) refl
+
+-- a line with no space
+pub words_one : (line : List ℕ) → All (λ b. b ≢ 32) line → words line ≡ line ∷ []
+words_one line none = slice_split_none (λ b. b == 32) line (All-weaker (λ b. b ≢ 32) (λ b. (b == 32) ≡ false) is_other line none)
+
+-- its words joined are the line
+joined_words : (line : List ℕ) → join_with_byte 32 (words line) ≡ line
+joined_words line = join_with_byte-slice_split 32 line
+
+-- a line has a word
+some_word : (line : List ℕ) → 0 < length (words line)
+some_word line = omega (arith, length-slice_split (λ b. b == 32) line)
+
+-- ---- numbers hold no space
+
+and_false : (t : Bool) → (t && false) ≡ false
+and_false true = refl
+and_false false = refl
+
+no_digits : (word rest : List ℕ) → list_all is_ascii_digit (word ++ 32 ∷ rest) ≡ false
+no_digits [] rest = refl
+no_digits (b ∷ word) rest = ap (λ t. is_ascii_digit b && t) (no_digits word rest) ∙ and_false (is_ascii_digit b)
+
+number_spaced : (most : ℕ) (word rest : List ℕ) → None ≡ number_to most (word ++ 32 ∷ rest)
+number_spaced most word rest =
+    let line = word ++ 32 ∷ rest in
+    ap (λ t. cond (t && not (length line == 0) && ((length line == 1) || not (slice_index line 0 == 48)) && nat_le (digits_value 10 line) most) (Some (digits_value 10 line)) None)
+    (sym (no_digits word rest))
+
+-- ---- the one argument of `open` and of `end`
+
+open_is : (line : List ℕ) (ws : List (List ℕ)) → join_with_byte 32 ws ≡ line → option_map (λ id. Open id) (long_number line) ≡ open_of ws
+open_is line [] is = ap (λ l. option_map (λ id. Open id) (long_number l)) (sym is)
+open_is line (w ∷ []) is = ap (λ l. option_map (λ id. Open id) (long_number l)) (sym is)
+open_is line (w ∷ v ∷ more) is = ap (option_map (λ id. Open id)) (ap long_number (sym is) ∙ sym (number_spaced (2 ^ 64 - 1) w (join_with_byte 32 (v ∷ more))))
+
+pub open_line : (line : List ℕ) (id : Option ℕ) → id ≡ long_number line → option_map (λ id. Open id) id ≡ open_of (words line)
+open_line line id is = ap (option_map (λ id. Open id)) is ∙ open_is line (words line) (joined_words line)
+
+end_is : (line : List ℕ) (ws : List (List ℕ)) → join_with_byte 32 ws ≡ line → option_map (λ id. End id) (long_number line) ≡ end_of ws
+end_is line [] is = ap (λ l. option_map (λ id. End id) (long_number l)) (sym is)
+end_is line (w ∷ []) is = ap (λ l. option_map (λ id. End id) (long_number l)) (sym is)
+end_is line (w ∷ v ∷ more) is = ap (option_map (λ id. End id)) (ap long_number (sym is) ∙ sym (number_spaced (2 ^ 64 - 1) w (join_with_byte 32 (v ∷ more))))
+
+pub end_line : (line : List ℕ) (id : Option ℕ) → id ≡ long_number line → option_map (λ id. End id) id ≡ end_of (words line)
+end_line line id is = ap (option_map (λ id. End id)) is ∙ end_is line (words line) (joined_words line)
+
+-- ---- the arguments of `take`
+
+take_by : Option ℕ → Option ℕ → Option Command
+take_by id most = option_and_then (λ id. option_map (λ most. Take id most) most) id
+
+take_is : (word line : List ℕ) (ws : List (List ℕ)) → join_with_byte 32 ws ≡ line → take_by (long_number word) (number_to (2 ^ 32 - 1) line) ≡ take_of (word ∷ ws)
+unfolding take_by
+take_is word line [] is = ap (λ l. take_by (long_number word) (number_to (2 ^ 32 - 1) l)) (sym is) ∙ never (long_number word)
+  where
+    never : (id : Option ℕ) → option_and_then (λ id. option_map (λ most. Take id most) None) id ≡ None
+    never None = refl
+    never (Some id) = refl
+take_is word line (w ∷ []) is = ap (λ l. take_by (long_number word) (number_to (2 ^ 32 - 1) l)) (sym is)
+take_is word line (w ∷ v ∷ more) is =
+    ap (take_by (long_number word)) (ap (number_to (2 ^ 32 - 1)) (sym is) ∙ sym (number_spaced (2 ^ 32 - 1) w (join_with_byte 32 (v ∷ more)))) ∙ never (long_number word)
+  where
+    never : (id : Option ℕ) → option_and_then (λ id. option_map (λ most. Take id most) None) id ≡ None
+    never None = refl
+    never (Some id) = refl
+
+pub take_line : (line word rest : List ℕ) (id most : Option ℕ) → IsCutAt 32 line word rest → id ≡ long_number word → most ≡ number_to (2 ^ 32 - 1) rest
+    → option_and_then (λ id. option_map (λ most. Take id most) most) id ≡ take_of (words line)
+unfolding take_by
+take_line line word rest id most cut first second =
+    ap (λ i. take_by i most) first ∙ ap (take_by (long_number word)) second ∙ take_is word rest (words rest) (joined_words rest) ∙ ap take_of (sym (words_cut line word rest cut))
+
+pub take_one : (line : List ℕ) → All (λ b. b ≢ 32) line → None ≡ take_of (words line)
+take_one line none = ap take_of (sym (words_one line none))
+
+-- ---- the arguments of `bytes`
+
+bytes_is : (word line : List ℕ) (ws : List (List ℕ)) → join_with_byte 32 ws ≡ line → 0 < length ws
+    → option_and_then (λ id. option_map (λ piece. Bytes id piece) (unescaped line)) (long_number word) ≡ bytes_of (word ∷ ws)
+bytes_is word line [] is some = absurd (omega arith)
+bytes_is word line (w ∷ more) is some = ap (λ l. option_and_then (λ id. option_map (λ piece. Bytes id piece) (unescaped l)) (long_number word)) (sym is)
+
+pub bytes_line : (line word rest : List ℕ) (id : Option ℕ) (piece : Option (List ℕ)) → IsCutAt 32 line word rest → id ≡ long_number word → piece ≡ unescaped rest
+    → option_and_then (λ id. option_map (λ piece. Bytes id piece) piece) id ≡ bytes_of (words line)
+bytes_line line word rest id piece cut first second =
+    ap (λ i. option_and_then (λ id. option_map (λ piece. Bytes id piece) piece) i) first
+    ∙ ap (λ p. option_and_then (λ id. option_map (λ piece. Bytes id piece) p) (long_number word)) second
+    ∙ bytes_is word rest (words rest) (joined_words rest) (some_word rest) ∙ ap bytes_of (sym (words_cut line word rest cut))
+
+pub bytes_one : (line : List ℕ) → All (λ b. b ≢ 32) line → None ≡ bytes_of (words line)
+bytes_one line none = ap bytes_of (sym (words_one line none))
+
+-- ---- the arguments of `grid`
+
+pub grid_one : (line : List ℕ) → All (λ b. b ≢ 32) line → None ≡ grid_of (words line)
+grid_one line none = ap grid_of (sym (words_one line none))
+
+pub grid_two : (line k l1 : List ℕ) → IsCutAt 32 line k l1 → All (λ b. b ≢ 32) l1 → None ≡ grid_of (words line)
+grid_two line k l1 cut none = ap grid_of (sym (words_cut line k l1 cut ∙ ap (λ ws. k ∷ ws) (words_one l1 none)))
+
+pub grid_three : (line k l1 n l2 : List ℕ) → IsCutAt 32 line k l1 → IsCutAt 32 l1 n l2 → All (λ b. b ≢ 32) l2 → None ≡ grid_of (words line)
+grid_three line k l1 n l2 cut1 cut2 none = ap grid_of (sym (words_cut line k l1 cut1 ∙ ap (λ ws. k ∷ ws) (words_cut l1 n l2 cut2 ∙ ap (λ ws. n ∷ ws) (words_one l2 none))))
+
+pub grid_words : (line k l1 n l2 s l3 : List ℕ) (ws : List (List ℕ)) → IsCutAt 32 line k l1 → IsCutAt 32 l1 n l2 → IsCutAt 32 l2 s l3 → words l3 ≡ ws → words line ≡ k ∷ n ∷ s ∷ ws
+grid_words line k l1 n l2 s l3 ws cut1 cut2 cut3 is =
+    words_cut line k l1 cut1 ∙ ap (λ ws. k ∷ ws) (words_cut l1 n l2 cut2 ∙ ap (λ ws. n ∷ ws) (words_cut l2 s l3 cut3 ∙ ap (λ ws. s ∷ ws) is))
+
+pub grid_four : (line k l1 n l2 s l3 : List ℕ) → IsCutAt 32 line k l1 → IsCutAt 32 l1 n l2 → IsCutAt 32 l2 s l3 → All (λ b. b ≢ 32) l3 → None ≡ grid_of (words line)
+grid_four line k l1 n l2 s l3 cut1 cut2 cut3 none = ap grid_of (sym (grid_words line k l1 n l2 s l3 (l3 ∷ []) cut1 cut2 cut3 (words_one l3 none)))
+
+pub grid_five : (line k l1 n l2 s l3 room secret : List ℕ) (o : Option Command) → IsCutAt 32 line k l1 → IsCutAt 32 l1 n l2 → IsCutAt 32 l2 s l3 → IsCutAt 32 l3 room secret → All (λ b. b ≢ 32) secret
+    → o ≡ grid_of (k ∷ n ∷ s ∷ room ∷ secret ∷ []) → o ≡ grid_of (words line)
+grid_five line k l1 n l2 s l3 room secret o cut1 cut2 cut3 cut4 none is =
+    is ∙ ap grid_of (sym (grid_words line k l1 n l2 s l3 (room ∷ secret ∷ []) cut1 cut2 cut3 (words_cut l3 room secret cut4 ∙ ap (λ ws. room ∷ ws) (words_one secret none))))
+
+six_words : (k n s room secret : List ℕ) (ws : List (List ℕ)) → 0 < length ws → None ≡ grid_of (k ∷ n ∷ s ∷ room ∷ secret ∷ ws)
+six_words k n s room secret [] some = absurd (omega arith)
+six_words k n s room secret (w ∷ ws) some = refl
+
+pub grid_six : (line k l1 n l2 s l3 room l4 secret l5 : List ℕ) → IsCutAt 32 line k l1 → IsCutAt 32 l1 n l2 → IsCutAt 32 l2 s l3 → IsCutAt 32 l3 room l4 → IsCutAt 32 l4 secret l5 → None ≡ grid_of (words line)
+grid_six line k l1 n l2 s l3 room l4 secret l5 cut1 cut2 cut3 cut4 cut5 =
+    six_words k n s room secret (words l5) (some_word l5)
+    ∙ ap grid_of (sym (grid_words line k l1 n l2 s l3 (room ∷ secret ∷ words l5) cut1 cut2 cut3 (words_cut l3 room l4 cut4 ∙ ap (λ ws. room ∷ ws) (words_cut l4 secret l5 cut5))))
+
+-- ---- verbs
+
+skip : (t : Bool) (o : Option Command) → None ≡ o → None ≡ cond t None o
+skip true o none = refl
+skip false o none = none
+
+-- a verb alone asks nothing
+pub verb_alone : (line : List ℕ) → All (λ b. b ≢ 32) line → None ≡ asked_by (words line)
+verb_alone line none =
+    skip (bytes_eq line (codes "grid")) _ (skip (bytes_eq line (codes "open")) _ (skip (bytes_eq line (codes "bytes")) _ (skip (bytes_eq line (codes "end")) _ (skip (bytes_eq line (codes "take")) _ refl))))
+    ∙ ap asked_by (sym (words_one line none))
+
+-- another verb than these asks nothing
+pub verb_other : (verb : List ℕ) (ws : List (List ℕ)) → false ≡ bytes_eq verb (codes "grid") → false ≡ bytes_eq verb (codes "open") → false ≡ bytes_eq verb (codes "bytes")
+    → false ≡ bytes_eq verb (codes "end") → false ≡ bytes_eq verb (codes "take") → None ≡ asked_by (verb ∷ ws)
+verb_other verb ws grid open_ bytes end_ take_ =
+    ap (λ t. cond t (take_of ws) None) take_
+    ∙ ap (λ t. cond t (end_of ws) (cond (bytes_eq verb (codes "take")) (take_of ws) None)) end_
+    ∙ ap (λ t. cond t (bytes_of ws) (cond (bytes_eq verb (codes "end")) (end_of ws) (cond (bytes_eq verb (codes "take")) (take_of ws) None))) bytes
+    ∙ ap (λ t. cond t (open_of ws) (cond (bytes_eq verb (codes "bytes")) (bytes_of ws) (cond (bytes_eq verb (codes "end")) (end_of ws) (cond (bytes_eq verb (codes "take")) (take_of ws) None)))) open_
+    ∙ ap (λ t. cond t (grid_of ws) (cond (bytes_eq verb (codes "open")) (open_of ws) (cond (bytes_eq verb (codes "bytes")) (bytes_of ws) (cond (bytes_eq verb (codes "end")) (end_of ws) (cond (bytes_eq verb (codes "take")) (take_of ws) None))))) grid

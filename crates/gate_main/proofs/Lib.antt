@@ -1,0 +1,12 @@
+pub mod Texts
+pub mod TextLaws
+pub mod Numbers
+pub mod NumberLaws
+pub mod Commands
+pub mod Parts
+pub mod Writes
+pub mod LineLists
+pub mod Stands
+pub mod Ends
+pub mod Outcomes
+pub mod Takes

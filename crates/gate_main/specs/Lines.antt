@@ -1,0 +1,33 @@
+-- The lines of a script.
+use Rattle.std.specs.Prelude.{◌≢◌, All, ℕ, ◌+◌, ◌&&◌, ◌==◌, nat_le, List, [], ◌∷◌, ◌++◌, length, Bool, true, false, if◌then◌else◌}
+use Rattle.gate_main.specs.declared.lines.TheConstants.{LINE_LIMIT, SCRIPT_LIMIT}
+
+-- a line without the LF (10) that ends it, and whether one does
+pub record Line : Type 0 where
+  pub bytes : List ℕ
+  pub ended : Bool
+
+-- no LF stands there
+abbrev pub LacksLf : List ℕ → Type 0
+LacksLf bytes = All (λ byte. byte ≢ 10) bytes
+
+-- a byte in front of the first line
+abbrev pub onto_line : ℕ → List Line → List Line
+onto_line byte [] = record { bytes = byte ∷ []; ended = false } ∷ []
+onto_line byte (line ∷ more) = record { bytes = byte ∷ line.bytes; ended = line.ended } ∷ more
+
+-- a script's lines: each is ended by an LF, save that the last may lack it
+abbrev pub lines_of : List ℕ → List Line
+lines_of [] = []
+lines_of (byte ∷ script) = if byte == 10 then record { bytes = []; ended = true } ∷ lines_of script else onto_line byte (lines_of script)
+
+-- the bytes of a script that a line takes
+abbrev pub piece_of : Line → List ℕ
+piece_of line = line.bytes ++ (if line.ended then 10 ∷ [] else [])
+
+-- a line of so many bytes is within its limit, and the script, of which so many were read before it, within its own
+abbrev pub fits : ℕ → ℕ → Bool → Bool
+fits read size ended = nat_le size LINE_LIMIT && nat_le (read + (size + (if ended then 1 else 0))) SCRIPT_LIMIT
+
+abbrev pub is_within : ℕ → Line → Bool
+is_within read line = fits read (length line.bytes) line.ended

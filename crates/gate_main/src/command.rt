@@ -1,0 +1,204 @@
+//! A line of a script.
+ghost use Rattle.std.specs.Prelude.{◌≡◌, [], ◌∷◌, IfOk};
+ghost use Rattle.gate_main.specs.Command.{words, servers_of, secret_of, grid_of, open_of, bytes_of, end_of, take_of, command_of, short_number, long_number};
+
+use crate::cut::split_at_byte;
+use crate::number::read_number;
+use crate::piece::Piece;
+use crate::text::unescape;
+use base32_text::{B32Fault, decode, reading_is_decided};
+use std::alloc::{AllocError, Global};
+
+/// The parameters of a gateway.
+#[derive(Debug, Drop)]
+pub struct Grid {
+    /// How many shares give a file back.
+    pub k: u16,
+    /// How many shares a file has.
+    pub n: u16,
+    /// How many servers there are, 1 to 256.
+    pub servers: u16,
+    /// How many bytes each server has room for.
+    pub room: u64,
+    /// The secret that makes keys.
+    pub secret: Piece,
+}
+
+/// What a line asks of the gateway.
+#[derive(Debug, Drop)]
+pub enum Command {
+    /// A gateway with these parameters.
+    Grid(Grid),
+    /// A connection with this id begins.
+    Open(u64),
+    /// The next bytes of a connection.
+    Bytes(u64, Piece),
+    /// No more bytes come on a connection.
+    End(u64),
+    /// At most so many of the bytes that wait for a connection.
+    Take(u64, u32),
+}
+
+/// What a line asks, or `None` where it is a bad line.
+pub fn read_command(alloc: Global, line: &[u8]) -> Result<Option<Command>, AllocError>
+    ensures { IfOk result (λ command. command ≡ command_of line.now) }
+{
+    let Some((verb, arguments)) = split_at_byte(line, b' ') else {
+        return Ok(None);
+    };
+    if verb == b"grid".as_slice() {
+        return read_grid(alloc, arguments);
+    }
+    if verb == b"open".as_slice() {
+        return Ok(read_open(arguments));
+    }
+    if verb == b"bytes".as_slice() {
+        return read_bytes(alloc, arguments);
+    }
+    if verb == b"end".as_slice() {
+        return Ok(read_end(arguments));
+    }
+    if verb == b"take".as_slice() {
+        return Ok(read_take(arguments));
+    }
+    Ok(None)
+}
+
+/// The arguments of `grid`: K, N, S, ROOM and SECRET.
+fn read_grid(alloc: Global, arguments: &[u8]) -> Result<Option<Command>, AllocError>
+    ensures { IfOk result (λ command. command ≡ grid_of (words arguments.now)) }
+{
+    let Some((k, rest)) = split_at_byte(arguments, b' ') else {
+        return Ok(None);
+    };
+    let Some((n, rest)) = split_at_byte(rest, b' ') else {
+        return Ok(None);
+    };
+    let Some((servers, rest)) = split_at_byte(rest, b' ') else {
+        return Ok(None);
+    };
+    let Some((room, secret)) = split_at_byte(rest, b' ') else {
+        return Ok(None);
+    };
+    let None = split_at_byte(secret, b' ') else {
+        return Ok(None);
+    };
+    let command = read_parameters(alloc, k, n, servers, room, secret)?;
+    Ok(command)
+}
+
+/// The five arguments of `grid`, one by one.
+fn read_parameters(
+    alloc: Global,
+    k: &[u8],
+    n: &[u8],
+    servers: &[u8],
+    room: &[u8],
+    secret: &[u8],
+) -> Result<Option<Command>, AllocError>
+    ensures { IfOk result (λ command. command ≡ grid_of (k.now ∷ n.now ∷ servers.now ∷ room.now ∷ secret.now ∷ [])) }
+{
+    let Some(k) = read_short(k) else {
+        return Ok(None);
+    };
+    let Some(n) = read_short(n) else {
+        return Ok(None);
+    };
+    let Some(servers) = read_servers(servers) else {
+        return Ok(None);
+    };
+    let Some(room) = read_number(room, u64::MAX) else {
+        return Ok(None);
+    };
+    let Some(secret) = read_secret(alloc, secret)? else {
+        return Ok(None);
+    };
+    let grid = Grid {
+        k,
+        n,
+        servers,
+        room,
+        secret,
+    };
+    Ok(Some(Command::Grid(grid)))
+}
+
+/// A number that fits 16 bits.
+fn read_short(word: &[u8]) -> Option<u16>
+    ensures { result ≡ short_number word.now }
+{
+    let number = read_number(word, u64::from(u16::MAX))?;
+    Some(number as u16)
+}
+
+/// The number of servers, 1 to 256.
+fn read_servers(word: &[u8]) -> Option<u16>
+    ensures { result ≡ servers_of word.now }
+{
+    let number = read_number(word, 256)?;
+    if number == 0 {
+        return None;
+    }
+    Some(number as u16)
+}
+
+/// A secret: `-` is the empty one, another is base32.
+fn read_secret(alloc: Global, word: &[u8]) -> Result<Option<Piece>, AllocError>
+    ensures { IfOk result (λ secret. secret ≡ secret_of word.now) }
+{
+    if word == b"-".as_slice() {
+        return Ok(Some(Piece::new(Vec::new(alloc))));
+    }
+    if word.is_empty() {
+        return Ok(None);
+    }
+    // What `decode` says of spelling is said of `reading` by this law.
+    reading_is_decided();
+    match decode(alloc, word) {
+        Ok(bytes) => Ok(Some(Piece::new(bytes))),
+        Err(B32Fault::NoMemory) => Err(AllocError),
+        Err(_) => Ok(None),
+    }
+}
+
+/// The argument of `open`: ID.
+fn read_open(arguments: &[u8]) -> Option<Command>
+    ensures { result ≡ open_of (words arguments.now) }
+{
+    let id = read_number(arguments, u64::MAX)?;
+    Some(Command::Open(id))
+}
+
+/// The arguments of `bytes`: ID and TEXT, which may hold spaces.
+fn read_bytes(alloc: Global, arguments: &[u8]) -> Result<Option<Command>, AllocError>
+    ensures { IfOk result (λ command. command ≡ bytes_of (words arguments.now)) }
+{
+    let Some((id, text)) = split_at_byte(arguments, b' ') else {
+        return Ok(None);
+    };
+    let Some(id) = read_number(id, u64::MAX) else {
+        return Ok(None);
+    };
+    let Some(piece) = unescape(alloc, text)? else {
+        return Ok(None);
+    };
+    Ok(Some(Command::Bytes(id, piece)))
+}
+
+/// The argument of `end`: ID.
+fn read_end(arguments: &[u8]) -> Option<Command>
+    ensures { result ≡ end_of (words arguments.now) }
+{
+    let id = read_number(arguments, u64::MAX)?;
+    Some(Command::End(id))
+}
+
+/// The arguments of `take`: ID and MAX.
+fn read_take(arguments: &[u8]) -> Option<Command>
+    ensures { result ≡ take_of (words arguments.now) }
+{
+    let (id, most) = split_at_byte(arguments, b' ')?;
+    let id = read_number(id, u64::MAX)?;
+    let most = read_number(most, u32::MAX as u64)?;
+    Some(Command::Take(id, most as u32))
+}

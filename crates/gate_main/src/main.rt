@@ -1,0 +1,70 @@
+//! The web gateway as a program. `gate_main replay` reads a script from standard input and writes its answers to
+//! standard output: a script says what comes on which connection, and what is taken from it.
+#![tactic(auto)]
+
+mod command;
+mod cut;
+mod fault;
+mod laws;
+mod lines;
+mod number;
+mod piece;
+mod reply;
+mod script;
+mod text;
+mod writing;
+
+#[cfg(test)]
+mod tests;
+
+pub use fault::ScriptFault;
+pub use laws::{lines_join_to_the_script, numbers_have_one_word, texts_are_read_back};
+pub use script::run_script;
+
+use std::io::{BufReader, BufWriter};
+use std::process::ExitCode;
+use std::rt::Env;
+use std::{env, io};
+
+/// How many bytes are read and written at a time.
+const BUFFER: usize = 65_536;
+
+const USAGE: &str = "usage: gate_main replay < SCRIPT";
+
+/// Status 0 where the script was answered, 1 at a fault, 2 at wrong arguments.
+fn main(rt: HostRuntime) -> ExitCode {
+    if !asks_replay(&rt) {
+        let _ = rt.eprintln(USAGE);
+        return ExitCode::from(2);
+    }
+    match replay(&rt) {
+        Ok(()) => ExitCode::SUCCESS,
+        Err(fault) => {
+            let _ = eprintln!(rt; "gate_main: {fault}");
+            ExitCode::from(1)
+        }
+    }
+}
+
+/// Whether the one argument is `replay`.
+fn asks_replay(rt: &(impl Env + AllocGlobal)) -> bool {
+    let Ok(arguments) = env::args(rt) else {
+        return false;
+    };
+    let mut arguments = arguments.skip(1);
+    match (arguments.next(), arguments.next()) {
+        (Some(verb), None) => verb.as_str() == "replay",
+        _ => false,
+    }
+}
+
+/// Runs the script on standard input, and writes its answers to standard output.
+fn replay(rt: &(impl Input + Print + AllocGlobal)) -> Result<(), ScriptFault> {
+    let Ok(mut reader) = BufReader::with_capacity(rt.alloc(), BUFFER, rt.reader()) else {
+        return Err(ScriptFault::NoMemory);
+    };
+    let Ok(mut writer) = BufWriter::with_capacity(rt.alloc(), BUFFER, io::writer(rt)) else {
+        return Err(ScriptFault::NoMemory);
+    };
+    run_script(rt.alloc(), &mut reader, &mut writer)
+}

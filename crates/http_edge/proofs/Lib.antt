@@ -1,0 +1,5 @@
+pub mod BlockLemmas
+pub mod ReadLemmas
+pub mod FrameLemmas
+pub mod LineLemmas
+pub mod ReadLaws

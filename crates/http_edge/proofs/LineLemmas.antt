@@ -1,0 +1,445 @@
+-- What one line more does to a beginning of a head block.
+use Rattle.std.proofs.Common.{◌≡◌, ◌⊎◌, inl, inr, cond, subst, true, false, ℕ, zero, suc, ◌+◌, ◌-◌, ◌<◌, ◌≤◌, Bool, ◌&&◌, ◌||◌, List, [], ◌∷◌, ◌++◌, length, take, drop, get_or, Option, Some, None, refl, sym, ap, ◌∙◌, arith, append_assoc, append-nil, length-append, add-one, lit<}
+use Rattle.std.specs.Prelude.{nat_le, nat_lt, nat_eq}
+use Rattle.std.specs.List.{All, ends_with}
+use Rattle.std.proofs.Math.Dec.{eqb}
+use Rattle.std.proofs.Math.Seq.{take-append_seam, drop-append_seam}
+use Rattle.std.proofs.lemmas.Bool.{eq-eqb}
+use Rattle.std.proofs.lemmas.Bool.Decides.{nat_tests, Decides-eqb}
+use Rattle.std.proofs.lemmas.Slice.Eq.{ends_is, bytes_eq-Decides}
+use Rattle.http_edge.specs.declared.item.FramingFault.TheVariants.{BadHead}
+use Rattle.http_edge.specs.declared.item.Item.{Item}
+use Rattle.http_edge.specs.declared.item.Item.TheVariants.{Fault}
+use Rattle.http_edge.specs.Judge.{closes, judged}
+use Rattle.http_edge.specs.Frame.{empty_line_length, skip_empty_lines, block_length, most_head_bytes, Message, too_long, first_message, frame}
+use Rattle.http_edge.specs.Left.{Left, part_of, closed, is_closed, rest, frame_from, rest_from}
+use Rattle.http_edge.specs.Line.{IsPart, IsLine, is_empty_line, ends_in_empty_line, completes, listed, IsSettled}
+use Rattle.http_edge.proofs.FrameLemmas.{line_begins, line_same, line_long, ends_block, no_block, still_no_block, ends_none, not_ends, skip_lf, skip_crlf, long_message, block_message, block_comes, by_le, message_stays, frame_skips, rest_skips, frame_with, rest_with, frame_without, rest_without}
+
+-- ---- the last bytes
+
+snoc_inj : (s t : List ℕ) (b c : ℕ) → s ++ b ∷ [] ≡ t ++ c ∷ [] → (s ≡ t) × (b ≡ c)
+snoc_inj [] [] b c e = (refl, cc)
+snoc_inj [] (y ∷ t) b c e = absurd (let n : 1 ≡ length ((y ∷ t) ++ c ∷ []) = ap length e in omega (arith, n, length-append (y ∷ t) (c ∷ [])))
+snoc_inj (x ∷ s) [] b c e = absurd (let n : length ((x ∷ s) ++ b ∷ []) ≡ 1 = ap length e in omega (arith, n, length-append (x ∷ s) (b ∷ [])))
+snoc_inj (x ∷ s) (y ∷ t) b c e =
+    let tails : s ++ b ∷ [] ≡ t ++ c ∷ [] = cc in
+    let heads : x ≡ y = cc in
+    let more = snoc_inj s t b c tails in
+    (let a : s ≡ t = more.0 in cc, more.1)
+
+-- s ends in p
+abbrev Ends : List ℕ → List ℕ → Type 0
+Ends s p = (front : List ℕ) × (s ≡ front ++ p)
+
+ends_so : (s p : List ℕ) → ends_with nat_eq s p ≡ true → Ends s p
+ends_so s p e = (_, (ends_is Decides-eqb s p (ends_with nat_eq s p) refl).0 e)
+
+ends_not : (s p : List ℕ) → ends_with nat_eq s p ≡ false → Ends s p → ⊥
+ends_not s p e h = let yes : ends_with nat_eq s p ≡ true = (ends_is Decides-eqb s p (ends_with nat_eq s p) refl).1 h.0 h.1 in cc
+
+or_cases : (a b : Bool) → (a || b) ≡ true → (a ≡ true) ⊎ (b ≡ true)
+or_cases true b e = inl refl
+or_cases false b e = inr e
+
+or_none : (a b : Bool) → (a || b) ≡ false → (a ≡ false) × (b ≡ false)
+or_none true b e = absurd (cc)
+or_none false b e = (refl, e)
+
+-- ---- a byte that is no LF
+
+line_kept : (s : List ℕ) (c : ℕ) → eqb c 10 ≡ false → empty_line_length (s ++ c ∷ []) ≡ empty_line_length s
+line_kept [] c plain = rw plain refl
+line_kept (x ∷ []) c plain = rw plain (go (eqb x 10) (eqb x 13))
+  where
+    go : (t u : Bool) → ◌≡◌ {A = ℕ} (cond t 1 (cond (u && false) 2 0)) (cond t 1 0)
+    go true u = refl
+    go false true = refl
+    go false false = refl
+line_kept (x ∷ y ∷ s) c plain = refl
+
+block_kept : (s : List ℕ) (c : ℕ) → eqb c 10 ≡ false → block_length s ≡ None → block_length (s ++ c ∷ []) ≡ None
+block_kept [] c plain none = rw plain refl
+block_kept (b ∷ s) c plain none =
+    let before = no_block b s none in
+    still_no_block b (s ++ c ∷ []) (let same = line_kept s c plain in rw same before.0) (block_kept s c plain before.1)
+
+-- no byte is LF
+abbrev AllPlain : List ℕ → Type 0
+AllPlain [] = Unit {0}
+AllPlain (b ∷ s) = (eqb b 10 ≡ false) × AllPlain s
+
+-- nothing stands complete at the front
+record IsOpen (s : List ℕ) : Type 0 where
+  no_blank : empty_line_length s ≡ 0
+  no_block : block_length s ≡ None
+
+plain_kept : (s d : List ℕ) → AllPlain d → IsOpen s → IsOpen (s ++ d)
+plain_kept s [] all h = subst IsOpen (sym (append-nil s)) h
+plain_kept s (c ∷ d) all h = subst IsOpen (append_assoc s (c ∷ []) d) (plain_kept (s ++ c ∷ []) d all.1 (record {
+  no_blank = line_kept s c all.0 ∙ h.no_blank;
+  no_block = block_kept s c all.0 h.no_block;
+}))
+
+-- ---- an LF
+
+-- an LF that ends no block
+block_goes : (s : List ℕ) → block_length s ≡ None → (Ends s (10 ∷ []) → ⊥) → (Ends s (10 ∷ 13 ∷ []) → ⊥)
+    → block_length (s ++ 10 ∷ []) ≡ None
+block_goes [] none no_lf no_cr = refl
+block_goes (b ∷ s) none no_lf no_cr =
+    let before = no_block b s none in
+    still_no_block b (s ++ 10 ∷ []) (not_ends b (s ++ 10 ∷ []) (λ is. go s (ends_none b s before.0 is) is no_lf no_cr))
+    (block_goes s before.1 (λ h. no_lf (b ∷ h.0, ap (λ (x : List ℕ). b ∷ x) h.1)) (λ h. no_cr (b ∷ h.0, ap (λ (x : List ℕ). b ∷ x) h.1)))
+  where
+    pair : (x : ℕ) → ◌≡◌ {A = ℕ} (cond (eqb x 10) 1 0) 0 → (eqb x 13 ≡ true → ⊥) → ◌≡◌ {A = ℕ} (cond (eqb x 10) 1 (cond (eqb x 13 && true) 2 0)) 0
+    pair x none not_cr = grind (arith, nat_tests)
+
+    go : (s : List ℕ) → empty_line_length s ≡ 0 → b ≡ 10 → (Ends (b ∷ s) (10 ∷ []) → ⊥) → (Ends (b ∷ s) (10 ∷ 13 ∷ []) → ⊥)
+        → empty_line_length (s ++ 10 ∷ []) ≡ 0
+    go [] none is no_lf no_cr = absurd (no_lf ([], ap (λ (x : ℕ). x ∷ []) is))
+    go (x ∷ []) none is no_lf no_cr = pair x none (λ e. let at : x ≡ 13 = (Decides-eqb x 13).0 e in no_cr ([], cc))
+    go (x ∷ y ∷ s) none is no_lf no_cr = none
+
+-- an LF that an empty line follows for the first time
+block_ends : (front a b : List ℕ) → block_length (front ++ 10 ∷ a) ≡ None → 0 < empty_line_length b
+    → block_length (front ++ 10 ∷ b) ≡ Some (length front + 1 + empty_line_length b)
+block_ends [] a b none some =
+    let test : ends_block 10 b ≡ true = positive (empty_line_length b) some in
+    rw test (ap Some (omega arith))
+  where
+    positive : (n : ℕ) → 0 < n → (true && nat_lt 0 n) ≡ true
+    positive n h = grind (arith, nat_tests)
+block_ends (x ∷ front) a b none some =
+    let before = no_block x (front ++ 10 ∷ a) none in
+    let same : empty_line_length (front ++ 10 ∷ b) ≡ empty_line_length (front ++ 10 ∷ a) = line_same front b a in
+    let test : ends_block x (front ++ 10 ∷ b) ≡ false = rw same before.0 in
+    rw (test, block_ends front a b before.1 some) (ap Some (omega arith))
+
+-- the bytes end in the first empty line behind an LF
+record IsBlock (s : List ℕ) : Type 0 where
+  no_blank : (more : List ℕ) → empty_line_length (s ++ more) ≡ 0
+  block : (more : List ℕ) → block_length (s ++ more) ≡ Some (length s)
+
+block_lf : (front : List ℕ) → IsOpen (front ++ 10 ∷ []) → IsBlock (front ++ 10 ∷ 10 ∷ [])
+block_lf front h = record {
+  no_blank = λ more. ap empty_line_length (append_assoc front (10 ∷ 10 ∷ []) more) ∙ line_same front (10 ∷ more) [] ∙ h.no_blank;
+  block = λ more.
+      let one = line_begins more in
+      let size = length-append front (10 ∷ 10 ∷ []) in
+      ap block_length (append_assoc front (10 ∷ 10 ∷ []) more)
+      ∙ block_ends front [] (10 ∷ more) h.no_block (omega arith)
+      ∙ ap Some (omega arith);
+}
+
+block_crlf : (front : List ℕ) → IsOpen (front ++ 10 ∷ 13 ∷ []) → IsBlock (front ++ 10 ∷ 13 ∷ 10 ∷ [])
+block_crlf front h = record {
+  no_blank = λ more. ap empty_line_length (append_assoc front (10 ∷ 13 ∷ 10 ∷ []) more) ∙ line_same front (13 ∷ 10 ∷ more) (13 ∷ []) ∙ h.no_blank;
+  block = λ more.
+      let size = length-append front (10 ∷ 13 ∷ 10 ∷ []) in
+      ap block_length (append_assoc front (10 ∷ 13 ∷ 10 ∷ []) more)
+      ∙ block_ends front (13 ∷ []) (13 ∷ 10 ∷ more) h.no_block (omega arith)
+      ∙ ap Some (omega arith);
+}
+
+-- ---- a line
+
+-- a line without an LF, or with one at its end
+data LineParts (line : List ℕ) : Type 0 where
+  without_lf : AllPlain line → LineParts line
+  with_lf : (d : List ℕ) → AllPlain d → line ≡ d ++ 10 ∷ [] → LineParts line
+
+line_parts : (line : List ℕ) → IsLine line → LineParts line
+line_parts [] h = without_lf tt
+line_parts (b ∷ []) h = elim (eqb b 10) as (λ v. eqb b 10 ≡ v → LineParts (b ∷ [])) [
+  | true ↦ λ e. with_lf [] tt (let is : b ≡ 10 = (Decides-eqb b 10).0 e in cc)
+  | false ↦ λ e. without_lf (e, tt)
+] refl
+line_parts (b ∷ c ∷ line) h =
+    put (line_parts (c ∷ line) (λ k short. shifted k (h (k + 1) (omega arith))))
+  where
+    shifted : (k : ℕ) → (get_or (b ∷ c ∷ line) (k + 1) 0 ≡ 10 → ⊥) → get_or (c ∷ line) k 0 ≡ 10 → ⊥
+    shifted k differs e = differs (rw add-one e)
+
+    first : eqb b 10 ≡ false
+    first = elim (eqb b 10) as (λ v. eqb b 10 ≡ v → v ≡ false) [ true ↦ λ e. absurd (h 0 (omega arith) ((Decides-eqb b 10).0 e)) | false ↦ λ _. refl ] refl
+
+    put : LineParts (c ∷ line) → LineParts (b ∷ c ∷ line)
+    put (without_lf all) = without_lf (first, all)
+    put (with_lf d all is) = with_lf (b ∷ d) (first, all) (ap (λ (x : List ℕ). b ∷ x) is)
+
+-- the bytes before their last LF, if that is what came last, hold nothing complete
+data Grown (s : List ℕ) : Type 0 where
+  kept : IsOpen s → Grown s
+  lf_came : (t : List ℕ) → IsOpen t → s ≡ t ++ 10 ∷ [] → Grown s
+
+grown : (part line : List ℕ) → IsPart part → IsLine line → Grown (part ++ line)
+grown part line h is = go (line_parts line is)
+  where
+    whole : IsOpen part
+    whole = record { no_blank = h.no_blank; no_block = h.no_block }
+
+    go : LineParts line → Grown (part ++ line)
+    go (without_lf all) = kept (plain_kept part line all whole)
+    go (with_lf d all e) = lf_came (part ++ d) (plain_kept part d all whole) (ap (λ (x : List ℕ). part ++ x) e ∙ sym (append_assoc part d (10 ∷ [])))
+
+no_end_lf : (front : List ℕ) → block_length (front ++ 10 ∷ 10 ∷ []) ≡ None → ⊥
+no_end_lf [] none = absurd (cc)
+no_end_lf (x ∷ front) none = no_end_lf front (no_block x (front ++ 10 ∷ 10 ∷ []) none).1
+
+no_end_crlf : (front : List ℕ) → block_length (front ++ 10 ∷ 13 ∷ 10 ∷ []) ≡ None → ⊥
+no_end_crlf [] none = absurd (cc)
+no_end_crlf (x ∷ front) none = no_end_crlf front (no_block x (front ++ 10 ∷ 13 ∷ 10 ∷ []) none).1
+
+-- a block that ends here
+is_block : (s : List ℕ) → Grown s → ends_in_empty_line s ≡ true → IsBlock s
+is_block s g e = elim (or_cases _ _ e) [
+  | inl lf ↦ at_lf g (ends_so s (10 ∷ 10 ∷ []) lf)
+  | inr crlf ↦ at_crlf g (ends_so s (10 ∷ 13 ∷ 10 ∷ []) crlf)
+]
+  where
+    at_lf : Grown s → Ends s (10 ∷ 10 ∷ []) → IsBlock s
+    at_lf (kept h) at = absurd (no_end_lf at.0 (ap block_length (sym at.1) ∙ h.no_block))
+    at_lf (lf_came t h is) at =
+        let same : t ≡ at.0 ++ 10 ∷ [] = (snoc_inj t (at.0 ++ 10 ∷ []) 10 10 (sym is ∙ at.1 ∙ sym (append_assoc at.0 (10 ∷ []) (10 ∷ [])))).0 in
+        subst IsBlock (sym at.1) (block_lf at.0 (subst IsOpen same h))
+
+    at_crlf : Grown s → Ends s (10 ∷ 13 ∷ 10 ∷ []) → IsBlock s
+    at_crlf (kept h) at = absurd (no_end_crlf at.0 (ap block_length (sym at.1) ∙ h.no_block))
+    at_crlf (lf_came t h is) at =
+        let same : t ≡ at.0 ++ 10 ∷ 13 ∷ [] = (snoc_inj t (at.0 ++ 10 ∷ 13 ∷ []) 10 10 (sym is ∙ at.1 ∙ sym (append_assoc at.0 (10 ∷ 13 ∷ []) (10 ∷ [])))).0 in
+        subst IsBlock (sym at.1) (block_crlf at.0 (subst IsOpen same h))
+
+blank_lf : is_empty_line (10 ∷ []) ≡ true
+blank_lf = refl
+
+blank_crlf : is_empty_line (13 ∷ 10 ∷ []) ≡ true
+blank_crlf = refl
+
+-- bytes that go on
+is_open : (s : List ℕ) → Grown s → is_empty_line s ≡ false → ends_in_empty_line s ≡ false → IsOpen s
+is_open s (kept h) no_blank no_end = h
+is_open s (lf_came t h is) no_blank no_end =
+    let none = or_none _ _ no_end in
+    subst IsOpen (sym is) (record {
+      no_blank = go t h.no_blank (ap is_empty_line (sym is) ∙ no_blank);
+      no_block = block_goes t h.no_block
+          (λ at. ends_not s (10 ∷ 10 ∷ []) none.0 (at.0, is ∙ ap (λ (x : List ℕ). x ++ 10 ∷ []) at.1 ∙ append_assoc at.0 (10 ∷ []) (10 ∷ [])))
+          (λ at. ends_not s (10 ∷ 13 ∷ 10 ∷ []) none.1 (at.0, is ∙ ap (λ (x : List ℕ). x ++ 10 ∷ []) at.1 ∙ append_assoc at.0 (10 ∷ 13 ∷ []) (10 ∷ [])));
+    })
+  where
+    pair : (x : ℕ) → ◌≡◌ {A = ℕ} (cond (eqb x 10) 1 0) 0 → (eqb x 13 ≡ true → ⊥) → ◌≡◌ {A = ℕ} (cond (eqb x 10) 1 (cond (eqb x 13 && true) 2 0)) 0
+    pair x none not_cr = grind (arith, nat_tests)
+
+    go : (t : List ℕ) → empty_line_length t ≡ 0 → is_empty_line (t ++ 10 ∷ []) ≡ false → empty_line_length (t ++ 10 ∷ []) ≡ 0
+    go [] none other = absurd (cc)
+    go (x ∷ []) none other = pair x none (λ e. let at : x ≡ 13 = (Decides-eqb x 13).0 e in
+        let yes : is_empty_line (x ∷ 10 ∷ []) ≡ true = ap (λ (y : ℕ). is_empty_line (y ∷ 10 ∷ [])) at ∙ blank_crlf in cc)
+    go (x ∷ y ∷ t) none other = none
+
+-- ---- what stands complete, and what is left over
+
+cut_here : (s more : List ℕ) → drop (length s) (s ++ more) ≡ more
+cut_here s more = drop-append_seam s more
+
+-- the item and what goes on behind it
+pub record GoesOn (s : List ℕ) (item : Item) : Type 0 where
+  pub items : (more : List ℕ) → frame (s ++ more) ≡ item ∷ cond (closes item) [] (frame more)
+  pub left : (more : List ℕ) → rest (s ++ more) ≡ cond (closes item) closed (rest more)
+
+-- a whole block that isn't too long
+whole_block : (s : List ℕ) → IsBlock s → length s ≤ most_head_bytes → GoesOn s (judged s)
+whole_block s h fits =
+    let first : (more : List ℕ) → first_message (s ++ more) ≡ Some (record { item = judged s; size = length s })
+    = λ more. block_message (s ++ more) (length s) (h.block more) fits
+    ∙ ap (λ (x : List ℕ). Some (record { item = judged x; size = length s })) (take-append_seam s more) in
+    record {
+      items = λ more. frame_with (s ++ more) _ (h.no_blank more) (first more)
+          ∙ ap (λ (x : List ℕ). judged s ∷ cond (closes (judged s)) [] (frame x)) (cut_here s more);
+      left = λ more. rest_with (s ++ more) _ (h.no_blank more) (first more)
+          ∙ ap (λ (x : List ℕ). cond (closes (judged s)) closed (rest x)) (cut_here s more);
+    }
+
+-- so many bytes without the end of a block
+too_many : (s : List ℕ) → ((more : List ℕ) → empty_line_length (s ++ more) ≡ 0) → most_head_bytes ≤ length s
+    → ((more : List ℕ) (k : ℕ) → block_length (s ++ more) ≡ Some k → most_head_bytes < k) → GoesOn s (Fault BadHead false)
+too_many s blank long far =
+    let first : (more : List ℕ) → first_message (s ++ more) ≡ Some too_long
+    = λ more. long_message (s ++ more) (omega (arith, length-append s more)) (far more) in
+    record {
+      items = λ more. frame_with (s ++ more) too_long (blank more) (first more);
+      left = λ more. rest_with (s ++ more) too_long (blank more) (first more);
+    }
+
+open_far : (s : List ℕ) → IsOpen s → most_head_bytes ≤ length s → GoesOn s (Fault BadHead false)
+open_far s h long = too_many s (λ more. line_long s more (omega arith) ∙ h.no_blank) long
+    (λ more k some. let past = block_comes s more k h.no_block some in omega arith)
+
+block_far : (s : List ℕ) → IsBlock s → most_head_bytes < length s → GoesOn s (Fault BadHead false)
+block_far s h long = too_many s h.no_blank (omega arith)
+    (λ more k some. let same : Some (length s) ≡ Some k = sym (h.block more) ∙ some in let is : length s ≡ k = cc in omega arith)
+
+short_line : (s : List ℕ) → is_empty_line s ≡ true → length s ≤ 2
+short_line s e = elim (or_cases _ _ e) [
+  | inl lf ↦ let is : s ≡ 10 ∷ [] = (bytes_eq-Decides s (10 ∷ [])).0 lf in let size = ap length is in omega arith
+  | inr crlf ↦ let is : s ≡ 13 ∷ 10 ∷ [] = (bytes_eq-Decides s (13 ∷ 10 ∷ [])).0 crlf in let size = ap length is in omega arith
+]
+
+-- a line that makes more bytes than a block may have
+pub past_limit : (part line : List ℕ) → IsPart part → IsLine line → most_head_bytes < length (part ++ line)
+    → GoesOn (part ++ line) (Fault BadHead false)
+past_limit part line h is long = go (is_empty_line (part ++ line)) (ends_in_empty_line (part ++ line)) refl refl
+  where
+    go : (blank ends : Bool) → is_empty_line (part ++ line) ≡ blank → ends_in_empty_line (part ++ line) ≡ ends → GoesOn (part ++ line) (Fault BadHead false)
+    go true ends e f = absurd (let short = short_line (part ++ line) e in omega arith)
+    go false true e f = block_far (part ++ line) (is_block (part ++ line) (grown part line h is) f) long
+    go false false e f = open_far (part ++ line) (is_open (part ++ line) (grown part line h is) e f) (omega arith)
+
+some_inj : {A : Type 0} (x y : A) → Some x ≡ Some y → x ≡ y
+some_inj x y e = cc
+
+-- a line that completes an item
+pub completed_item : (part line : List ℕ) (item : Item) → IsPart part → IsLine line → length (part ++ line) ≤ most_head_bytes
+    → is_empty_line (part ++ line) ≡ false → completes (part ++ line) ≡ Some item → GoesOn (part ++ line) item
+unfolding completes
+completed_item part line item h is fits no_blank done = go (ends_in_empty_line (part ++ line)) refl done
+  where
+    last : (b : Bool) → nat_le most_head_bytes (length (part ++ line)) ≡ b → IsOpen (part ++ line)
+        → cond b (Some (Fault BadHead false)) None ≡ Some item → GoesOn (part ++ line) item
+    last true e open_now done = subst (GoesOn (part ++ line)) (some_inj (Fault BadHead false) item done) (open_far (part ++ line) open_now (grind (arith, nat_tests)))
+    last false e open_now done = absurd (cc)
+
+    go : (ends : Bool) → ends_in_empty_line (part ++ line) ≡ ends
+        → cond ends (Some (judged (part ++ line))) (cond (nat_le most_head_bytes (length (part ++ line))) (Some (Fault BadHead false)) None) ≡ Some item
+        → GoesOn (part ++ line) item
+    go true e done = subst (GoesOn (part ++ line)) (some_inj (judged (part ++ line)) item done) (whole_block (part ++ line) (is_block (part ++ line) (grown part line h is) e) fits)
+    go false e done = last (nat_le most_head_bytes (length (part ++ line))) refl (is_open (part ++ line) (grown part line h is) no_blank e) done
+
+-- a line that completes nothing
+pub goes_on : (part line : List ℕ) → IsPart part → IsLine line
+    → is_empty_line (part ++ line) ≡ false → completes (part ++ line) ≡ None → IsPart (part ++ line)
+unfolding completes
+goes_on part line h is no_blank done = go (ends_in_empty_line (part ++ line)) refl done
+  where
+    last : (b : Bool) → nat_le most_head_bytes (length (part ++ line)) ≡ b → IsOpen (part ++ line)
+        → cond b (Some (Fault BadHead false)) None ≡ None → IsPart (part ++ line)
+    last true e open_now done = absurd (cc)
+    last false e open_now done = record { no_blank = open_now.no_blank; no_block = open_now.no_block; short = grind (arith, nat_tests) }
+
+    go : (ends : Bool) → ends_in_empty_line (part ++ line) ≡ ends
+        → cond ends (Some (judged (part ++ line))) (cond (nat_le most_head_bytes (length (part ++ line))) (Some (Fault BadHead false)) None) ≡ None
+        → IsPart (part ++ line)
+    go true e done = absurd (cc)
+    go false e done = last (nat_le most_head_bytes (length (part ++ line))) refl (is_open (part ++ line) (grown part line h is) no_blank e) done
+
+-- an empty line
+pub blank_goes : (s : List ℕ) → is_empty_line s ≡ true → (more : List ℕ) → (frame (s ++ more) ≡ frame more) × (rest (s ++ more) ≡ rest more)
+blank_goes s e more = elim (or_cases _ _ e) [
+  | inl lf ↦ let is : s ≡ 10 ∷ [] = (bytes_eq-Decides s (10 ∷ [])).0 lf in
+      (ap (λ (x : List ℕ). frame (x ++ more)) is ∙ frame_skips (10 ∷ more) more (skip_lf more), ap (λ (x : List ℕ). rest (x ++ more)) is ∙ rest_skips (10 ∷ more) more (skip_lf more))
+  | inr crlf ↦ let is : s ≡ 13 ∷ 10 ∷ [] = (bytes_eq-Decides s (13 ∷ 10 ∷ [])).0 crlf in
+      (ap (λ (x : List ℕ). frame (x ++ more)) is ∙ frame_skips (13 ∷ 10 ∷ more) more (skip_crlf more), ap (λ (x : List ℕ). rest (x ++ more)) is ∙ rest_skips (13 ∷ 10 ∷ more) more (skip_crlf more))
+]
+
+below : (n : ℕ) → n < most_head_bytes → nat_le most_head_bytes n ≡ false
+below n h = grind (arith, nat_tests)
+
+no_message_yet : (part : List ℕ) → IsPart part → first_message part ≡ None
+unfolding first_message
+no_message_yet part h = let short : nat_le most_head_bytes (length part) ≡ false = below (length part) h.short in rw (h.no_block, short) refl
+
+-- a part by itself completes nothing
+pub part_settled : (part : List ℕ) → IsPart part → IsSettled (part_of part)
+part_settled part h =
+    let none : first_message part ≡ None = no_message_yet part h in
+    record {
+      none = ap frame (append-nil part) ∙ frame_without part h.no_blank none;
+      same = ap rest (append-nil part) ∙ rest_without part h.no_blank none;
+    }
+
+pub closed_settled : IsSettled closed
+closed_settled = record { none = refl; same = refl }
+
+pub empty_part : IsPart []
+empty_part = record { no_blank = refl; no_block = refl; short = lit< tt }
+
+-- ---- in the words of the code
+
+pub settled_by : (ended : Bool) (part : List ℕ) (left : Left) → cond ended closed (part_of part) ≡ left → IsPart part → IsSettled left
+settled_by true part left e h = subst IsSettled e closed_settled
+settled_by false part left e h = subst IsSettled e (part_settled part h)
+
+-- one line more, in the words of the loop over a piece
+pub items_more : (old new : Left) (bytes line more : List ℕ) (before after found whole : List Item) → bytes ≡ line ++ more
+    → after ≡ before ++ found → frame_from old (line ++ more) ≡ found ++ frame_from new more
+    → before ++ frame_from old bytes ≡ whole → after ++ frame_from new more ≡ whole
+items_more old new bytes line more before after found whole parts pushed goes e =
+    ap (λ (x : List Item). x ++ frame_from new more) pushed ∙ append_assoc before found (frame_from new more)
+    ∙ ap (λ (x : List Item). before ++ x) (sym goes ∙ ap (frame_from old) (sym parts)) ∙ e
+
+pub left_more : (old new whole : Left) (bytes line more : List ℕ) → bytes ≡ line ++ more
+    → rest_from old (line ++ more) ≡ rest_from new more → rest_from old bytes ≡ whole → rest_from new more ≡ whole
+left_more old new whole bytes line more parts goes e = sym goes ∙ ap (rest_from old) (sym parts) ∙ e
+
+-- behind the last byte, or a closed connection
+pub nothing_more : (left : Left) (bytes : List ℕ) → IsSettled left → bytes ≡ [] → (frame_from left bytes ≡ []) × (rest_from left bytes ≡ left)
+nothing_more left bytes h e = (ap (frame_from left) e ∙ h.none, ap (rest_from left) e ∙ h.same)
+
+pub closed_more : (left : Left) (bytes : List ℕ) → is_closed left ≡ true → (frame_from left bytes ≡ []) × (rest_from left bytes ≡ left)
+closed_more closed bytes e = (refl, refl)
+closed_more (part_of part) bytes e = absurd (cc)
+
+open_view : (ended : Bool) (part : List ℕ) (left : Left) → cond ended closed (part_of part) ≡ left → is_closed left ≡ false
+    → (ended ≡ false) × (left ≡ part_of part)
+open_view true part left e is = absurd (let shut : is_closed left ≡ true = sym (ap is_closed e) in cc)
+open_view false part left e is = (refl, sym e)
+
+-- what a line makes of what was left over
+pub record Adds (was : Left) (line : List ℕ) (found : List Item) (next : Left) : Type 0 where
+  pub items : (more : List ℕ) → frame_from was (line ++ more) ≡ found ++ frame_from next more
+  pub left : (more : List ℕ) → rest_from was (line ++ more) ≡ rest_from next more
+
+adds : (part line : List ℕ) (found : List Item) (next : Left)
+    → ((more : List ℕ) → frame ((part ++ line) ++ more) ≡ found ++ frame_from next more)
+    → ((more : List ℕ) → rest ((part ++ line) ++ more) ≡ rest_from next more) → Adds (part_of part) line found next
+adds part line found next items left = record {
+  items = λ more. ap frame (sym (append_assoc part line more)) ∙ items more;
+  left = λ more. ap rest (sym (append_assoc part line more)) ∙ left more;
+}
+
+-- an item, behind which a new part begins or nothing comes
+pub adds_item : (ended closing : Bool) (part line dest : List ℕ) (left : Left) (item : Item)
+    → cond ended closed (part_of part) ≡ left → is_closed left ≡ false → dest ≡ [] → closing ≡ closes item
+    → GoesOn (part ++ line) item → Adds left line (item ∷ []) (cond closing closed (part_of dest))
+adds_item ended closing part line dest left item view is none same h =
+    let at = open_view ended part left view is in
+    rw (at.1, none, same) (adds part line (item ∷ []) (cond (closes item) closed (part_of []))
+    (λ more. h.items more ∙ goes_items (closes item) more) (λ more. h.left more ∙ goes_left (closes item) more))
+  where
+    goes_items : (c : Bool) (more : List ℕ) → item ∷ cond c [] (frame more) ≡ (item ∷ []) ++ frame_from (cond c closed (part_of [])) more
+    goes_items true more = refl
+    goes_items false more = refl
+
+    goes_left : (c : Bool) (more : List ℕ) → cond c closed (rest more) ≡ rest_from (cond c closed (part_of [])) more
+    goes_left true more = refl
+    goes_left false more = refl
+
+-- an empty line at the front
+pub adds_blank : (ended : Bool) (part line dest : List ℕ) (left : Left)
+    → cond ended closed (part_of part) ≡ left → is_closed left ≡ false → dest ≡ [] → is_empty_line (part ++ line) ≡ true
+    → Adds left line [] (cond ended closed (part_of dest))
+adds_blank ended part line dest left view is none blank =
+    let at = open_view ended part left view is in
+    rw (at.1, none, at.0) (adds part line [] (part_of []) (λ more. (blank_goes (part ++ line) blank more).0) (λ more. (blank_goes (part ++ line) blank more).1))
+
+-- a line that completes nothing
+pub adds_nothing : (ended : Bool) (part line dest : List ℕ) (left : Left)
+    → cond ended closed (part_of part) ≡ left → is_closed left ≡ false → dest ≡ part ++ line
+    → Adds left line [] (cond ended closed (part_of dest))
+adds_nothing ended part line dest left view is grown =
+    let at = open_view ended part left view is in
+    rw (at.1, grown, at.0) (adds part line [] (part_of (part ++ line)) (λ more. refl) (λ more. refl))
+
+pub closed_view : (ended : Bool) (part : List ℕ) (left : Left) → cond ended closed (part_of part) ≡ left → ended ≡ is_closed left
+closed_view true part left e = ap is_closed e
+closed_view false part left e = ap is_closed e

@@ -1,0 +1,100 @@
+-- What a head block comes to: a request, or a framing fault (RFC 9112, sections 3.2, 6.1, 6.2 and 9.3).
+use Rattle.std.specs.Prelude.{ℕ, Bool, true, false, ◌&&◌, ◌||◌, not, List, [], length, map, count_by, if◌then◌else◌, ◌==◌, nat_lt, nat_le, Option, Some, None, bytes_eq, codes}
+use Rattle.std.specs.List.{list_any, slice_split}
+use Rattle.std.specs.Char.{to_ascii_lowercase}
+use Rattle.httparse.specs.Ascii.{comma}
+use Rattle.httparse.specs.Grammar.{RequestHead, field_value, trim_ows}
+use Rattle.httparse.specs.Grammar as grammar
+use Rattle.http_edge.specs.Block.{head_of}
+use Rattle.http_edge.specs.declared.field.Field.{Field}
+use Rattle.http_edge.specs.declared.item.Head.{Head}
+use Rattle.http_edge.specs.declared.item.FramingFault.{FramingFault}
+use Rattle.http_edge.specs.declared.item.FramingFault.TheVariants.{BadHead, BadHost, TransferCoding, BadLength, TooLong}
+use Rattle.http_edge.specs.declared.item.Item.{Item}
+use Rattle.http_edge.specs.declared.item.Item.TheVariants.{Request, Fault}
+
+-- the number of a framing fault
+abbrev pub fault_number : FramingFault → ℕ
+fault_number BadHead = 19
+fault_number BadHost = 20
+fault_number TransferCoding = 21
+fault_number BadLength = 22
+fault_number TooLong = 23
+
+-- the connection closes after the item's answer
+abbrev pub closes : Item → Bool
+closes (Request head body close) = close
+closes (Fault fault head_only) = true
+
+-- ---- the parts of a head
+
+-- a field of a name and a value
+abbrev pub field_from : List ℕ × List ℕ → Field
+field_from parts = record { name = parts.0; value = parts.1 }
+
+-- a field's name, and its value without the white space around it
+abbrev pub field_of : grammar.Field → Field
+field_of f = field_from (f.name, field_value f)
+
+abbrev pub head_parts : RequestHead → Head
+head_parts h = record { method = h.method; target = h.target; fields = map field_of h.fields }
+
+-- equal but for the case of ASCII letters
+abbrev pub eq_ignore_case : List ℕ → List ℕ → Bool
+eq_ignore_case a b = bytes_eq (map to_ascii_lowercase a) (map to_ascii_lowercase b)
+
+-- how many fields have the name, in any case
+unfoldable pub count_named : List ℕ → List Field → ℕ
+count_named name fields = count_by (λ f. eq_ignore_case f.name name) fields
+
+-- ---- the checks, in their order
+
+-- HTTP/1.1 has just one Host field, HTTP/1.0 at most one; its value isn't looked at
+abbrev pub has_good_hosts : ℕ → ℕ → Bool
+has_good_hosts minor hosts = nat_le hosts 1 && (minor == 0 || nat_le 1 hosts)
+
+abbrev pub is_comma : ℕ → Bool
+is_comma b = b == comma
+
+-- one of the pieces between commas, cut of the spaces and tabs at its ends, is the token, in any case
+unfoldable pub lists_token : List ℕ → List ℕ → Bool
+lists_token token value = list_any (λ piece. eq_ignore_case (trim_ows piece) token) (slice_split is_comma value)
+
+-- a Connection field that lists `close`
+unfoldable pub asks_close : Field → Bool
+asks_close f = eq_ignore_case f.name (codes "connection") && lists_token (codes "close") f.value
+
+-- the first check that a head with this minor version fails; a message with a body isn't taken
+unfoldable pub fault_of : Head → ℕ → Option FramingFault
+fault_of head minor =
+    if not (has_good_hosts minor (count_named (codes "host") head.fields)) then Some BadHost
+    else (if nat_lt 0 (count_named (codes "transfer-encoding") head.fields)
+    || nat_lt 0 (count_named (codes "content-length") head.fields) then Some TransferCoding
+    else None)
+
+-- HTTP/1.0 closes the connection, and HTTP/1.1 where a field asks for it
+abbrev pub closes_after : Head → ℕ → Bool
+closes_after head minor = minor == 0 || list_any asks_close head.fields
+
+abbrev pub is_head_only : Head → Bool
+is_head_only head = bytes_eq head.method (codes "HEAD")
+
+-- the item of a head with this minor version
+abbrev pub checked : Head → ℕ → Option FramingFault → Item
+checked head minor None = Request head [] (closes_after head minor)
+checked head minor (Some fault) = Fault fault (is_head_only head)
+
+-- ---- a head block
+
+-- the parts of a head with at most 64 fields, and its minor version
+abbrev pub within_limit : Option RequestHead → Option (Head × ℕ)
+within_limit None = None
+within_limit (Some h) = if nat_le (length h.fields) 64 then Some (head_parts h, h.minor) else None
+
+abbrev pub item_of : Option (Head × ℕ) → Item
+item_of None = Fault BadHead false
+item_of (Some found) = checked found.0 found.1 (fault_of found.0 found.1)
+
+-- the item of a head block
+unfoldable pub judged : List ℕ → Item
+judged block = item_of (within_limit (head_of block))

@@ -1,0 +1,78 @@
+//! What a connection's bytes hold.
+ghost use Rattle.std.specs.Prelude.{◌≡◌};
+ghost use Rattle.http_edge.specs.Judge.{fault_number, closes};
+
+use crate::bytes::Bytes;
+use crate::field::Fields;
+use thiserror::Error;
+
+/// The head of a request (RFC 9112, section 2.1): its method, its target as it was written, and its fields in order.
+#[derive(Debug, Drop)]
+pub struct Head {
+    pub method: Bytes,
+    pub target: Bytes,
+    pub fields: Fields,
+}
+
+/// Why a connection's bytes are no request. Each fault ends its connection.
+#[derive(Clone, Copy, Debug, PartialEq, Eq, Error)]
+pub enum FramingFault {
+    /// No request head with at most 64 fields, or 16,384 bytes without the end of one.
+    #[error("bad request head")]
+    BadHead = 19,
+    /// HTTP/1.1 without just one Host field, or HTTP/1.0 with more than one (RFC 9112, section 3.2).
+    #[error("bad Host field")]
+    BadHost = 20,
+    /// A Transfer-Encoding or Content-Length field: messages with a body aren't taken.
+    #[error("transfer coding not supported")]
+    TransferCoding = 21,
+    /// A Content-Length field that isn't one number. Not given while messages with a body aren't taken.
+    #[error("bad Content-Length field")]
+    BadLength = 22,
+    /// A body that is too long. Not given while messages with a body aren't taken.
+    #[error("body too long")]
+    TooLong = 23,
+}
+
+/// A request, or the fault that ends a connection.
+#[derive(Debug, Drop)]
+pub enum Item {
+    /// A request with its body. `close` says that its connection closes after the answer.
+    Request {
+        head: Head,
+        body: Bytes,
+        close: bool,
+    },
+    /// A fault. `head_only` says that its answer has no body, since the head was a HEAD request's.
+    Fault {
+        fault: FramingFault,
+        head_only: bool,
+    },
+}
+
+impl FramingFault {
+    /// The number of the fault, 19 to 23.
+    pub fn number(self) -> u8
+        ensures { result ≡ fault_number self }
+    {
+        match self {
+            FramingFault::BadHead => 19,
+            FramingFault::BadHost => 20,
+            FramingFault::TransferCoding => 21,
+            FramingFault::BadLength => 22,
+            FramingFault::TooLong => 23,
+        }
+    }
+}
+
+impl Item {
+    /// Whether the connection closes after the item's answer.
+    pub fn closes(&self) -> bool
+        ensures { result ≡ closes self.now }
+    {
+        match self {
+            Item::Request { close, .. } => *close,
+            Item::Fault { .. } => true,
+        }
+    }
+}

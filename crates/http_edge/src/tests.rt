@@ -1,0 +1,330 @@
+//! What the framing gives on known bytes, and how replies look.
+use crate::{
+    Bytes, Conn, Field, Fields, FramingFault, Item, Reply, Status, head_is_of_the_grammar,
+    left_over, pieces_join, render, requests_are_read,
+};
+use std::test::Fail;
+
+/// An item as a short text: method, target and number of fields of a request and `+`, or `.` where it closes; or the
+/// number of a fault, and `h` where its answer is a head alone.
+fn put_item(rt: &HostRuntime, out: &mut Vec<u8>, item: &Item) -> Result<(), Fail> {
+    match item {
+        Item::Request { head, body, close } => {
+            out.extend_from_slice(head.method.as_slice())?;
+            out.extend_from_slice(b" ")?;
+            out.extend_from_slice(head.target.as_slice())?;
+            let count = head.fields.as_slice().len().to_string(rt.alloc())?;
+            out.extend_from_slice(b" ")?;
+            out.extend_from_slice(count.as_bytes())?;
+            out.extend_from_slice(body.as_slice())?;
+            out.extend_from_slice(if *close { b"." } else { b"+" })?;
+        }
+        Item::Fault { fault, head_only } => {
+            let number = fault.number().to_string(rt.alloc())?;
+            out.extend_from_slice(number.as_bytes())?;
+            out.extend_from_slice(if *head_only { b"h" } else { b"" })?;
+        }
+    }
+    Ok(())
+}
+
+/// Feeds one piece, and puts its items behind the others.
+fn put_piece(
+    rt: &HostRuntime,
+    conn: &mut Conn,
+    piece: &[u8],
+    out: &mut Vec<u8>,
+) -> Result<(), Fail> {
+    let items = conn.feed(piece)?;
+    for item in items.iter() {
+        put_item(rt, out, item)?;
+    }
+    Ok(())
+}
+
+/// The items of a text in pieces of so many bytes, and `!` where the connection is closed behind it.
+fn framed(rt: &HostRuntime, text: &[u8], step: usize) -> Result<Vec<u8>, Fail> {
+    let mut out = Vec::new(rt.alloc());
+    let mut conn = Conn::new(rt.alloc());
+    for piece in text.chunks(step.max(1)) {
+        put_piece(rt, &mut conn, piece, &mut out)?;
+    }
+    out.extend_from_slice(if conn.closed() { b"!" } else { b"" })?;
+    Ok(out)
+}
+
+/// The items of a text in two pieces.
+fn framed_in_two(rt: &HostRuntime, front: &[u8], back: &[u8]) -> Result<Vec<u8>, Fail> {
+    let mut out = Vec::new(rt.alloc());
+    let mut conn = Conn::new(rt.alloc());
+    put_piece(rt, &mut conn, front, &mut out)?;
+    put_piece(rt, &mut conn, b"", &mut out)?;
+    put_piece(rt, &mut conn, back, &mut out)?;
+    out.extend_from_slice(if conn.closed() { b"!" } else { b"" })?;
+    Ok(out)
+}
+
+#[test]
+fn any_cut_gives_the_same_items(rt: HostRuntime) -> Result<(), Fail> {
+    let text =
+        b"GET /uri/URI:LIT:my HTTP/1.1\r\nHost: g\r\n\r\nGET /b HTTP/1.1\nHost:g\nA: b\n\n\r\nHEAD /c HTTP/1.0\r\n\r\nGET /d HTTP/1.1\r\nHost: g\r\n\r\n";
+    let want = b"GET /uri/URI:LIT:my 1+GET /b 2+HEAD /c 0.!";
+    for step in 1..200 {
+        assert_eq!(rt;
+            framed(&rt, text, step)?.as_slice(),
+            want.as_slice(),
+            "step {step}"
+        );
+    }
+    for at in 0..text.len() {
+        let (front, back) = text.split_at(at);
+        assert_eq!(rt;
+            framed_in_two(&rt, front, back)?.as_slice(),
+            want.as_slice(),
+            "cut at {at}"
+        );
+    }
+    Ok(())
+}
+
+#[test]
+fn heads_are_taken_or_refused(rt: HostRuntime) -> Result<(), Fail> {
+    let table: [(&[u8], &[u8]); 24] = [
+        (b"GET / HTTP/1.1\r\nHost: g\r\n\r\n", b"GET / 1+"),
+        (b"\r\n\n\r\nGET / HTTP/1.1\r\nHost: g\r\n\r\n", b"GET / 1+"),
+        (b"\rGET / HTTP/1.1\r\nHost: g\r\n\r\n", b"19!"),
+        (b"\r\r\nGET / HTTP/1.1\r\nHost: g\r\n\r\n", b"19!"),
+        (b"GET / HTTP/1.1\r\nHost: g\r\n\r", b""),
+        (b"GET / HTTP/1.1\r\nHost: g\r\n\r\r\n\r\n", b"19!"),
+        (b"GET / HTTP/1.1\r\n\r\n", b"20!"),
+        (b"HEAD / HTTP/1.1\r\n\r\n", b"20h!"),
+        (b"head / HTTP/1.1\r\n\r\n", b"20!"),
+        (b"GET / HTTP/1.1\r\nHost: a\r\nhOST: a\r\n\r\n", b"20!"),
+        (b"GET / HTTP/1.0\r\n\r\n", b"GET / 0.!"),
+        (b"GET / HTTP/1.0\r\nHost: a\r\n\r\n", b"GET / 1.!"),
+        (b"GET / HTTP/1.0\r\nHost: a\r\nHost: a\r\n\r\n", b"20!"),
+        (
+            b"GET / HTTP/1.1\r\nHost: g\r\nContent-Length: 0\r\n\r\n",
+            b"21!",
+        ),
+        (
+            b"HEAD / HTTP/1.1\r\nHost: g\r\nTransfer-Encoding: chunked\r\n\r\n",
+            b"21h!",
+        ),
+        (b"GET / HTTP/1.1\r\nContent-Length: 0\r\n\r\n", b"20!"),
+        (b"GET / HTTP/1.2\r\nHost: g\r\n\r\n", b"19!"),
+        (b"HEAD /\r\n\r\n", b"19!"),
+        (b"GET /\xff HTTP/1.1\r\nHost: g\r\n\r\n", b"19!"),
+        (
+            b"GET / HTTP/1.1\r\nHost: g\r\nConnection: close\r\n\r\nGET",
+            b"GET / 2.!",
+        ),
+        (
+            b"GET / HTTP/1.1\r\nHost: g\r\nconnection: x ,\tCLOSE\r\n\r\n",
+            b"GET / 2.!",
+        ),
+        (
+            b"GET / HTTP/1.1\r\nHost: g\r\nConnection: keep\r\nConnection: close\r\n\r\n",
+            b"GET / 3.!",
+        ),
+        (
+            b"GET / HTTP/1.1\r\nHost: g\r\nConnection: closed, clo se\r\n\r\n",
+            b"GET / 2+",
+        ),
+        (
+            b"GET / HTTP/1.1\r\nHost: g\r\nA: close\r\n\r\n",
+            b"GET / 2+",
+        ),
+    ];
+    for (text, want) in table {
+        assert_eq!(rt; framed(&rt, text, 1000)?.as_slice(), want, "{text:?}");
+        assert_eq!(rt; framed(&rt, text, 1)?.as_slice(), want, "{text:?} by bytes");
+    }
+    Ok(())
+}
+
+/// A head with so many fields beside Host.
+fn with_fields(rt: &HostRuntime, count: usize) -> Result<Vec<u8>, Fail> {
+    let mut text = Vec::new(rt.alloc());
+    text.extend_from_slice(b"GET / HTTP/1.1\r\nHost: g\r\n")?;
+    for _ in 0..count {
+        text.extend_from_slice(b"A: b\r\n")?;
+    }
+    text.extend_from_slice(b"\r\n")?;
+    Ok(text)
+}
+
+#[test]
+fn a_head_has_64_fields_at_most(rt: HostRuntime) -> Result<(), Fail> {
+    assert_eq!(rt;
+        framed(&rt, &with_fields(&rt, 63)?, 100)?.as_slice(),
+        b"GET / 64+".as_slice()
+    );
+    assert_eq!(rt;
+        framed(&rt, &with_fields(&rt, 64)?, 100)?.as_slice(),
+        b"19!".as_slice()
+    );
+    Ok(())
+}
+
+/// A head of 32 bytes and so many more.
+fn of_length(rt: &HostRuntime, more: usize) -> Result<Vec<u8>, Fail> {
+    let mut text = Vec::new(rt.alloc());
+    text.extend_from_slice(b"GET / HTTP/1.1\r\nHost: g\r\nA: ")?;
+    for _ in 0..more {
+        text.extend_from_slice(b"a")?;
+    }
+    text.extend_from_slice(b"\r\n\r\n")?;
+    Ok(text)
+}
+
+#[test]
+fn a_head_has_16384_bytes_at_most(rt: HostRuntime) -> Result<(), Fail> {
+    let longest = of_length(&rt, 16352)?;
+    assert_eq!(rt; longest.len(), 16384);
+    let longer = of_length(&rt, 16353)?;
+    for step in [1, 1000, 16383, 16384, 16385] {
+        assert_eq!(rt;
+            framed(&rt, &longest, step)?.as_slice(),
+            b"GET / 2+".as_slice(),
+            "step {step}"
+        );
+        assert_eq!(rt;
+            framed(&rt, &longer, step)?.as_slice(),
+            b"19!".as_slice(),
+            "step {step}"
+        );
+    }
+    Ok(())
+}
+
+#[test]
+fn a_head_without_an_end_is_a_fault_at_16384_bytes(rt: HostRuntime) -> Result<(), Fail> {
+    let mut lines = Vec::new(rt.alloc());
+    for _ in 0..8192 {
+        lines.extend_from_slice(b"a\n")?;
+    }
+    let (short, _) = lines.as_slice().split_at(16383.min(lines.len()));
+    let mut behind = Vec::new(rt.alloc());
+    behind.extend_from_slice(b"\r\n\n")?;
+    behind.extend_from_slice(short)?;
+    assert_eq!(rt; framed(&rt, short, 1000)?.as_slice(), b"".as_slice());
+    assert_eq!(rt;
+        framed(&rt, &behind, 1000)?.as_slice(),
+        b"".as_slice(),
+        "empty lines don't count"
+    );
+    assert_eq!(rt; framed(&rt, &lines, 1000)?.as_slice(), b"19!".as_slice());
+    assert_eq!(rt; framed(&rt, &lines, 20000)?.as_slice(), b"19!".as_slice());
+    Ok(())
+}
+
+#[test]
+fn a_request_has_its_parts(rt: HostRuntime) -> Result<(), Fail> {
+    let mut conn = Conn::new(rt.alloc());
+    let items = conn.feed(b"GET /a?b HTTP/1.1\r\nHost: g\r\nX-Y: \t c d \r\n\r\n")?;
+    assert_eq!(rt; items.len(), 1);
+    for item in items {
+        assert!(rt; !item.closes());
+        let Item::Request { head, body, close } = item else {
+            return Err(Fail::from("a fault"));
+        };
+        assert!(rt; !close);
+        assert_eq!(rt; head.method.as_slice(), b"GET".as_slice());
+        assert_eq!(rt; head.target.into_vec().as_slice(), b"/a?b".as_slice());
+        assert_eq!(rt; body.as_slice().len(), 0);
+        let fields = head.fields.into_vec();
+        assert_eq!(rt; fields.len(), 2);
+        assert_eq!(rt; fields[1].name.as_slice(), b"X-Y".as_slice());
+        assert_eq!(rt; fields[1].value.as_slice(), b"c d".as_slice());
+    }
+    Ok(())
+}
+
+#[test]
+fn faults_have_their_numbers_and_words(rt: HostRuntime) -> Result<(), Fail> {
+    let table = [
+        (FramingFault::BadHead, 19, "bad request head"),
+        (FramingFault::BadHost, 20, "bad Host field"),
+        (
+            FramingFault::TransferCoding,
+            21,
+            "transfer coding not supported",
+        ),
+        (FramingFault::BadLength, 22, "bad Content-Length field"),
+        (FramingFault::TooLong, 23, "body too long"),
+    ];
+    for (fault, number, words) in table {
+        assert_eq!(rt; fault.number(), number);
+        assert_eq!(rt; fault.to_string(rt.alloc())?.as_str(), words);
+    }
+    Ok(())
+}
+
+/// A reply with these fields and the body `hi`.
+fn reply_with(rt: &HostRuntime, status: Status, fields: Fields) -> Result<Reply, Fail> {
+    let body = Bytes::from_slice(rt.alloc(), b"hi")?;
+    Ok(Reply {
+        status,
+        fields,
+        body,
+    })
+}
+
+#[test]
+fn a_reply_is_rendered_to_the_byte(rt: HostRuntime) -> Result<(), Fail> {
+    let mut fields = Fields::new(rt.alloc());
+    fields.push(Field::from_slices(rt.alloc(), b"Content-Type", b"text/plain")?)?;
+    fields.push(Field::from_slices(rt.alloc(), b"Allow", b"POST, PUT")?)?;
+    let reply = reply_with(&rt, Status::MethodNotAllowed, fields)?;
+    assert_eq!(rt;
+        render(rt.alloc(), &reply, false, true)?.as_slice(),
+        b"HTTP/1.1 405 Method Not Allowed\r\nContent-Type: text/plain\r\nContent-Length: 2\r\nAllow: POST, PUT\r\nConnection: close\r\n\r\nhi".as_slice()
+    );
+    assert_eq!(rt;
+        render(rt.alloc(), &reply, true, false)?.as_slice(),
+        b"HTTP/1.1 405 Method Not Allowed\r\nContent-Type: text/plain\r\nContent-Length: 2\r\nAllow: POST, PUT\r\n\r\n".as_slice()
+    );
+    let bare = reply_with(&rt, Status::Ok, Fields::from_vec(Vec::new(rt.alloc())))?;
+    assert_eq!(rt;
+        render(rt.alloc(), &bare, false, false)?.as_slice(),
+        b"HTTP/1.1 200 OK\r\nContent-Length: 2\r\n\r\nhi".as_slice()
+    );
+    Ok(())
+}
+
+#[test]
+fn each_status_has_its_phrase(rt: HostRuntime) -> Result<(), Fail> {
+    let table: [(Status, &[u8]); 10] = [
+        (Status::Ok, b"200 OK"),
+        (Status::PartialContent, b"206 Partial Content"),
+        (Status::BadRequest, b"400 Bad Request"),
+        (Status::NotFound, b"404 Not Found"),
+        (Status::MethodNotAllowed, b"405 Method Not Allowed"),
+        (Status::Gone, b"410 Gone"),
+        (Status::ContentTooLarge, b"413 Content Too Large"),
+        (Status::RangeNotSatisfiable, b"416 Range Not Satisfiable"),
+        (Status::NotImplemented, b"501 Not Implemented"),
+        (Status::ServiceUnavailable, b"503 Service Unavailable"),
+    ];
+    for (status, text) in table {
+        let mut want = Vec::new(rt.alloc());
+        want.extend_from_slice(b"HTTP/1.1 ")?;
+        want.extend_from_slice(text)?;
+        want.extend_from_slice(b"\r\nContent-Length: 2\r\n\r\nhi")?;
+        let reply = reply_with(&rt, status, Fields::new(rt.alloc()))?;
+        assert_eq!(rt;
+            render(rt.alloc(), &reply, false, false)?.as_slice(),
+            want.as_slice()
+        );
+    }
+    Ok(())
+}
+
+#[test]
+fn the_laws_are_called() {
+    pieces_join();
+    left_over();
+    head_is_of_the_grammar();
+    requests_are_read();
+}
