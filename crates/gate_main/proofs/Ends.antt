@@ -104,9 +104,9 @@ module _ (r0 r1 r2 w0 w1 : Option (List ℕ)) (gateway : Option State) (number s
       let first = long_first size y long.part.bytes long.part.ended s.within long.begins long.over in
       answers x w0 w1 s.text (Some TooLong)
       (comes x y is
-          ∙ ap (λ ls. behind s.text (told number size s.run ls)) first.lines
-          ∙ ap (λ t. behind s.text (told_at t (length first.line.bytes == 0) (outcome number s.run first.line.bytes) s.run (λ after. told (number + 1) (size + length (piece_of first.line)) after first.more))) first.over
-          ∙ ap (λ l. record { text = l; fault = Some TooLong }) (append-nil s.text))
+      ∙ ap (λ ls. behind s.text (told number size s.run ls)) first.lines
+      ∙ ap (λ t. behind s.text (told_at t (length first.line.bytes == 0) (outcome number s.run first.line.bytes) s.run (λ after. told (number + 1) (size + length (piece_of first.line)) after first.more))) first.over
+      ∙ ap (λ l. record { text = l; fault = Some TooLong }) (append-nil s.text))
       s.written
 
   pub ends_unread : (fault : ScriptFault) (line : List ℕ) → LineReads size r1 r2 (Err fault) line → Both r0 r2 w0 w1 (Err fault)
@@ -131,11 +131,14 @@ module _ (r0 r1 r2 w0 w1 : Option (List ℕ)) (gateway : Option State) (number s
       nothing (b ∷ line) none = absurd (omega arith)
 
   pub ends_empty : (line : List ℕ) → ReadsLine size r1 r2 (record { bytes = line; ended = false }) → (length line == 0) ≡ true → Both r0 r2 w0 w1 (Ok tt)
-  ends_empty line reads empty =
-      ((with_line r0 r1 r2 s.done (record { bytes = line; ended = false }) (λ script. Answers script w0 w1 None) s.taken reads.taken reads.last
+  ends_empty line reads empty = (
+    (
+      with_line r0 r1 r2 s.done (record { bytes = line; ended = false }) (λ script. Answers script w0 w1 None) s.taken reads.taken reads.last
           (λ x z is last. empty_end line x z empty is (last refl)),
-        at_end r0 r1 r2 s.done s.taken (reads.last refl)),
-      begun)
+      at_end r0 r1 r2 s.done s.taken (reads.last refl),
+    ),
+    begun,
+  )
 
   -- ---- a line was carried out
 
@@ -143,7 +146,7 @@ module _ (r0 r1 r2 w0 w1 : Option (List ℕ)) (gateway : Option State) (number s
     line_comes : (x z : List ℕ) → x ≡ s.done ++ (piece_of (record { bytes = line; ended = ended }) ++ z) → (ended ≡ false → z ≡ [])
         → written_by x
         ≡ behind s.text (told_with (outcome number s.run line).text (outcome number s.run line).next
-            (λ after. told (number + 1) (size + length (piece_of (record { bytes = line; ended = ended }))) after (tail_lines ended z)))
+        (λ after. told (number + 1) (size + length (piece_of (record { bytes = line; ended = ended }))) after (tail_lines ended z)))
     line_comes x z is last =
         comes x (piece_of (record { bytes = line; ended = ended }) ++ z) is
         ∙ ap (λ ls. behind s.text (told number size s.run ls)) (lines_at line z ended reads.lacks (not_zero (length line) some) last)
@@ -155,7 +158,7 @@ module _ (r0 r1 r2 w0 w1 : Option (List ℕ)) (gateway : Option State) (number s
         let o = outcome number s.run line in
         answers x w0 w2 (s.text ++ o.text) (Some fault)
         (line_comes x z is last
-            ∙ ap (λ n. behind s.text (told_with o.text n (λ after. told (number + 1) (size + length (piece_of (record { bytes = line; ended = ended }))) after (tail_lines ended z)))) next)
+        ∙ ap (λ n. behind s.text (told_with o.text n (λ after. told (number + 1) (size + length (piece_of (record { bytes = line; ended = ended }))) after (tail_lines ended z)))) next)
         (Appends-trans w0 w1 w2 s.text o.text s.written written)
 
     part_comes : (n : ℕ) → Appends w1 w2 (take n (outcome number s.run line).text) → (x z : List ℕ) → x ≡ s.done ++ (piece_of (record { bytes = line; ended = ended }) ++ z) → (ended ≡ false → z ≡ [])
@@ -184,9 +187,10 @@ module _ (r0 r1 r2 w0 w1 : Option (List ℕ)) (gateway : Option State) (number s
         (is, whole_line (λ script. WritesBeginning script w0 w2) (λ x z at last. beginning x w0 w2 (Some (BadLine n)) (fault_comes (BadLine n) runs.0 runs.1 x z at last)))
     ends_line after ReadFailed runs = absurd runs
     ends_line after WriteFailed runs = (tt, whole_line (λ script. WritesBeginning script w0 w2) (part_comes runs.0 runs.1))
-    ends_line after NoMemory runs =
-        (stops w2 IsOneLine (piece_of (record { bytes = line; ended = ended })) reads.taken (one_line line ended reads.lacks) (nothing_written runs),
-        whole_line (λ script. WritesBeginning script w0 w2) (part_comes 0 runs))
+    ends_line after NoMemory runs = (
+      stops w2 IsOneLine (piece_of (record { bytes = line; ended = ended })) reads.taken (one_line line ended reads.lacks) (nothing_written runs),
+      whole_line (λ script. WritesBeginning script w0 w2) (part_comes 0 runs),
+    )
     ends_line after TooLong runs = absurd runs
 
   -- the last line was answered
@@ -196,14 +200,17 @@ module _ (r0 r1 r2 w0 w1 : Option (List ℕ)) (gateway : Option State) (number s
       let o = outcome number s.run line in
       answers x w0 w2 (s.text ++ o.text) None
       (line_comes w2 line false reads some x z is last
-          ∙ ap (λ n. behind s.text (told_with o.text n (λ run. told (number + 1) (size + length (piece_of (record { bytes = line; ended = false }))) run []))) goes.next
-          ∙ ap (λ l. record { text = s.text ++ l; fault = None }) (append-nil o.text))
+      ∙ ap (λ n. behind s.text (told_with o.text n (λ run. told (number + 1) (size + length (piece_of (record { bytes = line; ended = false }))) run []))) goes.next
+      ∙ ap (λ l. record { text = s.text ++ l; fault = None }) (append-nil o.text))
       (Appends-trans w0 w1 w2 s.text o.text s.written goes.written)
 
   pub ends_last : (w2 : Option (List ℕ)) (after : Option State) (line : List ℕ) → ReadsLine size r1 r2 (record { bytes = line; ended = false }) → (length line == 0) ≡ false
       → GoesOn (outcome number s.run line) after w1 w2 → Both r0 r2 w0 w2 (Ok tt)
-  ends_last w2 after line reads some goes =
-      ((with_line r0 r1 r2 s.done (record { bytes = line; ended = false }) (λ script. Answers script w0 w2 None) s.taken reads.taken reads.last (last_comes w2 after line reads some goes),
-        at_end r0 r1 r2 s.done s.taken (reads.last refl)),
-      with_line r0 r1 r2 s.done (record { bytes = line; ended = false }) (λ script. WritesBeginning script w0 w2) s.taken reads.taken reads.last
-          (λ x z is last. beginning x w0 w2 None (last_comes w2 after line reads some goes x z is last)))
+  ends_last w2 after line reads some goes = (
+    (
+      with_line r0 r1 r2 s.done (record { bytes = line; ended = false }) (λ script. Answers script w0 w2 None) s.taken reads.taken reads.last (last_comes w2 after line reads some goes),
+      at_end r0 r1 r2 s.done s.taken (reads.last refl),
+    ),
+    with_line r0 r1 r2 s.done (record { bytes = line; ended = false }) (λ script. WritesBeginning script w0 w2) s.taken reads.taken reads.last
+        (λ x z is last. beginning x w0 w2 None (last_comes w2 after line reads some goes x z is last)),
+  )

@@ -28,9 +28,10 @@ read_as most number word false u is within some = absurd (no some)
 word_of : (most number : ℕ) (word : List ℕ) → most < 2 ^ 64 → number_to most word ≡ Some number → (number ≤ most) × (word ≡ decimal number)
 word_of most number word fits some =
     let parts = read_as most number word (is_decimal word) (nat_le (digits_value 10 word) most) refl refl some in
-    let within : digits_value 10 word ≤ most = le parts.1 in
-    (subst (λ n. n ≤ most) parts.2 within,
-      sym (decimal-digits_value digits word (all_digits word parts.0) (not_empty word parts.0) (alone word parts.0) (omega arith)) ∙ ap decimal parts.2)
+    let within : digits_value 10 word ≤ most = le parts.1 in (
+      subst (λ n. n ≤ most) parts.2 within,
+      sym (decimal-digits_value digits word (all_digits word parts.0) (not_empty word parts.0) (alone word parts.0) (omega arith)) ∙ ap decimal parts.2,
+    )
   where
     le : {n m : ℕ} → nat_le n m ≡ true → n ≤ m
     le h = grind (arith, nat_tests)

@@ -114,5 +114,5 @@ module _ (r0 r1 r2 w0 w1 : Option (List ℕ)) (gateway : Option State) (number s
       let o = outcome number s.run line in
       goes_on w2 after line o.text (Some goes.events) reads
       (λ lines. told_some number size s.run (record { bytes = line; ended = true }) lines reads.within some
-          ∙ ap (λ next. told_with o.text next (λ run. told (number + 1) (size + length (piece_of (record { bytes = line; ended = true }))) run lines)) goes.next)
+      ∙ ap (λ next. told_with o.text next (λ run. told (number + 1) (size + length (piece_of (record { bytes = line; ended = true }))) run lines)) goes.next)
       goes.came goes.written

@@ -38,8 +38,8 @@ secret_of word = if bytes_eq word (codes "-") then Some [] else (if length word 
 abbrev pub grid_of : List (List ℕ) → Option Command
 grid_of (k ∷ n ∷ servers ∷ room ∷ secret ∷ []) =
     option_and_then (λ k. option_and_then (λ n. option_and_then (λ servers. option_and_then (λ room. option_map (λ secret.
-        GridLine (record { k = k; n = n; servers = servers; room = room; secret = secret }))
-        (secret_of secret)) (long_number room)) (servers_of servers)) (short_number n)) (short_number k)
+    GridLine (record { k = k; n = n; servers = servers; room = room; secret = secret }))
+    (secret_of secret)) (long_number room)) (servers_of servers)) (short_number n)) (short_number k)
 grid_of arguments = None
 
 -- open ID

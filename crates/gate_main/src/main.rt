@@ -11,16 +11,14 @@ mod number;
 mod piece;
 mod reply;
 mod script;
-mod text;
-mod writing;
-
 #[cfg(test)]
 mod tests;
+mod text;
+mod writing;
 
 pub use fault::ScriptFault;
 pub use laws::{lines_join_to_the_script, numbers_have_one_word, texts_are_read_back};
 pub use script::run_script;
-
 use std::io::{BufReader, BufWriter};
 use std::process::ExitCode;
 use std::rt::Env;

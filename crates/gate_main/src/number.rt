@@ -25,9 +25,7 @@ pub fn read_number(word: &[u8], most: u64) -> Option<u64>
 fn is_decimal_word(word: &[u8]) -> bool
     ensures { result ≡ is_decimal word.now }
 {
-    is_all_digits(word)
-        && !word.is_empty()
-        && (word.len() == 1 || word[0] != b'0')
+    is_all_digits(word) && !word.is_empty() && (word.len() == 1 || word[0] != b'0')
 }
 
 fn is_all_digits(word: &[u8]) -> bool

@@ -147,9 +147,15 @@ bytes HTTP/1.1 400 Bad Request\\r\\nContent-Type: text/plain; charset=utf-8\\r\\
 fn a_head_that_does_not_end_is_refused_at_16384_bytes(rt: HostRuntime) -> Result<(), Fail> {
     for (count, wanted) in [
         (16_383u32, b"ok\nok\nok\nbytes \n".as_slice()),
-        (16_384u32, b"ok\nok\nok\nbytes HTTP/1.1 400 Bad Request\\r\\nContent-Type: text/plain; charset=utf-8\\r\\nContent-Length: 12\\r\\nConnection: close\\r\\n\\r\\nbad request\\n\n".as_slice()),
+        (
+            16_384u32,
+            b"ok\nok\nok\nbytes HTTP/1.1 400 Bad Request\\r\\nContent-Type: text/plain; charset=utf-8\\r\\nContent-Length: 12\\r\\nConnection: close\\r\\n\\r\\nbad request\\n\n".as_slice(),
+        ),
     ] {
-        let mut script = joined(rt.alloc(), [GRID, b"open 1\nbytes 1 ".as_slice()].as_slice())?;
+        let mut script = joined(
+            rt.alloc(),
+            [GRID, b"open 1\nbytes 1 ".as_slice()].as_slice(),
+        )?;
         for _ in 0..count {
             script.push(b'a')?;
         }
@@ -164,10 +170,14 @@ fn a_head_that_does_not_end_is_refused_at_16384_bytes(rt: HostRuntime) -> Result
 #[test]
 fn a_request_is_answered_alike_however_it_is_cut(rt: HostRuntime) -> Result<(), Fail> {
     let request = b"GET /uri/URI:LIT:mzxw6ytboi HTTP/1.1\r\nHost: g\r\n\r\n".as_slice();
-    let reply = b"bytes HTTP/1.1 200 OK\\r\\nContent-Type: application/octet-stream\\r\\nContent-Length: 6\\r\\n\\r\\nfoobar\n".as_slice();
+    let reply =
+        b"bytes HTTP/1.1 200 OK\\r\\nContent-Type: application/octet-stream\\r\\nContent-Length: 6\\r\\n\\r\\nfoobar\n".as_slice();
     // Cut in two at each place, and into pieces of each size.
     for size in 1..request.len() {
-        let mut script = joined(rt.alloc(), [GRID, b"open 1\nopen 2\n".as_slice()].as_slice())?;
+        let mut script = joined(
+            rt.alloc(),
+            [GRID, b"open 1\nopen 2\n".as_slice()].as_slice(),
+        )?;
         let mut wanted = joined(rt.alloc(), [b"ok\nok\nok\n".as_slice()].as_slice())?;
         for piece in [&request[..size], &request[size..]] {
             script.extend_from_slice(b"bytes 1 ")?;
@@ -266,7 +276,16 @@ fn a_bad_line_ends_the_run_by_its_number(rt: HostRuntime) -> Result<(), Fail> {
         b"restore ".as_slice(),
         b"open 2\r".as_slice(),
     ] {
-        let script = joined(rt.alloc(), [GRID, b"\nopen 1\n".as_slice(), line, b"\nopen 3\n".as_slice()].as_slice())?;
+        let script = joined(
+            rt.alloc(),
+            [
+                GRID,
+                b"\nopen 1\n".as_slice(),
+                line,
+                b"\nopen 3\n".as_slice(),
+            ]
+            .as_slice(),
+        )?;
         let (answers, fault) = ran(rt.alloc(), script.as_slice());
         assert_eq!(rt; answers.as_slice(), b"ok\nok\n".as_slice(), "at {line:?}");
         assert_eq!(rt; fault, Some(ScriptFault::BadLine(4)), "at {line:?}");
@@ -279,14 +298,34 @@ fn the_first_line_is_a_grid(rt: HostRuntime) -> Result<(), Fail> {
     // A line, its answer, and whether it is bad.
     for (line, wanted, is_bad) in [
         (b"grid 1 1 1 0 -".as_slice(), b"ok\n".as_slice(), false),
-        (b"grid 256 256 256 18446744073709551615 my".as_slice(), b"ok\n".as_slice(), false),
-        (b"grid 0 10 1 5 -".as_slice(), b"fault 5 BadParameters\n".as_slice(), true),
-        (b"grid 4 3 1 5 -".as_slice(), b"fault 5 BadParameters\n".as_slice(), true),
-        (b"grid 3 257 1 5 -".as_slice(), b"fault 5 BadParameters\n".as_slice(), true),
+        (
+            b"grid 256 256 256 18446744073709551615 my".as_slice(),
+            b"ok\n".as_slice(),
+            false,
+        ),
+        (
+            b"grid 0 10 1 5 -".as_slice(),
+            b"fault 5 BadParameters\n".as_slice(),
+            true,
+        ),
+        (
+            b"grid 4 3 1 5 -".as_slice(),
+            b"fault 5 BadParameters\n".as_slice(),
+            true,
+        ),
+        (
+            b"grid 3 257 1 5 -".as_slice(),
+            b"fault 5 BadParameters\n".as_slice(),
+            true,
+        ),
         (b"grid 3 65536 1 5 -".as_slice(), b"".as_slice(), true),
         (b"grid 3 10 0 5 -".as_slice(), b"".as_slice(), true),
         (b"grid 3 10 257 5 -".as_slice(), b"".as_slice(), true),
-        (b"grid 3 10 1 18446744073709551616 -".as_slice(), b"".as_slice(), true),
+        (
+            b"grid 3 10 1 18446744073709551616 -".as_slice(),
+            b"".as_slice(),
+            true,
+        ),
         (b"grid 3 10 1 5 ".as_slice(), b"".as_slice(), true),
         (b"grid 3 10 1 5".as_slice(), b"".as_slice(), true),
         (b"grid 3 10 1 5 - ".as_slice(), b"".as_slice(), true),
@@ -296,7 +335,10 @@ fn the_first_line_is_a_grid(rt: HostRuntime) -> Result<(), Fail> {
         (b"grid 03 10 1 5 -".as_slice(), b"".as_slice(), true),
         (b"open 1".as_slice(), b"".as_slice(), true),
     ] {
-        let script = joined(rt.alloc(), [b"\n\n".as_slice(), line, b"\n".as_slice()].as_slice())?;
+        let script = joined(
+            rt.alloc(),
+            [b"\n\n".as_slice(), line, b"\n".as_slice()].as_slice(),
+        )?;
         let (answers, fault) = ran(rt.alloc(), script.as_slice());
         assert_eq!(rt; answers.as_slice(), wanted, "at {line:?}");
         assert_eq!(rt; fault.is_some(), is_bad, "at {line:?}");
@@ -312,7 +354,11 @@ fn a_secret_has_at_most_256_bytes(rt: HostRuntime) -> Result<(), Fail> {
     // 410 letters spell 256 bytes, 412 spell 257.
     for (letters, wanted, fault) in [
         (410u32, b"ok\n".as_slice(), None),
-        (412u32, b"fault 5 BadParameters\n".as_slice(), Some(ScriptFault::BadLine(1))),
+        (
+            412u32,
+            b"fault 5 BadParameters\n".as_slice(),
+            Some(ScriptFault::BadLine(1)),
+        ),
     ] {
         let mut script = joined(rt.alloc(), [b"grid 3 10 1 5 ".as_slice()].as_slice())?;
         for _ in 0..letters {
@@ -375,7 +421,11 @@ fn a_reader_that_fails_leaves_the_answers_of_the_lines_before(rt: HostRuntime) -
         let mut reader = BufReader::with_capacity(rt.alloc(), 5, broken)?;
         let mut answers = Vec::new(rt.alloc());
         let outcome = run_script(rt.alloc(), &mut reader, &mut answers);
-        assert_eq!(rt; outcome, Err(ScriptFault::ReadFailed), "behind {read} bytes");
+        assert_eq!(rt;
+            outcome,
+            Err(ScriptFault::ReadFailed),
+            "behind {read} bytes"
+        );
         assert_eq!(rt; answers.as_slice(), wanted, "behind {read} bytes");
     }
     Ok(())
@@ -421,7 +471,11 @@ fn a_writer_that_fails_has_a_beginning_of_the_answers(rt: HostRuntime) -> Result
             ScriptFault::BadLine(5)
         };
         assert_eq!(rt; outcome, Err(wanted), "with room for {room} bytes");
-        assert_eq!(rt; writer.held.as_slice(), &whole[..room], "with room for {room} bytes");
+        assert_eq!(rt;
+            writer.held.as_slice(),
+            &whole[..room],
+            "with room for {room} bytes"
+        );
     }
     Ok(())
 }

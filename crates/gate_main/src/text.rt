@@ -104,7 +104,12 @@ fn push_escape(byte: u8, text: &mut Vec<u8>) -> Result<(), AllocError>
         b'\n' => text.extend_from_slice(b"\\n"),
         b'\\' => text.extend_from_slice(b"\\\\"),
         _ => {
-            let digits = [b'\\', b'x', hex_digit_of(byte / 16), hex_digit_of(byte % 16)];
+            let digits = [
+                b'\\',
+                b'x',
+                hex_digit_of(byte / 16),
+                hex_digit_of(byte % 16),
+            ];
             text.extend_from_slice(&digits)
         }
     }
@@ -115,5 +120,9 @@ fn hex_digit_of(value: u8) -> u8
     requires { value < 16 }
     ensures { result ≡ hex_digit value }
 {
-    if value < 10 { b'0' + value } else { b'a' + (value - 10) }
+    if value < 10 {
+        b'0' + value
+    } else {
+        b'a' + (value - 10)
+    }
 }

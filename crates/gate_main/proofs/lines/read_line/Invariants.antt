@@ -1,7 +1,6 @@
 use Rattle.std.proofs.Common.{◌≡◌, length, true, false}
 use Rattle.std.specs.Io.KnownBytes.{Consumes}
 use Rattle.gate_main.specs.Lines.{LacksLf, fits}
-
 use Rattle.gate_main.proofs.lines.read_line.Given as goal
 
 -- the line so far was taken of the reader

@@ -31,8 +31,8 @@ returns-then-ended g c =
     let size : c.len.result ≡ length c.args.line.now.items = search rules in
     let joined : line ≡ c.args.line.now.items ++ part.0.now = search rules in
     let taken =
-        consumes_part old kept new limit c.in-Ok.shown.now (record { bytes = part.0.now; ended = part.1 }) (length part.0.now + c.from.result) c.first_part-ended.ensures
-        (sized part.0.now part.1 c.from.result c.from.ensures) c.in-Ok.ensures.front c.in-Ok.ensures.end filled.0 filled.1 c.consume.ensures.bytes in
+    consumes_part old kept new limit c.in-Ok.shown.now (record { bytes = part.0.now; ended = part.1 }) (length part.0.now + c.from.result) c.first_part-ended.ensures
+    (sized part.0.now part.1 c.from.result c.from.ensures) c.in-Ok.ensures.front c.in-Ok.ensures.end filled.0 filled.1 c.consume.ensures.bytes in
     record {
       part = part.0.now;
       taken = subst (λ e. Consumes old new (piece_of (record { bytes = part.0.now; ended = e }))) c.if-ended.true taken;

@@ -9,8 +9,8 @@ idle : (c : goal.Joined-then-closed) → (frame_from c.args.self.now c.args.piec
 idle c = elim c.then-closed.branch [
   | then-closed-via-then-closed w ↦ closed_more c.args.self.now c.args.piece.now (sym c.closed.ensures.value ∙ w.if-closed.true)
   | then-closed-via-else-closed+then-is_empty w ↦
-    nothing_more c.args.self.now c.args.piece.now (settled_by _ _ _ c.self.view_is c.self.invariant)
-    (empty_from c.args.piece.now w.is_empty.result w.is_empty.ensures w.if-is_empty.true)
+      nothing_more c.args.self.now c.args.piece.now (settled_by _ _ _ c.self.view_is c.self.invariant)
+      (empty_from c.args.piece.now w.is_empty.result w.is_empty.ensures w.if-is_empty.true)
 ]
 
 pub returns-then-closed-clause-items : goal.returns-then-closed-clause-items
