@@ -4,12 +4,12 @@ use Rattle.std.specs.Str.{bytes_eq}
 use Rattle.std.specs.Prelude.{codes, ◌&&◌, ◌==◌, option_and_then, cond, nat_le, not, ◌||◌, slice_index}
 use Rattle.std.specs.Char.{is_ascii_digit}
 use Rattle.std.specs.Str.Parse.{digits_value}
-use Rattle.std.specs.List.{slice_split, join_with_byte, list_all, count_by}
+use Rattle.std.specs.List.{join_with_byte, list_all}
 use Rattle.std.specs.Option.{option_map}
 use Rattle.std.proofs.lemmas.List.Elements.{All-weaker}
 use Rattle.std.proofs.lemmas.List.Splits.{slice_split_at, slice_split_none, join_with_byte-slice_split, length-slice_split}
 use Rattle.gate_main.specs.Cut.{IsCutAt}
-use Rattle.gate_main.specs.Decimal.{is_decimal, number_to}
+use Rattle.gate_main.specs.Decimal.{number_to}
 use Rattle.gate_main.specs.Text.{unescaped}
 use Rattle.gate_main.specs.Command.{words, asked_by, grid_of, open_of, bytes_of, end_of, take_of, long_number}
 use Rattle.gate_main.specs.declared.command.Command.{Command}

@@ -1,18 +1,17 @@
 -- How a run ends.
-use Rattle.std.proofs.Common.{◌≡◌, ◌≢◌, ℕ, ◌+◌, ◌-◌, ◌<◌, ◌≤◌, List, [], ◌∷◌, ◌++◌, length, take, drop, Bool, true, false, All, Option, Some, None, Result, Ok, Err, refl, sym, ap, subst, ◌∙◌, append_assoc, length-append, arith, eqb-true}
+use Rattle.std.proofs.Common.{◌≡◌, ◌≢◌, ℕ, ◌+◌, ◌-◌, ◌<◌, List, [], ◌∷◌, ◌++◌, length, take, drop, Bool, true, false, All, Option, Some, None, Result, Ok, Err, refl, sym, ap, subst, ◌∙◌, append_assoc, length-append, arith, eqb-true}
 use Rattle.std.specs.Prelude.{IfSome, OnSome, ◌==◌}
-use Rattle.std.specs.Io.{StopsAt}
 use Rattle.std.specs.Io.KnownBytes.{Consumes, Appends, IsAtEnd}
-use Rattle.std.proofs.KnownBytes.{Consumes-trans, Appends-nil, Appends-trans, Appends-kept}
+use Rattle.std.proofs.KnownBytes.{Consumes-trans, Appends-trans}
 use Rattle.std.proofs.lemmas.Bool.Decides.{nat_tests}
 use Rattle.std.proofs.lemmas.List.{append-nil, take-append-drop}
 use Rattle.std.proofs.lemmas.List.Elements.{All-take}
 use Rattle.std.proofs.Math.Seq.{take-append_seam}
 use Rattle.gate_core.specs.Events.{Event}
 use Rattle.gate_core.specs.Held.{State}
-use Rattle.gate_main.specs.Lines.{LacksLf, Line, lines_of, piece_of, is_within}
-use Rattle.gate_main.specs.Reading.{TakesPart, IsTooLong, ReadsLine, LineReads}
-use Rattle.gate_main.specs.Script.{Run, Outcome, Told, outcome, behind, told_with, told_at, told, written_by}
+use Rattle.gate_main.specs.Lines.{LacksLf, Line, lines_of, piece_of}
+use Rattle.gate_main.specs.Reading.{IsTooLong, ReadsLine, LineReads}
+use Rattle.gate_main.specs.Script.{Run, Told, outcome, behind, told_with, told_at, told, written_by}
 use Rattle.gate_main.specs.Running.{GoesOn, LineRuns, IsOneLine, StopsBehind, Answers, WritesBeginning, RunEnds}
 use Rattle.gate_main.specs.declared.fault.ScriptFault.{ScriptFault}
 use Rattle.gate_main.specs.declared.fault.ScriptFault.TheVariants.{BadLine, ReadFailed, WriteFailed, NoMemory, TooLong}

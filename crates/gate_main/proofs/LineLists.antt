@@ -1,5 +1,5 @@
 -- Scripts that are cut into lines.
-use Rattle.std.proofs.Common.{◌≡◌, ◌≢◌, ℕ, ◌+◌, ◌-◌, ◌<◌, ◌≤◌, List, [], ◌∷◌, ◌++◌, length, Bool, true, false, cond, All, Option, Some, None, refl, sym, ap, subst, ◌∙◌, append_assoc, length-append, arith, ne_eqb, eqb-true, get_or}
+use Rattle.std.proofs.Common.{◌≡◌, ◌≢◌, ℕ, ◌+◌, ◌-◌, ◌<◌, ◌≤◌, List, [], ◌∷◌, ◌++◌, length, Bool, true, false, cond, refl, sym, ap, subst, ◌∙◌, append_assoc, length-append, arith, ne_eqb, eqb-true, get_or}
 use Rattle.std.specs.Prelude.{◌==◌}
 use Rattle.std.specs.List.{flat_map}
 use Rattle.std.specs.Io.{IsEmptyOrEndsWith}
@@ -95,14 +95,15 @@ ends_whole before line some =
     ap (λ n. get_or all n 0) size ∙ ap (λ l. get_or l (length (before ++ line)) 0) split ∙ last_of (before ++ line) 10
 
 -- the lines joined
+onto_joined : (byte : ℕ) (lines : List Line) → flat_map piece_of (onto_line byte lines) ≡ byte ∷ flat_map piece_of lines
+onto_joined byte [] = refl
+onto_joined byte (line ∷ more) = refl
+
+one_more : (t : Bool) (byte : ℕ) (script : List ℕ) → (byte == 10) ≡ t → flat_map piece_of (lines_of script) ≡ script
+    → flat_map piece_of (cond t (record { bytes = []; ended = true } ∷ lines_of script) (onto_line byte (lines_of script))) ≡ byte ∷ script
+one_more true byte script is same = ap (λ b. b ∷ flat_map piece_of (lines_of script)) (sym (eqb-true byte 10 is)) ∙ ap (λ l. byte ∷ l) same
+one_more false byte script is same = onto_joined byte (lines_of script) ∙ ap (λ l. byte ∷ l) same
+
 pub lines_join : (script : List ℕ) → flat_map piece_of (lines_of script) ≡ script
 lines_join [] = refl
-lines_join (byte ∷ script) = by (byte == 10) refl
-  where
-    onto : (byte : ℕ) (lines : List Line) → flat_map piece_of (onto_line byte lines) ≡ byte ∷ flat_map piece_of lines
-    onto byte [] = refl
-    onto byte (line ∷ more) = refl
-
-    by : (t : Bool) → (byte == 10) ≡ t → flat_map piece_of (cond t (record { bytes = []; ended = true } ∷ lines_of script) (onto_line byte (lines_of script))) ≡ byte ∷ script
-    by true is = ap (λ b. b ∷ flat_map piece_of (lines_of script)) (sym (eqb-true byte 10 is)) ∙ ap (λ l. byte ∷ l) (lines_join script)
-    by false is = onto byte (lines_of script) ∙ ap (λ l. byte ∷ l) (lines_join script)
+lines_join (byte ∷ script) = one_more (byte == 10) byte script refl (lines_join script)

@@ -1,8 +1,6 @@
 -- A number has one word.
-use Rattle.std.proofs.Common.{◌≡◌, ◌≢◌, ℕ, zero, suc, ◌<◌, ◌≤◌, ◌^◌, List, length, get_or, Bool, true, false, cond, Option, Some, None, refl, sym, ap, subst, ◌∙◌, ◌↔◌, arith, decimal, eqb-true}
+use Rattle.std.proofs.Common.{◌≡◌, ℕ, zero, suc, ◌<◌, ◌≤◌, ◌^◌, List, length, get_or, Bool, true, false, cond, Option, Some, None, refl, sym, ap, subst, ◌∙◌, ◌↔◌, arith, decimal}
 use Rattle.std.specs.Prelude.{nat_le, ◌&&◌, ◌||◌, ◌==◌, not}
-use Rattle.std.specs.Char.{is_ascii_digit}
-use Rattle.std.specs.List.{list_all}
 use Rattle.std.specs.Str.Parse.{digits_value}
 use Rattle.std.proofs.lemmas.Bool.Decides.{nat_tests}
 use Rattle.std.proofs.lemmas.Fmt.{digits_decimal, decimal_digit, decimal_nonempty, first_decimal, digits_value-decimal, decimal-digits_value}
@@ -12,18 +10,15 @@ use Rattle.gate_main.proofs.Numbers.{digits, all_digits, not_empty}
 alone : (word : List ℕ) → is_decimal word ≡ true → get_or word 0 0 ≡ 48 → length word ≡ 1
 alone word h zero_first = grind (arith, nat_tests)
 
+none_some : (n : ℕ) → ◌≡◌ {A = Option ℕ} None (Some n) → ⊥
+none_some n e = cc
+
 -- the parts of a word that is read as a number
 read_as : (most number : ℕ) (word : List ℕ) (t u : Bool) → is_decimal word ≡ t → nat_le (digits_value 10 word) most ≡ u → cond (t && u) (Some (digits_value 10 word)) None ≡ Some number
     → (is_decimal word ≡ true) × (nat_le (digits_value 10 word) most ≡ true) × (digits_value 10 word ≡ number)
 read_as most number word true true is within some = (is, within, cc)
-read_as most number word true false is within some = absurd (no some)
-  where
-    no : None {A = ℕ} ≡ Some number → ⊥
-    no e = cc
-read_as most number word false u is within some = absurd (no some)
-  where
-    no : None {A = ℕ} ≡ Some number → ⊥
-    no e = cc
+read_as most number word true false is within some = absurd (none_some number some)
+read_as most number word false u is within some = absurd (none_some number some)
 
 word_of : (most number : ℕ) (word : List ℕ) → most < 2 ^ 64 → number_to most word ≡ Some number → (number ≤ most) × (word ≡ decimal number)
 word_of most number word fits some =

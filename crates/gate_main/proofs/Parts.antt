@@ -1,10 +1,10 @@
 -- Lines that are read in parts.
-use Rattle.std.proofs.Common.{◌≡◌, ◌≢◌, ℕ, ◌+◌, ◌≤◌, List, [], ◌∷◌, ◌++◌, length, take, drop, Bool, true, false, cond, All, Option, Some, None, Ok, Err, refl, sym, ap, subst, ◌∙◌, append_assoc, length-append, arith}
+use Rattle.std.proofs.Common.{◌≡◌, ◌≢◌, ℕ, ◌+◌, ◌≤◌, List, [], ◌∷◌, ◌++◌, length, take, drop, Bool, true, false, cond, Option, Some, None, Err, sym, ap, subst, ◌∙◌, append_assoc, length-append, arith}
 use Rattle.std.specs.Prelude.{IfSome, OnSome}
 use Rattle.std.specs.Io.{StartsWith}
 use Rattle.std.specs.Io.KnownBytes.{Keeps, Consumes, IsAtEnd}
 use Rattle.std.specs.Io.BufRead.{DropsConsumable}
-use Rattle.std.proofs.KnownBytes.{Consumes-nil, Consumes-trans, Consumes-kept, starts_with_rest}
+use Rattle.std.proofs.KnownBytes.{Consumes-trans, starts_with_rest}
 use Rattle.std.proofs.BufReadLemmas.{Consumes_shown}
 use Rattle.std.proofs.Math.Seq.{take-append_seam}
 use Rattle.std.proofs.lemmas.List.{append-nil}
@@ -12,7 +12,7 @@ use mir.Val.{bool_byte}
 use Rattle.std.proofs.lemmas.List.Elements.{All-append}
 use Rattle.gate_main.specs.Cut.{IsCutAt}
 use Rattle.gate_main.specs.Lines.{LacksLf, Line, piece_of, fits}
-use Rattle.gate_main.specs.Reading.{Begins, IsPart, TakesPart, IsTooLong, LineReads, PartReads}
+use Rattle.gate_main.specs.Reading.{IsPart, IsTooLong, LineReads, PartReads}
 use Rattle.gate_main.specs.declared.fault.ScriptFault.{ScriptFault}
 use Rattle.gate_main.specs.declared.fault.ScriptFault.TheVariants.{BadLine, ReadFailed, WriteFailed, NoMemory, TooLong}
 

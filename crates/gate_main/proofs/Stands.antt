@@ -1,22 +1,16 @@
 -- How far a run came.
-use Rattle.std.proofs.Common.{◌≡◌, ◌≢◌, ℕ, ◌+◌, ◌-◌, ◌<◌, ◌≤◌, List, [], ◌∷◌, ◌++◌, length, take, drop, Bool, true, false, cond, All, Option, Some, None, Result, Ok, Err, refl, sym, ap, subst, ◌∙◌, append_assoc, length-append, arith}
-use Rattle.std.specs.Prelude.{IfSome, OnSome, ◌==◌}
-use Rattle.std.specs.Io.{StopsAt, IsEmptyOrEndsWith}
-use Rattle.std.specs.Io.KnownBytes.{Consumes, Appends, IsAtEnd}
+use Rattle.std.proofs.Common.{◌≡◌, ℕ, ◌+◌, ◌≤◌, List, [], ◌∷◌, ◌++◌, length, true, false, Option, Some, None, refl, sym, ap, ◌∙◌, append_assoc, length-append, arith}
+use Rattle.std.specs.Prelude.{◌==◌}
+use Rattle.std.specs.Io.{IsEmptyOrEndsWith}
+use Rattle.std.specs.Io.KnownBytes.{Consumes, Appends}
 use Rattle.std.proofs.KnownBytes.{Consumes-nil, Consumes-trans, Appends-nil, Appends-trans}
 use Rattle.std.proofs.lemmas.Bool.Decides.{nat_tests}
-use Rattle.std.proofs.lemmas.List.{append-nil, take-append-drop}
-use Rattle.std.proofs.lemmas.List.Elements.{All-take}
-use Rattle.std.proofs.Math.Seq.{take-append_seam}
-use Rattle.gate_core.specs.Events.{Event}
 use Rattle.gate_core.specs.Held.{State}
-use Rattle.gate_main.specs.Lines.{LacksLf, Line, lines_of, piece_of, fits, is_within}
-use Rattle.gate_main.specs.Reading.{TakesPart, IsTooLong, ReadsLine}
-use Rattle.gate_main.specs.Script.{Run, Outcome, Told, outcome, behind, told_with, told_at, told, written_by}
-use Rattle.gate_main.specs.Running.{CameBy, GoesOn, IsOneLine, StopsBehind, Answers, WritesBeginning, RunEnds}
-use Rattle.gate_main.specs.declared.fault.ScriptFault.{ScriptFault}
-use Rattle.gate_main.specs.declared.fault.ScriptFault.TheVariants.{BadLine, ReadFailed, WriteFailed, NoMemory, TooLong}
-use Rattle.gate_main.proofs.LineLists.{lines_ended, lines_last, FirstIsLong, long_first, ends_whole}
+use Rattle.gate_main.specs.Lines.{Line, lines_of, piece_of, fits, is_within}
+use Rattle.gate_main.specs.Reading.{ReadsLine}
+use Rattle.gate_main.specs.Script.{Run, Told, outcome, behind, told_with, told_at, told, written_by}
+use Rattle.gate_main.specs.Running.{CameBy, GoesOn}
+use Rattle.gate_main.proofs.LineLists.{lines_ended, ends_whole}
 
 -- the lines `done` were read and answered
 pub record Stands (read0 read1 write0 write1 : Option (List ℕ)) (gateway : Option State) (number size : ℕ) : Type 0 where

@@ -1,5 +1,5 @@
 -- The reply to a `take`, from where the gateway is.
-use Rattle.std.proofs.Common.{◌≡◌, ℕ, List, ◌++◌, length, take, drop, Bool, true, false, cond, Option, Some, None, refl, sym, ap, ◌∙◌}
+use Rattle.std.proofs.Common.{◌≡◌, ℕ, List, length, take, drop, true, cond, Option, Some, None, sym, ap, ◌∙◌}
 use Rattle.std.specs.Prelude.{MatchOption}
 use Rattle.std.specs.FinMap as map
 use Rattle.std.proofs.Math.Seq.{drop-append_seam}
@@ -8,7 +8,6 @@ use Rattle.gate_core.specs.declared.fault.GatewayFault.TheVariants.{NotOpen}
 use Rattle.gate_core.specs.Events.{Event, is_known, handed}
 use Rattle.gate_core.specs.Held.{Held, State, Came, CameAt, Isolated, waiting, take_refusal}
 use Rattle.gate_main.specs.declared.command.Command.TheVariants.{Take as TakeCommand}
-use Rattle.gate_main.specs.declared.reply.Reply.{Reply}
 use Rattle.gate_main.specs.declared.reply.Reply.TheVariants.{Refused, Given}
 use Rattle.gate_main.specs.Script.{unsaid, reply_after}
 

@@ -1,7 +1,6 @@
 -- What is written is read back.
-use Rattle.std.proofs.Common.{◌≡◌, ◌≢◌, ℕ, ◌+◌, ◌*◌, ◌/◌, ◌%◌, ◌<◌, List, [], ◌∷◌, ◌++◌, Bool, true, false, cond, All, Option, Some, None, refl, sym, ap, ◌∙◌, arith, eqb-true, rules}
+use Rattle.std.proofs.Common.{◌≡◌, ℕ, ◌+◌, ◌*◌, ◌/◌, ◌%◌, ◌<◌, List, [], ◌∷◌, ◌++◌, Bool, true, false, cond, All, Some, None, refl, sym, ap, ◌∙◌, arith, eqb-true}
 use Rattle.std.specs.Prelude.{◌==◌, ◌&&◌}
-use Rattle.std.specs.Option.{option_map}
 use Rattle.std.proofs.lemmas.List.Elements.{All-head, All-tail}
 use Rattle.std.proofs.lemmas.Bool.Decides.{nat_tests}
 use Rattle.gate_main.specs.Text.{is_hex, hex_value, hex_digit, followed_by, unescaped, after_backslash, is_plain, escape_of, escaped}

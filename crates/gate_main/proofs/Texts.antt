@@ -1,5 +1,5 @@
 -- Texts whose front needs no escape.
-use Rattle.std.proofs.Common.{◌≡◌, ◌≢◌, ℕ, ◌<◌, List, [], ◌∷◌, ◌++◌, length, Bool, true, false, cond, All, Option, Some, None, refl, sym, ap, ◌∙◌, arith, append_assoc, ne_eqb, length-append}
+use Rattle.std.proofs.Common.{◌≡◌, ◌≢◌, ℕ, ◌<◌, List, [], ◌∷◌, ◌++◌, length, true, cond, All, Option, Some, None, refl, sym, ap, ◌∙◌, arith, append_assoc, ne_eqb, length-append}
 use Rattle.std.proofs.lemmas.List.{append-nil}
 use Rattle.std.proofs.lemmas.List.Elements.{All-head, All-tail}
 use Rattle.std.proofs.lemmas.Bool.Decides.{nat_tests}

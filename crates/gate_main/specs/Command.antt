@@ -1,12 +1,11 @@
 -- What a line of a script asks.
-use Rattle.std.specs.Prelude.{ℕ, ◌-◌, ◌^◌, ◌&&◌, ◌==◌, nat_le, List, [], ◌∷◌, length, if◌then◌else◌, Option, Some, None, Result, Ok, Err, option_and_then, codes}
+use Rattle.std.specs.Prelude.{ℕ, ◌-◌, ◌^◌, ◌==◌, nat_le, List, [], ◌∷◌, length, if◌then◌else◌, Option, Some, None, Result, Ok, Err, option_and_then, codes}
 use Rattle.std.specs.Option.{option_map}
 use Rattle.std.specs.List.{slice_split, join_with_byte}
 use Rattle.std.specs.Str.{bytes_eq}
 use Rattle.base32_text.specs.Reading.{reading}
 use Rattle.gate_main.specs.declared.command.Command.{Command}
 use Rattle.gate_main.specs.declared.command.Command.TheVariants.{Grid as GridLine, Open, Bytes, End, Take}
-use Rattle.gate_main.specs.declared.command.Grid.{Grid}
 use Rattle.gate_main.specs.Decimal.{number_to}
 use Rattle.gate_main.specs.Text.{unescaped}
 

@@ -1,11 +1,11 @@
 -- What a run does to a gateway, a reader and a writer.
-use Rattle.std.specs.Prelude.{◌≡◌, ℕ, List, [], ◌++◌, length, take, ⊤, Option, Some, None, Result, Ok, Err, IfSome, OnSome}
+use Rattle.std.specs.Prelude.{◌≡◌, ℕ, List, [], ◌++◌, take, ⊤, Option, Some, None, Result, Ok, Err, IfSome, OnSome}
 use Rattle.std.specs.Io.{StopsAt, IsEmptyOrEndsWith}
 use Rattle.std.specs.Io.KnownBytes.{Consumes, Appends, IsAtEnd}
 use Rattle.gate_core.specs.Events.{Event}
 use Rattle.gate_core.specs.Held.{State, Came}
 use Rattle.gate_main.specs.Lines.{LacksLf}
-use Rattle.gate_main.specs.Script.{Run, Outcome, Told, written_by}
+use Rattle.gate_main.specs.Script.{Run, Outcome, written_by}
 use Rattle.gate_main.specs.declared.fault.ScriptFault.{ScriptFault}
 use Rattle.gate_main.specs.declared.fault.ScriptFault.TheVariants.{BadLine, ReadFailed, WriteFailed, NoMemory, TooLong}
 

@@ -1,10 +1,10 @@
 -- Powers in the field: 2 has order 255 and its powers are all bytes but 0, so each of these has an inverse.
-use Rattle.std.proofs.Common.{◌≡◌, ℕ, zero, suc, ◌+◌, ◌<◌, ◌==◌, Bool, true, false, not, ◌&&◌, ◌||◌, List, [], ◌∷◌, refl, sym, ap, ◌∙◌, arith, inl, inr, zero-add}
+use Rattle.std.proofs.Common.{◌≢◌, ◌-◌, ◌≡◌, ℕ, zero, suc, ◌+◌, ◌<◌, ◌==◌, Bool, true, false, not, ◌&&◌, ◌||◌, List, [], ◌∷◌, refl, sym, ap, ◌∙◌, arith, inl, inr, zero-add}
 use Rattle.std.proofs.Math.Nat.{suc-add}
 use Rattle.std.specs.List.{list_all}
 use Rattle.std.proofs.lemmas.Bool.{and_parts, or_cases, eqb-true, eqb-false, not-true, cases_lt}
 use Rattle.gf_field.specs.Field.{mul_of, power_of, inverse_of}
-use Rattle.gf_field.proofs.Field.{mul_of-comm, mul_of-assoc, mul_of-one_left, mul_of-one_right, mul_of-lt}
+use Rattle.gf_field.proofs.Field.{mul_of-zero_left, mul_of-comm, mul_of-assoc, mul_of-one_left, mul_of-one_right, mul_of-lt}
 
 pub power-zero : (a : ℕ) → power_of a 0 ≡ 1
 unfolding power_of
@@ -154,3 +154,31 @@ mul_of_cancels a b c pos lt hb hc e =
 -- the inverse is the only byte whose product with a is 1
 pub inverse_only : (a b : ℕ) → 0 < a → a < 256 → b < 256 → mul_of a b ≡ 1 → b ≡ inverse_of a
 inverse_only a b pos lt hb e = mul_of_cancels a b (inverse_of a) pos lt hb (inverse_lt a) (e ∙ sym (mul_of-inverse a pos lt))
+
+-- ---- the powers of two are apart
+power_returns_all : (i : ℕ) → mul_of (power_of 2 i) (inverse_of (power_of 2 i)) ≡ 1
+unfolding inverse_of
+power_returns_all i = sym (power-suc (power_of 2 i) 254) ∙ power_returns i
+
+pub power_pos : (i : ℕ) → 0 < power_of 2 i
+power_pos i =
+    let apart : power_of 2 i ≢ 0 =
+    λ e. let no : ◌≡◌ {A = ℕ} 0 1 = sym (mul_of-zero_left (inverse_of (power_of 2 i))) ∙ ap (λ (x : ℕ). mul_of x (inverse_of (power_of 2 i))) (sym e) ∙ power_returns_all i in
+    absurd (omega arith) in
+    omega arith
+
+later_power : (i j : ℕ) → i < j → j < 255 → power_of 2 i ≡ power_of 2 j → ⊥
+later_power i j lt less e =
+    let sum : i + (j - i) ≡ j = omega arith in
+    two_returns_late (j - i) (omega arith) (omega arith)
+    (sym (mul_of_cancels (power_of 2 i) 1 (power_of 2 (j - i)) (power_pos i) (power_lt 2 i) (omega arith) (power_lt 2 (j - i))
+    (mul_of-one_right (power_of 2 i) (power_lt 2 i) ∙ e ∙ ap (power_of 2) (sym sum) ∙ power-add 2 i (j - i))))
+
+pub powers_apart : (i j : ℕ) → i < 255 → j < 255 → power_of 2 i ≡ power_of 2 j → i ≡ j
+powers_apart i j hi hj e = elim (cases_lt i j) [
+  | inl before ↦ absurd (later_power i j before hj e)
+  | inr rest ↦ elim (cases_lt j i) [
+    | inl after ↦ absurd (later_power j i after hi (sym e))
+    | inr same ↦ omega arith
+  ]
+]

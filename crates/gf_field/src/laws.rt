@@ -13,9 +13,11 @@ pub fn is_a_field()
     ensures inverse_closed { (a : ℕ) → inverse_of a < 256 }
 {}
 
-/// 2 has order 255, and its powers are all elements but 0.
+/// 2 has order 255, and its first 255 powers are all elements but 0, each once.
 pub fn two_generates()
     ensures returns { power_of 2 255 ≡ 1 }
     ensures no_earlier { (i : ℕ) → 0 < i → i < 255 → power_of 2 i ≢ 1 }
+    ensures elements { (i : ℕ) → (0 < power_of 2 i) × (power_of 2 i < 256) }
+    ensures once { (i j : ℕ) → i < 255 → j < 255 → power_of 2 i ≡ power_of 2 j → i ≡ j }
     ensures each { (a : ℕ) → 0 < a → a < 256 → (i : ℕ) × (i < 255) × (power_of 2 i ≡ a) }
 {}

@@ -86,7 +86,7 @@ line_of_is text lf none =
 unfoldable pub field_text : Field → List ℕ
 field_text f = f.name ++ 58 ∷ f.raw
 
-field_line : (f : Field) (s : List ℕ) → print_field f ++ s ≡ field_text f ++ (print_end f.end ++ s)
+pub field_line : (f : Field) (s : List ℕ) → print_field f ++ s ≡ field_text f ++ (print_end f.end ++ s)
 unfolding field_text
 field_line f s = append_assoc (f.name ++ 58 ∷ f.raw) (print_end f.end) s
 

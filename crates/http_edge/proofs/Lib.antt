@@ -3,3 +3,4 @@ pub mod ReadLemmas
 pub mod FrameLemmas
 pub mod LineLemmas
 pub mod ReadLaws
+pub mod HeadFirst

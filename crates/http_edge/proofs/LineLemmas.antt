@@ -1,20 +1,19 @@
 -- What one line more does to a beginning of a head block.
-use Rattle.std.proofs.Common.{◌≡◌, ◌⊎◌, inl, inr, cond, subst, true, false, ℕ, zero, suc, ◌+◌, ◌-◌, ◌<◌, ◌≤◌, Bool, ◌&&◌, ◌||◌, List, [], ◌∷◌, ◌++◌, length, take, drop, get_or, Option, Some, None, refl, sym, ap, ◌∙◌, arith, append_assoc, append-nil, length-append, add-one, lit<}
+use Rattle.std.proofs.Common.{◌≡◌, ◌⊎◌, inl, inr, cond, subst, true, false, ℕ, ◌+◌, ◌<◌, ◌≤◌, Bool, ◌&&◌, ◌||◌, List, [], ◌∷◌, ◌++◌, length, drop, get_or, Some, None, refl, sym, ap, ◌∙◌, arith, append_assoc, append-nil, length-append, add-one, lit<}
 use Rattle.std.specs.Prelude.{nat_le, nat_lt, nat_eq}
-use Rattle.std.specs.List.{All, ends_with}
+use Rattle.std.specs.List.{ends_with}
 use Rattle.std.proofs.Math.Dec.{eqb}
 use Rattle.std.proofs.Math.Seq.{take-append_seam, drop-append_seam}
-use Rattle.std.proofs.lemmas.Bool.{eq-eqb}
 use Rattle.std.proofs.lemmas.Bool.Decides.{nat_tests, Decides-eqb}
 use Rattle.std.proofs.lemmas.Slice.Eq.{ends_is, bytes_eq-Decides}
 use Rattle.http_edge.specs.declared.item.FramingFault.TheVariants.{BadHead}
 use Rattle.http_edge.specs.declared.item.Item.{Item}
 use Rattle.http_edge.specs.declared.item.Item.TheVariants.{Fault}
 use Rattle.http_edge.specs.Judge.{closes, judged}
-use Rattle.http_edge.specs.Frame.{empty_line_length, skip_empty_lines, block_length, most_head_bytes, Message, too_long, first_message, frame}
+use Rattle.http_edge.specs.Frame.{empty_line_length, block_length, most_head_bytes, too_long, first_message, frame}
 use Rattle.http_edge.specs.Left.{Left, part_of, closed, is_closed, rest, frame_from, rest_from}
-use Rattle.http_edge.specs.Line.{IsPart, IsLine, is_empty_line, ends_in_empty_line, completes, listed, IsSettled}
-use Rattle.http_edge.proofs.FrameLemmas.{line_begins, line_same, line_long, ends_block, no_block, still_no_block, ends_none, not_ends, skip_lf, skip_crlf, long_message, block_message, block_comes, by_le, message_stays, frame_skips, rest_skips, frame_with, rest_with, frame_without, rest_without}
+use Rattle.http_edge.specs.Line.{IsPart, IsLine, is_empty_line, ends_in_empty_line, completes, IsSettled}
+use Rattle.http_edge.proofs.FrameLemmas.{line_begins, line_same, line_long, ends_block, no_block, still_no_block, ends_none, not_ends, skip_lf, skip_crlf, long_message, block_message, block_comes, frame_skips, rest_skips, frame_with, rest_with, frame_without, rest_without}
 
 -- ---- the last bytes
 
@@ -117,9 +116,9 @@ block_ends (x ∷ front) a b none some =
     rw (test, block_ends front a b before.1 some) (ap Some (omega arith))
 
 -- the bytes end in the first empty line behind an LF
-record IsBlock (s : List ℕ) : Type 0 where
-  no_blank : (more : List ℕ) → empty_line_length (s ++ more) ≡ 0
-  block : (more : List ℕ) → block_length (s ++ more) ≡ Some (length s)
+pub record IsBlock (s : List ℕ) : Type 0 where
+  pub no_blank : (more : List ℕ) → empty_line_length (s ++ more) ≡ 0
+  pub block : (more : List ℕ) → block_length (s ++ more) ≡ Some (length s)
 
 block_lf : (front : List ℕ) → IsOpen (front ++ 10 ∷ []) → IsBlock (front ++ 10 ∷ 10 ∷ [])
 block_lf front h = record {
@@ -248,7 +247,7 @@ pub record GoesOn (s : List ℕ) (item : Item) : Type 0 where
   pub left : (more : List ℕ) → rest (s ++ more) ≡ cond (closes item) closed (rest more)
 
 -- a whole block that isn't too long
-whole_block : (s : List ℕ) → IsBlock s → length s ≤ most_head_bytes → GoesOn s (judged s)
+pub whole_block : (s : List ℕ) → IsBlock s → length s ≤ most_head_bytes → GoesOn s (judged s)
 whole_block s h fits =
     let first : (more : List ℕ) → first_message (s ++ more) ≡ Some (record { item = judged s; size = length s })
     = λ more. block_message (s ++ more) (length s) (h.block more) fits

@@ -1,5 +1,5 @@
 -- Each request that stands in a connection's bytes was read by the grammar.
-use Rattle.std.proofs.Common.{◌≡◌, ℕ, zero, suc, ◌≤◌, Bool, true, false, cond, List, [], ◌∷◌, length, map, drop, Option, Some, None, refl, sym, ap, ◌∙◌, subst, arith}
+use Rattle.std.proofs.Common.{◌≡◌, ℕ, zero, suc, ◌≤◌, Bool, true, false, cond, List, [], ◌∷◌, length, drop, Option, Some, None, refl, sym, subst, arith}
 use Rattle.std.specs.Prelude.{nat_le}
 use Rattle.std.specs.List.{All}
 use Rattle.std.proofs.lemmas.List.{length-map}
@@ -7,15 +7,13 @@ use Rattle.std.proofs.lemmas.List.Elements.{All-nil, All-cons}
 use Rattle.std.proofs.lemmas.Bool.Decides.{nat_tests}
 use Rattle.httparse.specs.Grammar.{RequestHead, ReadsRequest}
 use Rattle.http_edge.specs.declared.item.FramingFault.{FramingFault}
-use Rattle.http_edge.specs.declared.item.FramingFault.TheVariants.{BadHead}
 use Rattle.http_edge.specs.declared.item.Item.{Item}
-use Rattle.http_edge.specs.declared.item.Item.TheVariants.{Fault}
 use Rattle.http_edge.specs.Block.{head_of}
 use Rattle.http_edge.specs.Judge.{closes, field_of, head_parts, fault_of, checked, within_limit, item_of, judged}
-use Rattle.http_edge.specs.Frame.{skip_empty_lines, Message, too_long, first_message, first_items, frame}
+use Rattle.http_edge.specs.Frame.{skip_empty_lines, Message, first_message, first_items, frame}
 use Rattle.http_edge.specs.Read.{IsRead}
 use Rattle.http_edge.proofs.BlockLemmas.{head_of_reads}
-use Rattle.http_edge.proofs.FrameLemmas.{MessageOf, of_block, of_long, message_of}
+use Rattle.http_edge.proofs.FrameLemmas.{of_block, of_long, message_of}
 
 checked_read : (block : List ℕ) (h : RequestHead) (o : Option FramingFault) → ReadsRequest block h [] → length h.fields ≤ 64
     → IsRead (checked (head_parts h) h.minor o)

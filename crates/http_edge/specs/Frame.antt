@@ -1,5 +1,5 @@
 -- Which messages stand complete in a connection's bytes (RFC 9112, sections 2.1 and 2.2).
-use Rattle.std.specs.Prelude.{ℕ, zero, suc, ◌+◌, Bool, ◌&&◌, List, [], ◌∷◌, length, take, drop, if◌then◌else◌, ◌==◌, nat_lt, nat_le, Option, Some, None}
+use Rattle.std.specs.Prelude.{ℕ, zero, suc, ◌+◌, ◌&&◌, List, [], ◌∷◌, length, take, drop, if◌then◌else◌, ◌==◌, nat_lt, nat_le, Option, Some, None}
 use Rattle.std.specs.Prelude.{false}
 use Rattle.std.specs.Option.{option_map}
 use Rattle.httparse.specs.Ascii.{line_feed, carriage_return}

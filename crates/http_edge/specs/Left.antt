@@ -1,5 +1,5 @@
 -- What a connection's bytes leave over behind the items that stand complete in them, and how it goes on.
-use Rattle.std.specs.Prelude.{ℕ, zero, suc, Bool, true, false, List, [], ◌++◌, length, drop, if◌then◌else◌, Option, Some, None}
+use Rattle.std.specs.Prelude.{ℕ, zero, suc, Bool, true, false, List, [], ◌++◌, length, drop, if◌then◌else◌, Some, None}
 use Rattle.http_edge.specs.Judge.{closes}
 use Rattle.http_edge.specs.Frame.{skip_empty_lines, first_message, frame}
 use Rattle.http_edge.specs.declared.item.Item.{Item}

@@ -3,7 +3,7 @@ ghost use Rattle.std.specs.Prelude.{◌≡◌, ◌<◌, ◌≤◌, ℕ, List, []
 ghost use Rattle.std.specs.List.{list_any};
 ghost use Rattle.httparse.specs.Grammar.{LineEnd, print_end, RequestHead, IsRequestHead, print_request, ReadsRequest};
 ghost use Rattle.http_edge.specs.Block.{head_of};
-ghost use Rattle.http_edge.specs.Judge.{closes, judged};
+ghost use Rattle.http_edge.specs.Judge.{closes, within_limit, item_of, judged};
 ghost use Rattle.http_edge.specs.Frame.{frame, most_head_bytes};
 ghost use Rattle.http_edge.specs.Left.{Left, part_of, closed, is_closed, rest, frame_from, rest_from};
 ghost use Rattle.http_edge.specs.Read.{IsRead};
@@ -31,6 +31,15 @@ pub fn left_over()
 pub fn head_is_of_the_grammar()
     ensures only { (block : List ℕ) (h : RequestHead) → head_of block ≡ Some h → ReadsRequest block h [] }
     ensures each { (block : List ℕ) (h : RequestHead) → ReadsRequest block h [] → head_of block ≡ Some h }
+{}
+
+/// A string that begins with a request head of the grammar, one that isn't too long, is framed as that head, and then
+/// as what follows it. Empty lines before it are dropped.
+pub fn head_comes_first()
+    ensures head { (h : RequestHead) (more : List ℕ) → IsRequestHead h → h.blank ≡ [] → length (print_request h) ≤ most_head_bytes
+        → frame (print_request h ++ more) ≡ judged (print_request h) ∷ (if closes (judged (print_request h)) then [] else frame more) }
+    ensures judged { (h : RequestHead) → IsRequestHead h → judged (print_request h) ≡ item_of (within_limit (Some h)) }
+    ensures blank { (end : LineEnd) (more : List ℕ) → frame (print_end end ++ more) ≡ frame more }
 {}
 
 /// Each request that stands in the bytes has a head of the grammar of `httparse` with at most 64 fields.

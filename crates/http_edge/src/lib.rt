@@ -18,7 +18,9 @@ pub use bytes::Bytes;
 pub use conn::Conn;
 pub use field::{Field, Fields};
 pub use item::{FramingFault, Head, Item};
-pub use laws::{head_is_of_the_grammar, left_over, pieces_join, requests_are_read};
+pub use laws::{
+    head_comes_first, head_is_of_the_grammar, left_over, pieces_join, requests_are_read,
+};
 pub use reply::{Reply, Status, render};
 
 #[cfg(test)]

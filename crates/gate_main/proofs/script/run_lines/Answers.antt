@@ -1,4 +1,4 @@
-use Rattle.std.proofs.Common.{◌≡◌, ◌+◌, length, false, true, Ok, Err, refl, ap, sym, subst, ◌∙◌, rules, length-append, ◌++◌, [], ◌∷◌, arith}
+use Rattle.std.proofs.Common.{◌≡◌, ◌+◌, length, false, true, Ok, Err, ap, sym, subst, ◌∙◌, rules, length-append, ◌++◌, [], ◌∷◌}
 use Rattle.std.specs.Prelude.{◌==◌}
 use Rattle.gate_main.specs.Reading.{ReadsLine}
 use Rattle.gate_main.specs.Script.{outcome}

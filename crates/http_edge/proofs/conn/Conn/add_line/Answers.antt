@@ -1,7 +1,7 @@
 use Rattle.std.proofs.Common.{◌≡◌, ◌<◌, ◌≤◌, ◌++◌, true, false, List, ℕ, [], Some, None, length, refl, sym, subst, ap, ◌∙◌, arith, length-append}
 use Rattle.http_edge.specs.Frame.{most_head_bytes}
 use Rattle.http_edge.specs.Line.{IsPart, is_empty_line, completes}
-use Rattle.http_edge.proofs.LineLemmas.{past_limit, completed_item, goes_on, adds_item, adds_blank, adds_nothing}
+use Rattle.http_edge.proofs.LineLemmas.{past_limit, completed_item, goes_on, adds_item, adds_blank}
 use Rattle.http_edge.proofs.conn.Conn.add_line.Goals as goal
 
 -- what the part is, in the words of the fields

@@ -1,4 +1,4 @@
-use Rattle.std.proofs.Common.{◌≡◌, List, [], ◌++◌, sym, ap, ◌∙◌}
+use Rattle.std.proofs.Common.{◌≡◌, [], ◌++◌, sym, ap, ◌∙◌}
 use Rattle.http_edge.specs.Left.{frame_from, rest_from}
 use Rattle.http_edge.proofs.FrameLemmas.{joined_by, kept_by, empty_from}
 use Rattle.http_edge.proofs.LineLemmas.{settled_by, nothing_more, closed_more}

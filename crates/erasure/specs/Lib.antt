@@ -1,0 +1,5 @@
+pub mod Polynomial
+pub mod Code
+pub mod Blocks
+pub mod Given
+pub mod Size

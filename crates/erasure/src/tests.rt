@@ -1,0 +1,222 @@
+ghost use Rattle.std.specs.Prelude.{◌≡◌, ◌<◌, IsTrue, take, All};
+ghost use Rattle.erasure.specs.Given.{contents_of, HaveOneLength};
+
+use super::*;
+use std::alloc::Global;
+use std::process::Abort;
+use std::test::Fail;
+
+mod vectors;
+
+fn have_one_length(blocks: &[&[u8]]) -> bool
+    ensures { IsTrue result → HaveOneLength (contents_of blocks.now) }
+{
+    for block in blocks {
+        if block.len() != blocks[0].len() {
+            return false;
+        }
+    }
+    true
+}
+
+fn can_decode(code: &Code, n: u16, blocks: &[(u16, &[u8])]) -> bool
+    requires { code.now.n ≡ n }
+    ensures { IsTrue result → All (λ b. b.0 < code.now.n) (take code.now.k blocks.now) }
+{
+    for (number, _) in blocks {
+        if *number >= n {
+            return false;
+        }
+    }
+    true
+}
+
+/// All n blocks.
+fn encode_all(
+    rt: &impl Abort,
+    alloc: Global,
+    (k, n): (u16, u16),
+    primary: &[&[u8]],
+) -> Result<Vec<Vec<u8>>, Fail> {
+    let code = Code::new(k, n)?;
+    assert_eq!(rt; primary.len(), k as usize);
+    assert!(rt; have_one_length(primary));
+    let mut blocks = Vec::new(alloc);
+    for i in 0..n {
+        blocks.push(code.encode_block(alloc, primary, i)?)?;
+    }
+    Ok(blocks)
+}
+
+fn decode(
+    alloc: Global,
+    (k, n): (u16, u16),
+    blocks: &[(u16, &[u8])],
+) -> Result<Vec<Vec<u8>>, CodeFault> {
+    let code = Code::new(k, n)?;
+    if can_decode(&code, n, blocks) {
+        code.decode(alloc, blocks)
+    } else {
+        Err(CodeFault::BadParameters)
+    }
+}
+
+#[test]
+fn k_is_at_least_one_and_n_at_most_256(rt: HostRuntime) {
+    for (k, n) in [(0, 1), (3, 2), (1, 257), (0, 0), (257, 257)] {
+        assert!(rt; matches!(&Code::new(k, n), Err(CodeFault::BadParameters)));
+    }
+    for (k, n) in [(1, 1), (1, 256), (256, 256), (3, 10)] {
+        assert!(rt; Code::new(k, n).is_ok());
+    }
+}
+
+#[test]
+fn two_of_four(rt: HostRuntime) -> Result<(), Fail> {
+    let blocks = encode_all(&rt, rt.alloc(), (2, 4), &[&[1], &[3]])?;
+    assert_eq!(rt; blocks.len(), 4);
+    assert_eq!(rt; blocks[2].as_slice(), [5].as_slice());
+    assert_eq!(rt; blocks[3].as_slice(), [9].as_slice());
+    let primary = decode(rt.alloc(), (2, 4), &[(2, &[5]), (3, &[9])])?;
+    assert_eq!(rt; primary.len(), 2);
+    assert_eq!(rt; primary[0].as_slice(), [1].as_slice());
+    assert_eq!(rt; primary[1].as_slice(), [3].as_slice());
+    Ok(())
+}
+
+#[test]
+fn faults_come_in_their_order(rt: HostRuntime) {
+    assert!(rt;
+        matches!(
+            &decode(rt.alloc(), (2, 4), &[(2, &[5])]),
+            Err(CodeFault::TooFew)
+        )
+    );
+    assert!(rt;
+        matches!(
+            &decode(rt.alloc(), (2, 4), &[(2, &[5]), (2, &[5, 7])]),
+            Err(CodeFault::Repeated)
+        )
+    );
+    assert!(rt;
+        matches!(
+            &decode(rt.alloc(), (2, 4), &[(2, &[5]), (3, &[9, 7])]),
+            Err(CodeFault::UnequalLength)
+        )
+    );
+}
+
+#[test]
+fn blocks_past_the_kth_are_not_looked_at(rt: HostRuntime) -> Result<(), Fail> {
+    let primary = decode(rt.alloc(), (2, 4), &[(2, &[5]), (3, &[9]), (3, &[0, 0])])?;
+    assert_eq!(rt; primary.len(), 2);
+    assert_eq!(rt; primary[0].as_slice(), [1].as_slice());
+    Ok(())
+}
+
+#[test]
+fn with_one_primary_block_each_block_is_it(rt: HostRuntime) -> Result<(), Fail> {
+    for block in encode_all(&rt, rt.alloc(), (1, 5), &[&[7, 0, 255]])? {
+        assert_eq!(rt; block.as_slice(), [7, 0, 255].as_slice());
+    }
+    for block in encode_all(&rt, rt.alloc(), (2, 3), &[&[], &[]])? {
+        assert_eq!(rt; block.len(), 0);
+    }
+    Ok(())
+}
+
+/// The blocks are `bytes` in pieces of `size`: encoding the first k gives all, and decoding the last k the first.
+fn check_vector(
+    rt: &impl Abort,
+    alloc: Global,
+    (k, n): (u16, u16),
+    size: usize,
+    bytes: &[u8],
+) -> Result<(), Fail> {
+    let mut expected = Vec::new(alloc);
+    for piece in bytes.chunks(size.max(1)) {
+        expected.push(piece)?;
+    }
+    assert!(rt; expected.len() == n as usize && k <= n);
+    let primary = &expected[..k as usize];
+    let blocks = encode_all(rt, alloc, (k, n), primary)?;
+    for (block, piece) in blocks.iter().zip(&expected) {
+        assert_eq!(rt; block.as_slice(), *piece);
+    }
+    let mut given = Vec::new(alloc);
+    for (i, piece) in (0..n).zip(&expected) {
+        if i >= n - k {
+            given.push((i, *piece))?;
+        }
+    }
+    let decoded = decode(alloc, (k, n), &given)?;
+    for (block, piece) in decoded.iter().zip(primary) {
+        assert_eq!(rt; block.as_slice(), *piece);
+    }
+    Ok(())
+}
+
+#[test]
+fn blocks_are_those_of_zfec(rt: HostRuntime) -> Result<(), Fail> {
+    check_vector(&rt, rt.alloc(), (2, 4), 1, &vectors::BLOCKS_2_OF_4)?;
+    check_vector(&rt, rt.alloc(), (3, 10), 19, &vectors::BLOCKS_3_OF_10)?;
+    check_vector(&rt, rt.alloc(), (5, 7), 8, &vectors::BLOCKS_5_OF_7)?;
+    check_vector(&rt, rt.alloc(), (4, 4), 5, &vectors::BLOCKS_4_OF_4)?;
+    check_vector(&rt, rt.alloc(), (16, 40), 2, &vectors::BLOCKS_16_OF_40)?;
+    check_vector(&rt, rt.alloc(), (100, 256), 1, &vectors::BLOCKS_100_OF_256)
+}
+
+/// Decodes from the blocks whose bits are set.
+fn check_choice(
+    rt: &impl Abort,
+    alloc: Global,
+    (k, n): (u16, u16),
+    blocks: &[Vec<u8>],
+    choice: u16,
+) -> Result<(), Fail> {
+    let mut given = Vec::new(alloc);
+    for (i, block) in (0..n).zip(blocks) {
+        if (choice >> (i % 16)) & 1 == 1 {
+            given.push((i, block.as_slice()))?;
+        }
+    }
+    if given.len() != k as usize {
+        return Ok(());
+    }
+    let decoded = decode(alloc, (k, n), &given)?;
+    assert_eq!(rt; decoded.len(), k as usize);
+    for (block, expected) in decoded.iter().zip(blocks) {
+        assert_eq!(rt; block.as_slice(), expected.as_slice());
+    }
+    Ok(())
+}
+
+#[test]
+fn every_choice_of_k_of_n_decodes(rt: HostRuntime) -> Result<(), Fail> {
+    let bytes: [&[u8]; 8] = [
+        &[1, 200],
+        &[30, 4],
+        &[5, 60],
+        &[70, 8],
+        &[9, 0],
+        &[11, 255],
+        &[13, 14],
+        &[128, 29],
+    ];
+    for n in 1..=8u16 {
+        for k in 1..=n {
+            let blocks = encode_all(&rt, rt.alloc(), (k, n), &bytes[..k as usize])?;
+            for choice in 0..256u16 {
+                check_choice(&rt, rt.alloc(), (k, n), &blocks, choice)?;
+            }
+        }
+    }
+    Ok(())
+}
+
+#[test]
+fn mul_add_adds_products(rt: HostRuntime) {
+    let mut sum = [1, 2, 128, 0];
+    mul_add(&mut sum, &[128, 0, 128, 7], 2);
+    assert_eq!(rt; sum, [1 ^ 29, 2, 128 ^ 29, 14]);
+}

@@ -1,0 +1,41 @@
+//! Why a grid refuses.
+use std::alloc::AllocError;
+use thiserror::Error;
+
+/// Why a call of a grid was refused. A server is given by its place among the stores, from 0.
+#[derive(Clone, Copy, Debug, PartialEq, Eq, Error)]
+pub enum GridError {
+    /// A share is longer than the room of this server's store, and none stands in its place.
+    #[error("the store of server {0} is full")]
+    Full(usize),
+    /// This server's store failed in the call.
+    #[error("the store of server {0} is down")]
+    Down(usize),
+    /// There is no such server.
+    #[error("there is no such server")]
+    NoServer,
+    /// The image has its first fault at this place, counted in bytes from 0; or an image can't hold what stands, and
+    /// the field at this place is the first whose range is passed.
+    #[error("the image has a fault at byte {0}")]
+    BadImage(u64),
+    /// The reader failed, or was asked too often.
+    #[error("the image could not be read")]
+    ReadFailed,
+    /// The writer failed, took no byte, or was asked too often.
+    #[error("the image could not be written")]
+    WriteFailed,
+    /// There was no memory for the call.
+    #[error("out of memory")]
+    NoMemory,
+}
+
+impl From<AllocError> for GridError {
+    ghost use Rattle.std.specs.Prelude.{◌≡◌};
+    ghost use Rattle.grid.specs.declared.error.GridError.TheVariants.{NoMemory};
+
+    ghost from_gives = { λ _ e. e ≡ NoMemory };
+
+    fn from(_: AllocError) -> Self {
+        GridError::NoMemory
+    }
+}

@@ -1,0 +1,15 @@
+//! A grid of stores.
+//!
+//! A grid is 1 to 256 servers with a store each. It places the shares of a file, one server after the other from the
+//! one that the storage index's last byte names, and gathers what stands; an operator loses and spoils single shares.
+#![tactic(auto)]
+
+mod error;
+mod laws;
+mod server_grid;
+#[cfg(test)]
+mod tests;
+
+pub use error::GridError;
+pub use laws::spoil_laws;
+pub use server_grid::Grid;

@@ -1,0 +1,7 @@
+pub mod Chain
+pub mod Filled
+pub mod Height
+pub mod Leads
+pub mod Node
+pub mod Nodes
+pub mod Tree

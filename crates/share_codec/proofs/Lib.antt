@@ -1,0 +1,5 @@
+pub mod Netstrings
+pub mod Entries
+pub mod Cuts
+pub mod Six
+pub mod Reading

@@ -1,0 +1,10 @@
+pub mod Segments
+pub mod Tags
+pub mod Ueb
+pub mod Texts
+pub mod Shares
+pub mod Meets
+pub mod Causes
+pub mod GoodShare
+pub mod Uses
+pub mod Parts
