@@ -1,5 +1,5 @@
 -- What a walk over a store's shares finds.
-use Rattle.std.proofs.Common.{◌≡◌, ◌⊎◌, ◌^◌, inl, inr, ℕ, zero, suc, ◌<◌, ◌≤◌, ◌+◌, Bool, true, false, cond, List, [], ◌∷◌, ◌++◌, length, map, take, Option, Some, None, slice_get, slice_set, get_or, All, refl, sym, ap, subst, ◌∙◌, arith, nat_eq, add-one}
+use Rattle.std.proofs.Common.{◌≡◌, ◌⊎◌, ◌^◌, inl, inr, ℕ, zero, suc, ◌<◌, ◌≤◌, Bool, true, false, cond, List, [], ◌∷◌, ◌++◌, length, map, take, Some, None, slice_get, get_or, All, refl, sym, ap, subst, ◌∙◌, arith, nat_eq}
 use Rattle.std.proofs.lemmas.List.{take_all}
 use Rattle.std.proofs.lemmas.Option.{slice_get-map, slice_get_cases}
 use Rattle.std.proofs.lemmas.List.Elements.{All-tail}
@@ -9,8 +9,7 @@ use Rattle.std.specs.Cmp.Lexicographic.{pointwise}
 use Rattle.std.specs.FinMap.{entries}
 use Rattle.share_store.specs.Shares.{Shares, Entry, bytes_in, bytes_of}
 use Rattle.share_store.specs.Numbers.{of_index}
-use Rattle.grid.specs.Standing.{standing, at_server}
-use Rattle.grid.specs.Found.{entries_at, found_in, found_below}
+use Rattle.grid.specs.Found.{entries_at, found_in}
 
 pub entries_here : {S : Type 0} (shares : S → Shares) (stores : List S) (i : ℕ) (store : S) → slice_get stores i ≡ Some store → entries_at (map shares stores) i ≡ entries (shares store)
 entries_here shares stores i store at = ap (λ o. option_map_or entries o []) (slice_get-map shares stores i ∙ ap (option_map shares) at)

@@ -1,5 +1,5 @@
 -- What one store's call does to what stands in a grid.
-use Rattle.std.proofs.Common.{◌≡◌, ◌⊎◌, inl, inr, ◌≢◌, ℕ, zero, suc, ◌<◌, ◌≤◌, ◌+◌, ◌↔◌, Bool, true, false, cond, eqb, ◌==◌, List, [], ◌∷◌, length, Option, Some, None, slice_get, slice_set, slice_index_or, Result, Ok, Err, IsErrOf, IsErrAnd, IfErr, IfOk, OnOk, OnErr, if◌then◌else◌, refl, sym, ap, subst, ◌∙◌, arith, unwrap_or, ◌&&◌, option_and_then, is_some, nat_lt, nat_cmp, All, get_or, ◌++◌, take, map, add-one, length-take-le, length-append}
+use Rattle.std.proofs.Common.{◌≡◌, ◌⊎◌, inl, inr, ℕ, zero, suc, ◌<◌, ◌≤◌, ◌+◌, ◌↔◌, Bool, true, false, cond, ◌==◌, List, [], ◌∷◌, length, Option, Some, None, slice_get, slice_set, Result, Ok, Err, IsErrOf, IsErrAnd, IfErr, if◌then◌else◌, refl, sym, ap, subst, ◌∙◌, arith, unwrap_or, ◌&&◌, option_and_then, is_some, nat_lt, nat_cmp, All, get_or, ◌++◌, take, map, add-one, length-take-le, length-append}
 use Rattle.std.proofs.lemmas.List.{length-map}
 use Rattle.std.proofs.lemmas.Option.{slice_get_read, slice_get_within, slice_get-map}
 use Rattle.std.specs.Option.{option_map, option_map_or}
@@ -11,9 +11,9 @@ use Rattle.std.proofs.lemmas.List.{set_past}
 use Rattle.std.specs.Ordering.{eq_by_cmp, is_eq, ordering_then}
 use Rattle.std.specs.declared.cmp.Ordering.{Ordering}
 use Rattle.std.specs.declared.cmp.Ordering.TheVariants.{Less, Equal, Greater}
-use Rattle.std.specs.Cmp.{IsTotalOrder, nat_cmp_is, nat_cmp_total, then_total, on_total, eq_by_cmp_equiv}
+use Rattle.std.specs.Cmp.{IsTotalOrder, nat_cmp_is, nat_cmp_total, then_total, on_total}
 use Rattle.std.specs.Cmp.Lexicographic.{nat_list_cmp_total}
-use Rattle.std.specs.FinMap.{get, insert, remove, contains_key, get-insert, get-remove}
+use Rattle.std.specs.FinMap.{get, insert, get-insert}
 use Rattle.share_store.specs.Shares.{Shares, ShareKey, key_cmp}
 use Rattle.share_store.specs.Put.{put_once}
 use Rattle.share_store.specs.Toggle.{toggled, with_toggle, has_byte, bytes_at}

@@ -3,8 +3,7 @@ use Rattle.std.specs.Option.{option_map}
 use Rattle.std.specs.Ordering.{eq_by_cmp}
 use Rattle.share_store.specs.Shares.{ShareKey, key_cmp}
 use Rattle.share_store.specs.Toggle.{toggled, ToggleLaws}
-use Rattle.grid.specs.Standing.{Standing}
-use Rattle.grid.specs.Changes.{spoiled, SpoilLaws}
+use Rattle.grid.specs.Changes.{spoiled}
 use Rattle.grid.proofs.laws.spoil_laws.Goals as goal
 
 spoiled_twice : ToggleLaws → (t : Bool) (place : ℕ) (stood : Option (List ℕ)) →

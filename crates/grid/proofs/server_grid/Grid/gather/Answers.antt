@@ -1,4 +1,4 @@
-use Rattle.std.proofs.Common.{◌≡◌, ◌≤◌, ◌+◌, ◌++◌, ◌∙◌, ℕ, suc, ap, sym, arith, map, vec_len, List, All, Some, subst}
+use Rattle.std.proofs.Common.{◌≡◌, ◌+◌, ◌++◌, ◌∙◌, ℕ, suc, ap, sym, arith, map, List, All, Some, subst}
 use Rattle.std.specs.Rc.{rc_slice_items}
 use Rattle.grid.specs.Standing.{standing, at_server}
 use Rattle.share_store.specs.Shares.{Shares}

@@ -1,8 +1,7 @@
-use Rattle.std.proofs.Common.{◌≡◌, ◌≤◌, ◌+◌, ◌++◌, ◌∙◌, ℕ, suc, List, [], ◌∷◌, true, false, ap, sym, subst, arith, length, map, take, append_assoc, append-nil, Some, None, slice_get, All}
+use Rattle.std.proofs.Common.{◌≡◌, ◌+◌, ◌++◌, ◌∙◌, ℕ, suc, List, [], ◌∷◌, true, false, ap, sym, subst, arith, map, take, append_assoc, append-nil, Some, None, slice_get, All}
 use Rattle.std.proofs.lemmas.List.{map-append}
 use Rattle.std.specs.Rc.{rc_slice_items}
 use Rattle.std.specs.Option.{option_map}
-use Rattle.share_store.specs.Shares.{Shares}
 use Rattle.share_store.specs.Stored.{entry_of}
 use Rattle.grid.specs.Standing.{standing, at_server}
 use Rattle.grid.specs.Found.{entries_at, found_in, seen}

@@ -1,11 +1,10 @@
-use Rattle.std.proofs.Common.{◌≡◌, ◌<◌, ◌∙◌, ◌^◌, ap, sym, subst, arith, length, get_or, IfOk, slice_get, slice_set}
+use Rattle.std.proofs.Common.{◌≡◌, ◌∙◌, ap, sym, subst, IfOk, slice_get}
 use Rattle.std.proofs.Math.Seq.{map-set_same}
 use Rattle.std.specs.Option.{option_map}
 use Rattle.share_store.specs.Stored.{entry_of}
 use Rattle.grid.proofs.Standing.{store_at, same_there}
 use Rattle.grid.proofs.Gather.{entries_here}
 use Rattle.grid.proofs.Entries.{given_stood}
-use Rattle.grid.specs.Standing.{at_server}
 use Rattle.grid.proofs.server_grid.Grid.nth_at.Goals as goal
 
 pub returns-clause-same : goal.returns-clause-same

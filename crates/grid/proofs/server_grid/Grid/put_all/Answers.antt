@@ -1,11 +1,10 @@
-use Rattle.std.proofs.Common.{◌≡◌, ◌<◌, ◌+◌, ◌%◌, ℕ, refl, arith, sym, ap, subst, ◌∙◌, Some, None, Err, slice_get, vec_len, map}
+use Rattle.std.proofs.Common.{◌≡◌, ◌<◌, ◌+◌, ◌%◌, refl, arith, sym, ap, subst, ◌∙◌, Some, None, Err, slice_get, vec_len, map}
 use Rattle.std.proofs.lemmas.List.{length-map}
 use Rattle.std.proofs.lemmas.Option.{slice_get_read}
 use Rattle.std.specs.Rc.{rc_slice_items}
 use Rattle.grid.specs.Standing.{at_server, standing}
-use Rattle.grid.specs.Placement.{server_of, placed}
+use Rattle.grid.specs.Placement.{server_of}
 use Rattle.grid.specs.Changes.{put_at}
-use Rattle.grid.specs.Refusals.{StopsAt}
 use Rattle.grid.proofs.Standing.{placed_next, passed_on, passed_error}
 use Rattle.grid.proofs.server_grid.Grid.put_all.Goals as goal
 

@@ -1,4 +1,4 @@
-use Rattle.std.proofs.Common.{◌≡◌, ◌<◌, ℕ, arith, refl, sym, ap, ◌∙◌, Some, Err, unwrap_or}
+use Rattle.std.proofs.Common.{refl, ap, ◌∙◌, Some, Err, unwrap_or}
 use Rattle.std.specs.FinMap.{get}
 use Rattle.std.specs.Rc.{rc_slice_items}
 use Rattle.grid.specs.declared.error.GridError.TheVariants.{Down, NoMemory}

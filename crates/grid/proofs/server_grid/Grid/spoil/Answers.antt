@@ -1,8 +1,8 @@
-use Rattle.std.proofs.Common.{◌≡◌, ◌<◌, ℕ, arith, sym, ap, ◌∙◌, None}
+use Rattle.std.proofs.Common.{arith, ap, ◌∙◌}
 use Rattle.std.specs.Option.{option_map}
-use Rattle.std.specs.FinMap.{get, get-remove}
+use Rattle.std.specs.FinMap.{get}
 use Rattle.share_store.specs.Toggle.{toggled}
-use Rattle.grid.proofs.Standing.{standing_same, standing_changed, get-with_toggle, key_cmp_total, store_at}
+use Rattle.grid.proofs.Standing.{standing_same, standing_changed, get-with_toggle, store_at}
 use Rattle.grid.proofs.server_grid.Grid.spoil.Goals as goal
 
 pub returns-in-Ok-clause-ok : goal.returns-in-Ok-clause-ok
