@@ -19,7 +19,7 @@ mod writing;
 pub use fault::ScriptFault;
 pub use laws::{lines_join_to_the_script, numbers_have_one_word, texts_are_read_back};
 pub use script::run_script;
-use std::io::{BufReader, BufWriter};
+use std::io::{BufReader, BufWriter, ErrorKind};
 use std::process::ExitCode;
 use std::rt::Env;
 use std::{env, io};
@@ -31,12 +31,12 @@ const USAGE: &str = "usage: gate_main replay < SCRIPT";
 
 /// Status 0 where the script was answered, 1 at a fault, 2 at wrong arguments.
 fn main(rt: HostRuntime) -> ExitCode {
-    if !asks_replay(&rt) {
-        let _ = rt.eprintln(USAGE);
-        return ExitCode::from(2);
-    }
-    match replay(&rt) {
-        Ok(()) => ExitCode::SUCCESS,
+    match run(&rt) {
+        Ok(true) => ExitCode::SUCCESS,
+        Ok(false) => {
+            let _ = rt.eprintln(USAGE);
+            ExitCode::from(2)
+        }
         Err(fault) => {
             let _ = eprintln!(rt; "gate_main: {fault}");
             ExitCode::from(1)
@@ -44,15 +44,26 @@ fn main(rt: HostRuntime) -> ExitCode {
     }
 }
 
-/// Whether the one argument is `replay`.
-fn asks_replay(rt: &(impl Env + AllocGlobal)) -> bool {
-    let Ok(arguments) = env::args(rt) else {
-        return false;
+/// Runs the script where the arguments ask for it; `false` where they are wrong.
+fn run(rt: &(impl Env + Input + Print + AllocGlobal)) -> Result<bool, ScriptFault> {
+    let asked = asks_replay(rt)?;
+    if asked {
+        replay(rt)?;
+    }
+    Ok(asked)
+}
+
+/// Whether the one argument is `replay`. An argument that is no text isn't; memory may be refused to read them.
+fn asks_replay(rt: &(impl Env + AllocGlobal)) -> Result<bool, ScriptFault> {
+    let arguments = match env::args(rt) {
+        Ok(arguments) => arguments,
+        Err(error) if error.kind() == ErrorKind::OutOfMemory => return Err(ScriptFault::NoMemory),
+        Err(_) => return Ok(false),
     };
     let mut arguments = arguments.skip(1);
     match (arguments.next(), arguments.next()) {
-        (Some(verb), None) => verb.as_str() == "replay",
-        _ => false,
+        (Some(verb), None) => Ok(verb.as_str() == "replay"),
+        _ => Ok(false),
     }
 }
 
