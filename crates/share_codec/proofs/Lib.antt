@@ -3,3 +3,10 @@ pub mod Entries
 pub mod Cuts
 pub mod Six
 pub mod Reading
+pub mod Pieces
+pub mod Meeting
+pub mod Formed
+pub mod Hashed
+pub mod Apart
+pub mod ReadBack
+pub mod Rejoining

@@ -53,7 +53,7 @@ refuted P never = (λ h. absurd (never_true h), λ h. absurd (never h))
 same_texts : NetstringsPart → (s : List ℕ) (t u : Texts) → IsSix s t → IsSix s u → t ≡ u
 same_texts parts s t u one two = six_unique parts t u (sym one.text ∙ two.text)
 
-same_roots : NetstringsPart → (p : Params) (text : List ℕ) (one two : Ueb) → text ≡ ueb_text p one → text ≡ ueb_text p two → one ≡ two
+pub same_roots : NetstringsPart → (p : Params) (text : List ℕ) (one two : Ueb) → text ≡ ueb_text p one → text ≡ ueb_text p two → one ≡ two
 same_roots parts p text one two e f =
     let first : one.crypttext_root ≡ two.crypttext_root =
     value_of_entry parts text _ one.crypttext_root two.crypttext_root (behind1 p one) (behind1 p two) (e ∙ ueb_text-is p one) (f ∙ ueb_text-is p two) in

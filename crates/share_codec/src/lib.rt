@@ -9,6 +9,7 @@
 
 mod extension;
 mod fault;
+mod laws;
 mod netstring;
 mod params;
 mod parts;
@@ -20,6 +21,11 @@ mod tests;
 mod ueb;
 
 pub use fault::ShareFault;
+pub use laws::{
+    any_shares_determine, good_shares_are_made, made_shares_are_read_back,
+    made_shares_meet_their_fields, segments_are_joined_again, uses_of_verifying_are_of_the_texts,
+    uses_of_verifying_are_uses_of_making,
+};
 pub use params::Params;
 pub use read::read_share;
 pub use share::Share;
