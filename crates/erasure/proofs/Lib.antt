@@ -1,4 +1,5 @@
 pub mod Sums
+pub mod Halves
 pub mod Polynomials
 pub mod Lagrange
 pub mod Numbered

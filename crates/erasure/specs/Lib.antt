@@ -1,5 +1,6 @@
 pub mod Polynomial
 pub mod Code
+pub mod Tables
 pub mod Blocks
 pub mod Given
 pub mod Size

@@ -9,6 +9,7 @@ mod fault;
 mod given;
 mod interpolation;
 mod kernel;
+mod lanes;
 mod laws;
 
 pub use code::Code;

@@ -1,7 +1,8 @@
-ghost use Rattle.std.specs.Prelude.{◌≡◌, ◌<◌, IsTrue, take, All};
+ghost use Rattle.std.specs.Prelude.{◌≡◌, ◌<◌, IsTrue, length, take, All};
 ghost use Rattle.erasure.specs.Given.{contents_of, HaveOneLength};
 
 use super::*;
+use gf_field::mul;
 use std::alloc::Global;
 use std::process::Abort;
 use std::test::Fail;
@@ -219,4 +220,52 @@ fn mul_add_adds_products(rt: HostRuntime) {
     let mut sum = [1, 2, 128, 0];
     mul_add(&mut sum, &[128, 0, 128, 7], 2);
     assert_eq!(rt; sum, [1 ^ 29, 2, 128 ^ 29, 14]);
+}
+
+/// `mul_add` byte by byte, by the field's own product.
+fn mul_add_plainly(dst: &mut [u8], src: &[u8], c: u8)
+    requires { length dst.old ≡ length src.now }
+{
+    for i in 0..src.len() {
+        dst[i] ^= mul(c, src[i]);
+    }
+}
+
+/// Compares both at these bytes.
+fn check_mul_add(rt: &impl Abort, fast: &mut [u8], plain: &mut [u8], src: &[u8], c: u8)
+    requires fast { length fast.old ≡ length src.now }
+    requires plain { length plain.old ≡ length src.now }
+{
+    mul_add(fast, src, c);
+    mul_add_plainly(plain, src, c);
+    assert_eq!(rt; &*fast, &*plain);
+}
+
+#[test]
+fn mul_add_is_byte_by_byte_at_each_constant_and_length(rt: HostRuntime) {
+    let mut src = [0u8; 100];
+    for i in 0..100usize {
+        src[i] = (i * 167 % 256) as u8;
+    }
+    for c in 0..=255u8 {
+        for size in 0..=100usize {
+            let mut fast = [0x5au8; 100];
+            let mut plain = [0x5au8; 100];
+            check_mul_add(&rt, &mut fast[..size], &mut plain[..size], &src[..size], c);
+            assert_eq!(rt; fast, plain);
+        }
+    }
+}
+
+#[test]
+fn mul_add_is_byte_by_byte_at_many_bytes(rt: HostRuntime) -> Result<(), Fail> {
+    let mut src = Vec::with_capacity(rt.alloc(), 100_003)?;
+    for i in 0..100_003usize {
+        src.push((i % 256 * 167 % 256) as u8)?;
+    }
+    let mut fast = Vec::from_slice(rt.alloc(), &src)?;
+    let mut plain = Vec::from_slice(rt.alloc(), &src)?;
+    assert!(rt; fast.len() == src.len() && plain.len() == src.len());
+    check_mul_add(&rt, &mut fast, &mut plain, &src, 0x8e);
+    Ok(())
 }

@@ -1,0 +1,42 @@
+//! What the program is called with.
+
+use std::rt::Env;
+use std::{env, fmt};
+
+#[derive(Debug, Drop)]
+pub(crate) enum ArgumentFault {
+    /// The argument is no number of turns.
+    NotACount,
+    /// There is more than one argument.
+    TooMany,
+    /// The arguments can't be read.
+    Unreadable,
+}
+
+impl fmt::Display for ArgumentFault {
+    fn fmt<W: fmt::Write>(&self, f: &mut fmt::Formatter<W>) -> fmt::Result {
+        match self {
+            ArgumentFault::NotACount => write!(f, "NotACount: TURNS is 1 to 4294967295"),
+            ArgumentFault::TooMany => write!(f, "TooMany: usage: gate_bench [TURNS]"),
+            ArgumentFault::Unreadable => write!(f, "Unreadable: the arguments can't be read"),
+        }
+    }
+}
+
+/// The number of turns, if it is given.
+pub(crate) fn turns(rt: &(impl Env + AllocGlobal)) -> Result<Option<u32>, ArgumentFault> {
+    let Ok(arguments) = env::args(rt) else {
+        return Err(ArgumentFault::Unreadable);
+    };
+    let mut arguments = arguments.skip(1);
+    let Some(first) = arguments.next() else {
+        return Ok(None);
+    };
+    if arguments.next().is_some() {
+        return Err(ArgumentFault::TooMany);
+    }
+    match first.as_str().parse::<u32>() {
+        Ok(turns) if turns > 0 => Ok(Some(turns)),
+        _ => Err(ArgumentFault::NotACount),
+    }
+}
