@@ -10,3 +10,6 @@ pub mod Hashed
 pub mod Apart
 pub mod ReadBack
 pub mod Rejoining
+pub mod Making
+pub mod Totals
+pub mod Fronts

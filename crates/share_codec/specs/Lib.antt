@@ -8,3 +8,4 @@ pub mod Causes
 pub mod GoodShare
 pub mod Uses
 pub mod Parts
+pub mod Drafts

@@ -1,4 +1,4 @@
-//! Shares: how a file is cut, and when a string is a good share of it.
+//! Shares: how a file is cut and its shares are made, and when a string is a good share of it.
 //!
 //! A file is cut into segments and each segment into k primary blocks; share i has block i of each segment. Beside its
 //! blocks a share has its number, the URI extension block, which says how the file was encoded and has the roots of
@@ -7,9 +7,13 @@
 //! from bad by a cap's numbers and the hash of the extension block alone.
 #![tactic(auto)]
 
+mod cut;
+mod draft;
 mod extension;
 mod fault;
+mod front;
 mod laws;
+mod make;
 mod netstring;
 mod params;
 mod parts;
@@ -26,6 +30,7 @@ pub use laws::{
     made_shares_meet_their_fields, segments_are_joined_again, uses_of_verifying_are_of_the_texts,
     uses_of_verifying_are_uses_of_making,
 };
+pub use make::make_shares;
 pub use params::Params;
 pub use read::read_share;
 pub use share::Share;

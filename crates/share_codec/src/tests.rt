@@ -1,8 +1,9 @@
-ghost use Rattle.std.specs.Prelude.{◌<◌};
+ghost use Rattle.std.specs.Prelude.{◌≡◌, ◌<◌, ◌≤◌, length, IfOk};
 
 use super::*;
-use std::alloc::Global;
+use std::alloc::{AllocError, Global};
 use std::test::Fail;
+use tag_hash::TagHasher;
 
 /// Share 4 of 56 letters `a` under the empty secret, any 3 of 10 shares giving them back.
 const SHARE_OF_TEN: [u8; 394] = [
@@ -39,6 +40,14 @@ const UEB_HASH_OF_TEN: [u8; 32] = [
     0xdd, 0xb4, 0xdd, 0xe3, 0x27, 0xe6, 0x50, 0x27, 0x72, 0x8f, 0xc0, 0xb9, 0x77, 0xe7, 0xe4, 0x1c,
 ];
 
+/// The crypttext of these letters.
+const CRYPTTEXT_OF_TEN: [u8; 56] = [
+    0x77, 0x67, 0x53, 0x58, 0x3a, 0xe3, 0xf9, 0xbf, 0xee, 0x6d, 0x92, 0xd0, 0x58, 0x19, 0x7b, 0x61,
+    0x40, 0xaf, 0x13, 0x38, 0x89, 0xf1, 0xed, 0xc0, 0xae, 0x55, 0x42, 0xa5, 0x90, 0x2d, 0x97, 0x88,
+    0x90, 0x4c, 0xaa, 0x50, 0x8f, 0x3e, 0xab, 0x66, 0x08, 0x90, 0x8c, 0x9c, 0xe7, 0x9c, 0xd6, 0x20,
+    0xa3, 0xc0, 0xcf, 0xf7, 0x56, 0xdf, 0x91, 0xa3,
+];
+
 /// Share 0 of the same bytes with one share in all.
 const SHARE_OF_ONE: [u8; 300] = [
     0x31, 0x3a, 0x31, 0x2c, 0x31, 0x3a, 0x30, 0x2c, 0x31, 0x38, 0x38, 0x3a, 0x63, 0x72, 0x79, 0x70,
@@ -68,7 +77,9 @@ const UEB_HASH_OF_ONE: [u8; 32] = [
     0x8b, 0x14, 0xd8, 0x16, 0x8c, 0xec, 0xc7, 0xd0, 0x25, 0x27, 0xb6, 0x2d, 0x34, 0x34, 0x6e, 0x93,
 ];
 
-fn ten() -> Params {
+fn ten() -> Params
+    ensures { result.size ≡ 56 }
+{
     Params::new(3, 10, 56)
 }
 
@@ -226,4 +237,129 @@ fn segments_are_cut_by_the_lesser_of_131072_and_the_size(rt: HostRuntime) {
     assert_eq!(rt; big.blocks_size(), 66_667);
     assert_eq!(rt; ten().segment_size(), 57);
     assert_eq!(rt; ten().block_size(), 19);
+}
+
+/// So many bytes, each one more than the one before, from 0 to 250 over and over.
+fn counted(alloc: Global, count: usize) -> Result<Vec<u8>, AllocError>
+    ensures { IfOk result (λ bytes. length bytes.items ≡ count) }
+{
+    let mut bytes = Vec::with_capacity(alloc, count)?;
+    for at in 0..count {
+        bytes.push((at % 251) as u8)?;
+    }
+    Ok(bytes)
+}
+
+/// A hash of shares in a row, each of which is good.
+fn hash_of_good(
+    alloc: Global,
+    shares: &[Vec<u8>],
+    params: &Params,
+    ueb: &[u8; 32],
+) -> Result<[u8; 32], ShareFault>
+    requires { length shares.now ≤ 256 }
+{
+    let mut hasher = TagHasher::new(b"shares");
+    for (number, share) in shares.iter().enumerate() {
+        read_share(alloc, share, number as u16, params, ueb)?;
+        hasher.update(share);
+    }
+    Ok(hasher.finish())
+}
+
+#[test]
+fn ten_shares_of_a_small_file(rt: HostRuntime) -> Result<(), Fail> {
+    let (shares, hash) = make_shares(rt.alloc(), &ten(), &CRYPTTEXT_OF_TEN)?;
+    assert_eq!(rt; hash, UEB_HASH_OF_TEN);
+    assert_eq!(rt; shares.len(), 10);
+    assert_eq!(rt; shares[4].as_slice(), SHARE_OF_TEN.as_slice());
+    hash_of_good(rt.alloc(), &shares, &ten(), &hash)?;
+    Ok(())
+}
+
+#[test]
+fn one_share_in_all_has_the_whole_crypttext(rt: HostRuntime) -> Result<(), Fail> {
+    let crypttext = &SHARE_OF_ONE[243..299];
+    let (shares, hash) = make_shares(rt.alloc(), &Params::new(1, 1, 56), crypttext)?;
+    assert_eq!(rt; hash, UEB_HASH_OF_ONE);
+    assert_eq!(rt; shares.len(), 1);
+    assert_eq!(rt; shares[0].as_slice(), SHARE_OF_ONE.as_slice());
+    Ok(())
+}
+
+#[test]
+fn shares_of_two_segments(rt: HostRuntime) -> Result<(), Fail> {
+    let params = Params::new(3, 10, 200_000);
+    let crypttext = counted(rt.alloc(), 200_000)?;
+    let (shares, hash) = make_shares(rt.alloc(), &params, &crypttext)?;
+    assert_eq!(rt;
+        hash,
+        [
+            0x6d, 0x1a, 0x85, 0x25, 0x02, 0xa3, 0x2e, 0xc3, 0x4f, 0x12, 0xdf, 0xec, 0xd5, 0x41,
+            0xa7, 0xf2, 0x79, 0x8e, 0xdd, 0x08, 0x3b, 0x48, 0x48, 0x1a, 0x45, 0x66, 0x63, 0xd9,
+            0x8f, 0xb1, 0xd1, 0x85,
+        ]
+    );
+    assert_eq!(rt; shares.len(), 10);
+    assert_eq!(rt; shares[4].len(), 67_085);
+    assert_eq!(rt; shares[4].capacity(), 67_085);
+    assert_eq!(rt;
+        hash_of_good(rt.alloc(), &shares, &params, &hash)?,
+        [
+            0xac, 0x11, 0x3e, 0x23, 0x4c, 0x45, 0x19, 0x15, 0xb0, 0x64, 0x20, 0x8f, 0x29, 0x61,
+            0x25, 0x33, 0xf8, 0xe6, 0x73, 0x08, 0xa7, 0x71, 0x9a, 0x22, 0x38, 0x21, 0xa9, 0x6c,
+            0x07, 0xbc, 0x22, 0x75,
+        ]
+    );
+    Ok(())
+}
+
+#[test]
+fn a_last_segment_of_one_byte_is_padded(rt: HostRuntime) -> Result<(), Fail> {
+    let params = Params::new(3, 4, 131_074);
+    let crypttext = counted(rt.alloc(), 131_074)?;
+    let (shares, hash) = make_shares(rt.alloc(), &params, &crypttext)?;
+    assert_eq!(rt;
+        hash,
+        [
+            0x08, 0xe5, 0x0e, 0x35, 0x7b, 0x81, 0x43, 0x3a, 0x74, 0x97, 0x47, 0xa0, 0x60, 0xe5,
+            0x63, 0xf3, 0xfe, 0xcc, 0x7d, 0x8a, 0x55, 0x65, 0x57, 0xae, 0xf2, 0x3d, 0x67, 0x2b,
+            0xec, 0xba, 0xcb, 0x69,
+        ]
+    );
+    assert_eq!(rt; shares.len(), 4);
+    assert_eq!(rt;
+        hash_of_good(rt.alloc(), &shares, &params, &hash)?,
+        [
+            0x29, 0xae, 0x7c, 0x89, 0xa9, 0x20, 0x38, 0xb0, 0x66, 0x77, 0xa3, 0xe2, 0xe9, 0xfa,
+            0x39, 0x99, 0xf5, 0x35, 0xa2, 0xd4, 0x58, 0x97, 0x11, 0xdb, 0xca, 0xc2, 0x4b, 0x2f,
+            0x50, 0x08, 0x88, 0xbd,
+        ]
+    );
+    Ok(())
+}
+
+#[test]
+fn all_256_shares_are_needed(rt: HostRuntime) -> Result<(), Fail> {
+    let params = Params::new(256, 256, 300);
+    let crypttext = counted(rt.alloc(), 300)?;
+    let (shares, hash) = make_shares(rt.alloc(), &params, &crypttext)?;
+    assert_eq!(rt;
+        hash,
+        [
+            0xa6, 0x3e, 0xe0, 0x34, 0x8d, 0x02, 0xab, 0xc7, 0xeb, 0x38, 0x99, 0x14, 0x04, 0x17,
+            0x36, 0x95, 0x68, 0xe5, 0x90, 0x30, 0x62, 0x5d, 0xb3, 0xa0, 0x37, 0xa2, 0x61, 0x9e,
+            0xb0, 0xf7, 0x05, 0xa4,
+        ]
+    );
+    assert_eq!(rt; shares.len(), 256);
+    assert_eq!(rt;
+        hash_of_good(rt.alloc(), &shares, &params, &hash)?,
+        [
+            0xe8, 0xe9, 0x1a, 0xea, 0x2f, 0xf9, 0x0a, 0xa3, 0x2c, 0xce, 0x18, 0xae, 0x1a, 0x8a,
+            0xea, 0xc0, 0x4a, 0xfc, 0x1d, 0x2f, 0xd9, 0xd8, 0x73, 0xa7, 0x84, 0x39, 0xde, 0x89,
+            0xd8, 0x2d, 0x79, 0x04,
+        ]
+    );
+    Ok(())
 }

@@ -1,0 +1,50 @@
+//! How a file is cut into segments, and a segment into primary blocks.
+ghost use Rattle.std.specs.Prelude.{◌≡◌, ◌≤◌, ◌<◌, ◌-◌, ◌*◌, ◌++◌, [], length, replicate, slice_index_or, IfOk};
+ghost use Rattle.std.specs.Simd.{first_chunks};
+ghost use Rattle.erasure.specs.Given.{contents_of};
+ghost use Rattle.share_codec.specs.Segments.{segments, segment_count};
+
+use crate::params::Params;
+use std::alloc::{AllocError, Global};
+
+/// A segment of a file, the last one of which may be shorter than the others.
+pub(crate) fn segment_at<'a>(params: &Params, crypttext: &'a [u8], index: usize) -> &'a [u8]
+    requires size { length crypttext.now ≡ params.now.size }
+    requires some { 0 < params.now.size }
+    requires inside { index < segment_count params.now }
+    ensures { result.now ≡ slice_index_or (segments params.now crypttext.now) index [] }
+{
+    let size = params.segment_size();
+    let start = index * size;
+    let end = start + size.min(crypttext.len() - start);
+    &crypttext[start..end]
+}
+
+/// A segment with zeros behind it, `size` bytes in all.
+pub(crate) fn padded(alloc: Global, segment: &[u8], size: usize) -> Result<Vec<u8>, AllocError>
+    requires { length segment.now ≤ size }
+    ensures { IfOk result (λ bytes. bytes.items ≡ segment.now ++ replicate (size - length segment.now) 0) }
+{
+    let mut bytes = Vec::with_capacity(alloc, size)?;
+    bytes.extend_from_slice(segment)?;
+    bytes.resize(size, 0)?;
+    Ok(bytes)
+}
+
+/// A padded segment as `count` blocks of `size` bytes, where they stand.
+pub(crate) fn cut(
+    alloc: Global,
+    padded: &[u8],
+    size: usize,
+    count: usize,
+) -> Result<Vec<&[u8]>, AllocError>
+    requires { length padded.now ≡ size * count }
+    ensures { IfOk result (λ blocks. contents_of blocks.items ≡ first_chunks size count padded.now) }
+{
+    let mut blocks = Vec::with_capacity(alloc, count)?;
+    for at in 0..count {
+        let start = at * size;
+        blocks.push(&padded[start..start + size])?;
+    }
+    Ok(blocks)
+}

@@ -1,0 +1,255 @@
+//! How the shares of a file are made, in one pass over its crypttext.
+ghost use Rattle.std.specs.Prelude.{◌≡◌, ◌≤◌, ◌<◌, ◌*◌, ◌^◌, ◌++◌, ℕ, List, [], ◌∷◌, length, map, replicate, slice_index_or, IfOk, OnOk};
+ghost use Rattle.std.specs.List.{range_with_len};
+ghost use Rattle.std.specs.Simd.{first_chunks};
+ghost use Rattle.erasure.specs.Blocks.{size_of, block_of};
+ghost use Rattle.erasure.specs.Code.{AreBlocks};
+ghost use Rattle.erasure.specs.Given.{contents_of};
+ghost use Rattle.merkle.specs.Chain.{chain};
+ghost use Rattle.merkle.specs.Tree.{root};
+ghost use Rattle.share_codec.specs.Segments.{segments, primary_blocks};
+ghost use Rattle.share_codec.specs.Shares.{share, ueb_hash, segment_hashes};
+ghost use Rattle.share_codec.specs.Drafts.{nothing_begun, blank_hash, with_block, with_blocks, all_begun, finished, front_text};
+
+use crate::cut::{cut, padded, segment_at};
+use crate::draft::Draft;
+use crate::front::Heading;
+use crate::params::Params;
+use crate::ueb::Ueb;
+use erasure::{Code, blocks_are_the_code};
+use merkle::{Tree, chains_lead_to_the_root, hashes_have_32_bytes};
+use std::alloc::{AllocError, Global};
+use tag_hash::{tagged, texts_fix_their_parts};
+
+const SEGMENT_TAG: &[u8; 28] = b"webgate_crypttext_segment_v1";
+
+/// The `n` shares of a file that isn't empty, by their numbers, and the hash of their URI extension block, which its
+/// cap has.
+///
+/// It goes over the crypttext once and hashes each segment, each block and each node of the trees once. Each share has
+/// memory of its own, taken once. `Err` only where memory is refused.
+pub fn make_shares(
+    alloc: Global,
+    params: &Params,
+    crypttext: &[u8],
+) -> Result<(Vec<Vec<u8>>, [u8; 32]), AllocError>
+    requires size { length crypttext.now ≡ params.now.size }
+    requires some { 0 < params.now.size }
+    ensures shares { IfOk result (λ made.
+        map (λ share. share.items) made.0.items ≡ map (λ i. share params.now crypttext.now i) (range_with_len 0 params.now.n)) }
+    ensures hash { IfOk result (λ made. made.1 ≡ ueb_hash params.now crypttext.now) }
+{
+    texts_fix_their_parts();
+    hashes_have_32_bytes();
+    chains_lead_to_the_root();
+    let (drafts, hashes) = code(alloc, params, crypttext)?;
+    let tree = Tree::new(leaves(alloc, &drafts)?)?;
+    let roots = Ueb {
+        crypttext_root: merkle::root(&hashes),
+        share_root: tree.root(),
+    };
+    let heading = Heading::new(alloc, params, &roots, &hashes)?;
+    let shares = finish(alloc, drafts, &heading, &tree)?;
+    Ok((shares, heading.extension_hash()))
+}
+
+// The shares with their blocks but without their fronts, and the hashes of the segments.
+fn code(
+    alloc: Global,
+    params: &Params,
+    crypttext: &[u8],
+) -> Result<(Vec<Draft>, Vec<[u8; 32]>), AllocError>
+    requires size { length crypttext.now ≡ params.now.size }
+    requires some { 0 < params.now.size }
+    ensures coded { IfOk result (λ made. made.0.items ≡ all_begun params.now (segments params.now crypttext.now)) }
+    ensures hashes { IfOk result (λ made. made.1.items ≡ segment_hashes params.now crypttext.now) }
+{
+    let mut drafts = begin(alloc, params)?;
+    let hashes = code_all(alloc, params, crypttext, &mut drafts)?;
+    Ok((drafts, hashes))
+}
+
+// Shares without blocks, each with a front of its length in which zeros stand for all hashes.
+fn begin(alloc: Global, params: &Params) -> Result<Vec<Draft>, AllocError>
+    requires some { 0 < params.now.size }
+    requires fits { params.now.size < 2 ^ 63 }
+    ensures { IfOk result (λ drafts. drafts.items ≡ all_begun params.now []) }
+{
+    let roots = Ueb {
+        crypttext_root: [0; 32],
+        share_root: [0; 32],
+    };
+    let hashes = blanks(alloc, params.segment_count())?;
+    let heading = Heading::new(alloc, params, &roots, &hashes)?;
+    let siblings = blanks(alloc, merkle::height(params.n as usize))?;
+    let mut drafts = Vec::with_capacity(alloc, params.n as usize)?;
+    for number in 0..params.n {
+        let front = heading.front(alloc, number, &siblings)?;
+        drafts.push(Draft::new(alloc, params, &front)?)?;
+    }
+    Ok(drafts)
+}
+
+// Goes over the segments: gives their hashes, and appends their blocks to the shares.
+fn code_all(
+    alloc: Global,
+    params: &Params,
+    crypttext: &[u8],
+    drafts: &mut [Draft],
+) -> Result<Vec<[u8; 32]>, AllocError>
+    requires size { length crypttext.now ≡ params.now.size }
+    requires some { 0 < params.now.size }
+    requires begun { drafts.old ≡ all_begun params.now [] }
+    ensures hashes { IfOk result (λ hashes. hashes.items ≡ segment_hashes params.now crypttext.now) }
+    ensures coded { OnOk result (drafts.new ≡ all_begun params.now (segments params.now crypttext.now)) }
+{
+    let count = params.segment_count();
+    let mut hashes = Vec::with_capacity(alloc, count)?;
+    for index in 0..count {
+        let segment = segment_at(params, crypttext, index);
+        hashes.push(tagged(SEGMENT_TAG, segment))?;
+        code_segment(alloc, params, segment, drafts)?;
+    }
+    Ok(hashes)
+}
+
+// Appends the blocks of a segment to the shares. A copy is made only of one that has to be padded.
+fn code_segment(
+    alloc: Global,
+    params: &Params,
+    segment: &[u8],
+    drafts: &mut [Draft],
+) -> Result<(), AllocError>
+    requires { length drafts.old ≡ params.now.n }
+    ensures { OnOk result (drafts.new ≡ with_blocks drafts.old (primary_blocks params.now.k segment.now)) }
+{
+    let count = params.k as usize;
+    let size = segment.len().div_ceil(count);
+    if segment.len() == size * count {
+        code_padded(alloc, params, segment, size, drafts)
+    } else {
+        let bytes = padded(alloc, segment, size * count)?;
+        code_padded(alloc, params, &bytes, size, drafts)
+    }
+}
+
+// Appends to the shares the blocks of a padded segment, of `size` bytes each.
+fn code_padded(
+    alloc: Global,
+    params: &Params,
+    bytes: &[u8],
+    size: usize,
+    drafts: &mut [Draft],
+) -> Result<(), AllocError>
+    requires whole { length bytes.now ≡ size * params.now.k }
+    requires all { length drafts.old ≡ params.now.n }
+    ensures { OnOk result (drafts.new ≡ with_blocks drafts.old (first_chunks size params.now.k bytes.now)) }
+{
+    let primary = cut(alloc, bytes, size, params.k as usize)?;
+    take_blocks(alloc, params, &primary, drafts)
+}
+
+// Appends to each share the block of its number.
+fn take_blocks(
+    alloc: Global,
+    params: &Params,
+    primary: &[&[u8]],
+    drafts: &mut [Draft],
+) -> Result<(), AllocError>
+    requires count { length primary.now ≡ params.now.k }
+    requires blocks { AreBlocks (size_of (contents_of primary.now)) (contents_of primary.now) }
+    requires all { length drafts.old ≡ params.now.n }
+    ensures { OnOk result (drafts.new ≡ with_blocks drafts.old (contents_of primary.now)) }
+{
+    for number in 0..params.n {
+        take_block(alloc, params, primary, number, &mut drafts[number as usize])?;
+    }
+    Ok(())
+}
+
+// Appends to a share the block of its number, a primary one from where it stands.
+fn take_block(
+    alloc: Global,
+    params: &Params,
+    primary: &[&[u8]],
+    number: u16,
+    draft: &mut Draft,
+) -> Result<(), AllocError>
+    requires count { length primary.now ≡ params.now.k }
+    requires blocks { AreBlocks (size_of (contents_of primary.now)) (contents_of primary.now) }
+    requires number { number < params.now.n }
+    ensures { OnOk result (draft.new ≡ with_block draft.old (block_of (contents_of primary.now) number)) }
+{
+    blocks_are_the_code();
+    if number < params.k {
+        return draft.take(primary[number as usize]);
+    }
+    let block = encode(alloc, params, primary, number)?;
+    draft.take(&block)
+}
+
+// Block `number` of the code.
+fn encode(
+    alloc: Global,
+    params: &Params,
+    primary: &[&[u8]],
+    number: u16,
+) -> Result<Vec<u8>, AllocError>
+    requires count { length primary.now ≡ params.now.k }
+    requires blocks { AreBlocks (size_of (contents_of primary.now)) (contents_of primary.now) }
+    requires number { number < params.now.n }
+    ensures { IfOk result (λ block. block.items ≡ block_of (contents_of primary.now) number) }
+{
+    let code = Code::new(params.k, params.n).unwrap();
+    match code.encode_block(alloc, primary, number) {
+        Ok(block) => Ok(block),
+        Err(_) => Err(AllocError),
+    }
+}
+
+// The roots of the trees over the blocks of each share.
+fn leaves(alloc: Global, drafts: &[Draft]) -> Result<Vec<[u8; 32]>, AllocError>
+    requires { (i : ℕ) → i < length drafts.now → 0 < length (slice_index_or drafts.now i nothing_begun).hashes }
+    ensures { IfOk result (λ leaves. leaves.items ≡ map (λ draft. root draft.hashes) drafts.now) }
+{
+    let mut leaves = Vec::with_capacity(alloc, drafts.len())?;
+    for draft in drafts {
+        leaves.push(draft.root())?;
+    }
+    Ok(leaves)
+}
+
+// Writes the fronts.
+fn finish(
+    alloc: Global,
+    drafts: Vec<Draft>,
+    heading: &Heading,
+    tree: &Tree,
+) -> Result<Vec<Vec<u8>>, AllocError>
+    requires few { length drafts.items ≤ 256 }
+    requires as_many { length drafts.items ≡ length tree.now }
+    requires room { (i : ℕ) → i < length drafts.items →
+        length (front_text heading.now i (chain tree.now i)) ≤ length (slice_index_or drafts.items i nothing_begun).bytes }
+    ensures { IfOk result (λ shares. map (λ share. share.items) shares.items
+        ≡ map (λ i. finished (slice_index_or drafts.items i nothing_begun) (front_text heading.now i (chain tree.now i)))
+        (range_with_len 0 (length drafts.items))) }
+{
+    let mut shares = Vec::with_capacity(alloc, drafts.len())?;
+    for draft in drafts {
+        let number = shares.len();
+        let siblings = tree.chain(number)?;
+        let front = heading.front(alloc, number as u16, &siblings)?;
+        shares.push(draft.finish(&front)?)?;
+    }
+    Ok(shares)
+}
+
+// So many hashes of zeros.
+#[tactic(auto, unfolding(crate::specs::Drafts::blank_hash))]
+fn blanks(alloc: Global, count: usize) -> Result<Vec<[u8; 32]>, AllocError>
+    ensures { IfOk result (λ hashes. hashes.items ≡ replicate count blank_hash) }
+{
+    let mut hashes = Vec::with_capacity(alloc, count)?;
+    hashes.resize(count, [0u8; 32])?;
+    Ok(hashes)
+}
