@@ -1,15 +1,14 @@
 -- Lists that are cut into pieces, and how many there are.
-use Rattle.std.proofs.Common.{add-one, ◌⊎◌, inl, inr, ⊎_elim, ◌≡◌, ◌≢◌, ℕ, zero, suc, ◌+◌, ◌-◌, ◌*◌, ◌/◌, ◌%◌, ◌<◌, ◌≤◌, min, List, [], ◌∷◌, ◌++◌, length, take, drop, get_or, map, refl, sym, ap, ◌∙◌, subst, arith, length-append, length-take, length-drop}
+use Rattle.std.proofs.Common.{add-one, ⊎_elim, ◌≡◌, ℕ, zero, suc, ◌+◌, ◌-◌, ◌*◌, ◌<◌, ◌≤◌, min, List, [], ◌∷◌, ◌++◌, length, take, drop, get_or, map, refl, sym, ap, ◌∙◌, subst, arith, length-drop}
 use Rattle.std.specs.Int.{div_ceil}
 use Rattle.std.specs.Simd.{first_chunks}
-use Rattle.std.specs.List.{concat, range_with_len}
-use Rattle.std.proofs.lemmas.List.{take-append-drop, take_min, drop-drop}
+use Rattle.std.proofs.lemmas.List.{take_min, drop-drop}
 use Rattle.std.proofs.lemmas.Grind.{div_ceil_times}
 use Rattle.std.proofs.lemmas.Bool.{cases_lt}
 use Rattle.std.proofs.lemmas.Nat.{mul-le}
 use Rattle.std.proofs.Math.Nat.{mul-le-mul_right}
 use Rattle.share_codec.specs.declared.params.Params.{Params}
-use Rattle.share_codec.specs.Segments.{block_size, segment_size, segment_count, blocks_size, segments, cut_blocks}
+use Rattle.share_codec.specs.Segments.{block_size, segment_size, segment_count, blocks_size, cut_blocks}
 
 module _ {X : Type 0} where
   pub length-chunks : (n count : ℕ) (xs : List X) → length (first_chunks n count xs) ≡ count

@@ -1,24 +1,23 @@
 -- What the tests of a share told.
-use Rattle.std.proofs.Common.{◌≡◌, ◌≢◌, ℕ, ◌<◌, List, Bool, true, false, not, length, refl, sym, ap, ◌∙◌, subst}
-use Rattle.std.specs.Prelude.{IsTrue, MatchBool, nat_eq, IsOkUnless, MatchOption, Option, Some, None, IfErr}
+use Rattle.std.proofs.Common.{◌≡◌, ◌≢◌, ℕ, List, Bool, true, false, not, length, refl, sym, ap, ◌∙◌, subst}
+use Rattle.std.specs.Prelude.{IsTrue, nat_eq, IsOkUnless, IfErr}
 use Rattle.std.specs.Cmp.Lexicographic.{pointwise, told_text, same_text, other_text}
 use Rattle.std.specs.declared.result.Result.{Result}
 use Rattle.std.specs.declared.result.Result.TheVariants.{Ok, Err}
-use Rattle.merkle.specs.Tree.{root}
 use Rattle.merkle.specs.Height.{height}
 use Rattle.merkle.specs.Leads.{Leads}
 use Rattle.share_codec.specs.declared.params.Params.{Params}
 use Rattle.share_codec.specs.declared.ueb.Ueb.{Ueb}
 use Rattle.share_codec.specs.declared.fault.ShareFault.{ShareFault}
 use Rattle.share_codec.specs.declared.fault.ShareFault.TheVariants.{Torn, Version, Number, UebHash, Parameters, CrypttextTree, ShareTree, NoMemory}
-use Rattle.share_codec.specs.Segments.{segment_count, cut_blocks}
-use Rattle.share_codec.specs.Ueb.{ueb_text, AreRoots}
+use Rattle.share_codec.specs.Segments.{cut_blocks}
+use Rattle.share_codec.specs.Ueb.{ueb_text}
 use Rattle.share_codec.specs.Tags.{extension_hash}
-use Rattle.share_codec.specs.Texts.{Texts, digests, share_text}
+use Rattle.share_codec.specs.Texts.{Texts, digests}
 use Rattle.share_codec.specs.Shares.{block_root}
 use Rattle.share_codec.specs.Meets.{IsSix, IsNumber, IsExtension, HasCrypttextTree, HasShareTree, IsLed, MeetsBy, Meets}
 use Rattle.share_codec.specs.GoodShare.{GoodShare, IsReadFrom}
-use Rattle.share_codec.specs.Causes.{Cause, IsOfVersion, IsNumbered, IsSealed, IsDescribed}
+use Rattle.share_codec.specs.Causes.{Cause}
 use Rattle.share_codec.proofs.Netstrings.{NetstringsPart}
 use Rattle.share_codec.proofs.Six.{six_unique}
 use Rattle.share_codec.proofs.Entries.{at1, at2, at3, at4, ueb_text-is, behind1, behind2, behind3, behind4, behind5}

@@ -1,5 +1,5 @@
 -- The shares of a file, of which any k give it back (Tahoe-LAFS, file encoding).
-use Rattle.std.specs.Prelude.{ℕ, List, map, slice_index_or}
+use Rattle.std.specs.Prelude.{ℕ, List, map}
 use Rattle.std.specs.List.{concat, range_with_len}
 use Rattle.tag_hash.specs.Decimal.{decimal_text}
 use Rattle.erasure.specs.Blocks.{block_of}

@@ -1,5 +1,5 @@
 -- The URI extension block: what a share says of the whole file (Tahoe-LAFS, file encoding).
-use Rattle.std.specs.Prelude.{◌≡◌, ℕ, List, [], ◌∷◌, ◌++◌, length, codes}
+use Rattle.std.specs.Prelude.{◌≡◌, ℕ, List, ◌∷◌, ◌++◌, length, codes}
 use Rattle.tag_hash.specs.Decimal.{decimal_text}
 use Rattle.tag_hash.specs.Netstring.{netstring}
 use Rattle.share_codec.specs.declared.params.Params.{Params}

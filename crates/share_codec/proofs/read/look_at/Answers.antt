@@ -1,10 +1,9 @@
-use Rattle.std.proofs.Common.{◌<◌, length, refl, sym, ap, subst, ◌∙◌}
+use Rattle.std.proofs.Common.{◌<◌, length, refl, sym, subst, ◌∙◌}
 use Rattle.share_codec.specs.GoodShare.{GoodShare}
-use Rattle.share_codec.specs.Texts.{Texts, the_version}
+use Rattle.share_codec.specs.Texts.{the_version}
 use Rattle.share_codec.specs.Tags.{extension_tag}
 use Rattle.share_codec.specs.Parts.{texts_of}
 use Rattle.share_codec.specs.Meets.{IsLed}
-use Rattle.share_codec.specs.Causes.{IsOfVersion, IsNumbered, IsSealed, IsDescribed}
 use Rattle.share_codec.proofs.Cuts.{some_blocks}
 use Rattle.share_codec.proofs.Reading.{never_true, differ, agree, read_made}
 use Rattle.share_codec.proofs.read.look_at.Goals as goal

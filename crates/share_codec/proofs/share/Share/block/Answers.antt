@@ -1,4 +1,4 @@
-use Rattle.std.proofs.Common.{◌≡◌, ◌<◌, ◌*◌, List, ℕ, length, arith, ap}
+use Rattle.std.proofs.Common.{◌≡◌, ◌<◌, ◌*◌, length, arith, ap}
 use Rattle.std.specs.Simd.{first_chunks}
 use Rattle.share_codec.specs.GoodShare.{GoodShare}
 use Rattle.share_codec.proofs.Cuts.{start_inside, piece_at, in_pieces}

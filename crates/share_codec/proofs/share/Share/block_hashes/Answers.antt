@@ -1,4 +1,4 @@
-use Rattle.std.proofs.Common.{◌<◌, length, map, take, ap, sym, ◌∙◌, [], ◌∷◌, ◌++◌, arith}
+use Rattle.std.proofs.Common.{◌<◌, length, map, take, ap, ◌∙◌, [], ◌∷◌, ◌++◌, arith}
 use Rattle.std.proofs.lemmas.List.{take_all}
 use Rattle.share_codec.specs.Tags.{block_tag, block_hash}
 use Rattle.share_codec.proofs.Cuts.{map_more}
