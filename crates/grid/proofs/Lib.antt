@@ -1,3 +1,13 @@
+pub mod EmptyStores
 pub mod Entries
 pub mod Gather
+pub mod ImageReads
+pub mod ImageRuns
+pub mod ImageSteps
+pub mod ImageWrites
+pub mod ReadBack
+pub mod ReadExact
+pub mod RowFacts
+pub mod RowLists
+pub mod RowPuts
 pub mod Standing

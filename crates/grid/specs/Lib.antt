@@ -1,6 +1,15 @@
 pub mod Changes
 pub mod Counts
 pub mod Found
+pub mod Image
+pub mod ImageHeads
+pub mod ImageLaws
+pub mod ImageReading
+pub mod ImageSteps
 pub mod Placement
 pub mod Refusals
+pub mod RowOrder
+pub mod Rows
+pub mod RowsKept
 pub mod Standing
+pub mod Written

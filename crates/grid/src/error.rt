@@ -1,5 +1,5 @@
 //! Why a grid refuses.
-use std::alloc::AllocError;
+use std::alloc::{AllocError, AllocFailed};
 use thiserror::Error;
 
 /// Why a call of a grid was refused. A server is given by its place among the stores, from 0.
@@ -36,6 +36,17 @@ impl From<AllocError> for GridError {
     ghost from_gives = { λ _ e. e ≡ NoMemory };
 
     fn from(_: AllocError) -> Self {
+        GridError::NoMemory
+    }
+}
+
+impl<T: Drop> From<AllocFailed<T>> for GridError {
+    ghost use Rattle.std.specs.Prelude.{◌≡◌};
+    ghost use Rattle.grid.specs.declared.error.GridError.TheVariants.{NoMemory};
+
+    ghost from_gives = { λ _ e. e ≡ NoMemory };
+
+    fn from(_: AllocFailed<T>) -> Self {
         GridError::NoMemory
     }
 }

@@ -5,11 +5,16 @@
 #![tactic(auto)]
 
 mod error;
+mod image_fields;
+mod image_reader;
+#[cfg(test)]
+mod image_tests;
+mod image_writer;
 mod laws;
 mod server_grid;
 #[cfg(test)]
 mod tests;
 
 pub use error::GridError;
-pub use laws::spoil_laws;
+pub use laws::{image_laws, spoil_laws};
 pub use server_grid::Grid;
