@@ -37,12 +37,6 @@ blocks_more given i d blocks b lt h e =
     ∙ ap blocks_of (map-append (λ (b : ℕ × Bor (List ℕ)). (b.0, b.1.now)) (take i given) (g ∷ []))
     ∙ map-append (λ (b : ℕ × List ℕ). b.1) (numbered_of (take i given)) ((g.0, g.1.now) ∷ []))
 
-pub first_places_more : (j : ℕ) (places : List ℕ) (p : ℕ) → places ≡ first_places j → p ≡ place_of j → places ++ p ∷ [] ≡ first_places (j + 1)
-first_places_more j places p h e =
-    ap (λ (xs : List ℕ). xs ++ p ∷ []) h
-    ∙ ap (λ (q : ℕ). first_places j ++ q ∷ []) e
-    ∙ sym (map-range_with_len_more place_of 0 j j (omega arith))
-
 pub first_blocks_more : (places : List ℕ) (blocks : List (List ℕ)) (j : ℕ) (made : List (List ℕ)) (b : List ℕ)
     → made ≡ first_blocks places blocks j → b ≡ block_through places blocks (place_of j) → made ++ b ∷ [] ≡ first_blocks places blocks (j + 1)
 first_blocks_more places blocks j made b h e =

@@ -1,13 +1,13 @@
 -- The places of blocks, and the weights of values there.
-use Rattle.std.proofs.Common.{◌≡◌, ℕ, zero, suc, ◌+◌, ◌-◌, ◌<◌, ◌==◌, cond, Option, Some, None, IsNone, IfSome, unwrap_or, ◌↔◌, List, slice_index, refl, sym, ap, ◌∙◌, arith, add-one}
+use Rattle.std.proofs.Common.{◌≡◌, ℕ, zero, suc, ◌+◌, ◌-◌, ◌<◌, ◌==◌, cond, Option, Some, None, IsNone, IfSome, unwrap_or, ◌↔◌, List, slice_index, refl, sym, ap, ◌∙◌, arith, add-one, length}
 use Rattle.std.specs.Int.Bits.{bit_xor}
 use Rattle.std.proofs.lemmas.Bool.{eq-eqb, ne_eqb}
 use Rattle.gf_field.specs.Field.{mul_of, power_of, inverse_of}
-use Rattle.gf_field.proofs.Field.{mul_of-zero_left, mul_of-one_right}
+use Rattle.gf_field.proofs.Field.{mul_of-assoc, mul_of-zero_left, mul_of-one_right}
 use Rattle.gf_field.proofs.Powers.{power-suc, power_lt, power_pos, powers_apart}
 use Rattle.erasure.specs.Code.{place_of}
-use Rattle.erasure.specs.Blocks.{mul_below}
-use Rattle.erasure.proofs.Sums.{mul_below_lt}
+use Rattle.erasure.specs.Blocks.{mul_below, distance_of, whole_distance_of}
+use Rattle.erasure.proofs.Sums.{mul_below_lt, mul_below_but}
 
 pub place-zero : place_of 0 ≡ 0
 unfolding place_of
@@ -63,3 +63,14 @@ distance_same n places j x e =
     sym (mul_of-one_right (distance_below n places j x) (mul_below_lt n (λ m. cond (m == j) 1 (bit_xor x (slice_index places m)))))
     ∙ ap (λ b. mul_of (distance_below n places j x) (cond b 1 (bit_xor x (slice_index places n)))) (sym (eq-eqb n j e))
     ∙ ap (λ (m : ℕ). distance_below m places j x) (sym (add-one n))
+
+-- a distance from all of the places, and the inverse of that from one of them
+pub distance_by_inverse : (places : List ℕ) (j x inverse : ℕ) → j < length places → mul_of (bit_xor x (slice_index places j)) inverse ≡ 1
+    → mul_of (whole_distance_of places x) inverse ≡ distance_of places j x
+unfolding distance_of
+distance_by_inverse places j x inverse lt one =
+    let others : ℕ = distance_below (length places) places j x in
+    ap (λ (p : ℕ). mul_of p inverse) (mul_below_but (length places) (λ m. bit_xor x (slice_index places m)) j lt)
+    ∙ mul_of-assoc others (bit_xor x (slice_index places j)) inverse
+    ∙ ap (mul_of others) one
+    ∙ mul_of-one_right others (mul_below_lt (length places) (λ m. cond (m == j) 1 (bit_xor x (slice_index places m))))

@@ -1,11 +1,11 @@
 -- Sums and products in the field, over the numbers below n.
-use Rattle.std.proofs.Common.{◌≡◌, ◌≢◌, ℕ, zero, suc, ◌<◌, inl, inr, refl, sym, ap, ◌∙◌, arith}
+use Rattle.std.proofs.Common.{◌≡◌, ◌≢◌, ℕ, zero, suc, ◌<◌, ◌≤◌, inl, inr, ◌==◌, cond, refl, sym, ap, ◌∙◌, arith}
 use Rattle.std.specs.Int.Bits.{bit_xor, xor_self, xor_zero_r, xor_assoc}
 use Rattle.std.proofs.lemmas.Nat.{xor_of_8}
-use Rattle.std.proofs.lemmas.Bool.{cases_eq}
+use Rattle.std.proofs.lemmas.Bool.{cases_eq, eq-eqb, ne_eqb}
 use Rattle.gf_field.specs.Field.{xor_below, mul_of}
 use Rattle.gf_field.proofs.Bits.{xor_middle}
-use Rattle.gf_field.proofs.Field.{mul_of-comm, mul_of-assoc, mul_of-zero_left, mul_of-zero_right, mul_of-lt}
+use Rattle.gf_field.proofs.Field.{mul_of-comm, mul_of-assoc, mul_of-one_right, mul_of-zero_left, mul_of-zero_right, mul_of-lt}
 use Rattle.gf_field.proofs.Powers.{mul_of_cancels}
 use Rattle.erasure.specs.Blocks.{mul_below}
 
@@ -78,3 +78,28 @@ mul_below_apart zero f h = omega arith
 mul_below_apart (suc n) f h =
     let last = h n (omega arith) in
     product_apart (mul_below n f) (f n) (mul_below_apart n f (λ i lt. h i (omega arith))) (mul_below_lt n f) last.0 last.1
+
+-- all of them but one, which is the same where it is not met, and this one
+mul_below_but_past : (n : ℕ) (f : ℕ → ℕ) (j : ℕ) → n ≤ j → mul_below n f ≡ mul_below n (λ m. cond (m == j) 1 (f m))
+mul_below_but_past n f j le =
+    mul_below-same n f (λ m. cond (m == j) 1 (f m)) (λ i lt. sym (ap (λ b. cond b 1 (f i)) (ne_eqb i j (omega arith))))
+
+pub mul_below_but : (n : ℕ) (f : ℕ → ℕ) (j : ℕ) → j < n → mul_below n f ≡ mul_of (mul_below n (λ m. cond (m == j) 1 (f m))) (f j)
+mul_below_but zero f j lt = absurd (omega arith)
+mul_below_but (suc n) f j lt =
+    let others : ℕ = mul_below n (λ m. cond (m == j) 1 (f m)) in
+    elim (cases_eq n j) [
+      | inl here ↦
+          ap (mul_of (mul_below n f)) (ap f here)
+          ∙ ap (λ (x : ℕ). mul_of x (f j)) (
+          mul_below_but_past n f j (omega arith)
+          ∙ sym (mul_of-one_right others (mul_below_lt n (λ m. cond (m == j) 1 (f m))))
+          ∙ ap (λ b. mul_of others (cond b 1 (f n))) (sym (eq-eqb n j here))
+          )
+      | inr before ↦
+          ap (λ (x : ℕ). mul_of x (f n)) (mul_below_but n f j (omega arith))
+          ∙ mul_of-assoc others (f j) (f n)
+          ∙ ap (mul_of others) (mul_of-comm (f j) (f n))
+          ∙ sym (mul_of-assoc others (f n) (f j))
+          ∙ ap (λ b. mul_of (mul_of others (cond b 1 (f n))) (f j)) (sym (ne_eqb n j before))
+    ]

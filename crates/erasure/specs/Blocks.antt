@@ -1,6 +1,6 @@
 -- The code as a function: the value of a polynomial from as many of its values as it has coefficients, by Lagrange's
 -- formula.
-use Rattle.std.specs.Prelude.{◌==◌, ℕ, zero, suc, List, [], length, map, if◌then◌else◌, bit_xor, slice_index, slice_index_or}
+use Rattle.std.specs.Prelude.{◌≡◌, ◌==◌, ◌<◌, ℕ, zero, suc, List, [], length, map, if◌then◌else◌, bit_xor, slice_index, slice_index_or}
 use Rattle.std.specs.List.{range_with_len}
 use Rattle.gf_field.specs.Field.{xor_below, mul_of, inverse_of}
 use Rattle.erasure.specs.Code.{place_of, column}
@@ -10,6 +10,10 @@ abbrev pub mul_below : ℕ → (ℕ → ℕ) → ℕ
 mul_below zero f = 1
 mul_below (suc n) f = mul_of (mul_below n f) (f n)
 
+-- how far x is from each of the places, multiplied
+abbrev pub whole_distance_of : List ℕ → ℕ → ℕ
+whole_distance_of places x = mul_below (length places) (λ m. bit_xor x (slice_index places m))
+
 -- how far x is from each of the places but place j, multiplied
 unfoldable pub distance_of : List ℕ → ℕ → ℕ → ℕ
 distance_of places j x = mul_below (length places) (λ m. if m == j then 1 else bit_xor x (slice_index places m))
@@ -17,6 +21,11 @@ distance_of places j x = mul_below (length places) (λ m. if m == j then 1 else 
 -- what the value at place j counts in the value at x: 1 where x is that place, 0 where it is another of the places
 unfoldable pub weight_of : List ℕ → ℕ → ℕ → ℕ
 weight_of places j x = mul_of (distance_of places j x) (inverse_of (distance_of places j (slice_index places j)))
+
+-- one for each place: the inverse of how far it is from the others, multiplied
+abbrev pub AreInverses : List ℕ → List ℕ → Type 0
+AreInverses places inverses =
+    (j : ℕ) → j < length places → slice_index inverses j ≡ inverse_of (distance_of places j (slice_index places j))
 
 -- the value at x of the polynomial that has these values at these places
 unfoldable pub value_through : List ℕ → List ℕ → ℕ → ℕ

@@ -1,12 +1,12 @@
 //! The code: encoding a block, and decoding.
 ghost use Rattle.std.specs.Prelude.{◌≡◌, ◌≢◌, ◌↔◌, ◌<◌, ◌≤◌, length, map, take, slice_index, All, IfSome, IfOk, OnOk, IfErr, IsOk, IsErrOf, IsOkUnless};
 ghost use Rattle.erasure.specs.Code.{place_of, AreBytes, AreBlocks, IsBlock};
-ghost use Rattle.erasure.specs.Blocks.{size_of, block_through, block_of, primary_from};
+ghost use Rattle.erasure.specs.Blocks.{size_of, block_through, block_of, primary_from, AreInverses};
 ghost use Rattle.erasure.specs.Given.{contents_of, numbered_of, numbers_of, blocks_of, AreDistinct, AreNumbers, Repeats, HaveOneLength, HasAnotherLength};
 
 use crate::fault::CodeFault;
 use crate::given::{has_another_length, repeats};
-use crate::interpolation::{block_at, place};
+use crate::interpolation::{block_at, inverses_at, place, places_of_first};
 use std::alloc::Global;
 use std::marker::Model;
 
@@ -15,17 +15,21 @@ use std::marker::Model;
 pub struct Code {
     k: u16,
     n: u16,
+    places: [u8; 256],
+    inverses: [u8; 256],
 }
 
 impl Model for Code {
-    ghost use Rattle.std.specs.Prelude.{◌≤◌};
+    ghost use Rattle.std.specs.Prelude.{◌≡◌, ◌≤◌, take};
     ghost use Rattle.erasure.specs.Size.{CodeSize};
+    ghost use Rattle.erasure.specs.Blocks.{first_places, AreInverses};
 
     ghost Value = { CodeSize };
 
     ghost view = { λ c. record { k = c.k; n = c.n } };
 
-    ghost invariant = { λ c. (1 ≤ c.k) × (c.k ≤ c.n) × (c.n ≤ 256) };
+    ghost invariant = { λ c. (1 ≤ c.k) × (c.k ≤ c.n) × (c.n ≤ 256)
+        × (take c.k c.places ≡ first_places c.k) × AreInverses (first_places c.k) c.inverses };
 }
 
 impl Code {
@@ -36,7 +40,14 @@ impl Code {
         ensures refused { IsOkUnless result CodeFault.BadParameters }
     {
         if 1 <= k && k <= n && n <= 256 {
-            Ok(Code { k, n })
+            let places = places_of_first(k);
+            let inverses = inverses_at(&places[..k as usize]);
+            Ok(Code {
+                k,
+                n,
+                places,
+                inverses,
+            })
         } else {
             Err(CodeFault::BadParameters)
         }
@@ -60,11 +71,8 @@ impl Code {
         if i < self.k {
             return copied(alloc, primary[i as usize]);
         }
-        let mut places = Vec::with_capacity(alloc, primary.len())?;
-        for j in 0..self.k {
-            places.push(place(j))?;
-        }
-        block_at(alloc, &places, primary, place(i))
+        let places = &self.places[..self.k as usize];
+        block_at(alloc, places, &self.inverses, primary, place(i))
     }
 
     /// The k primary blocks, from the first k of the numbered blocks, which alone are looked at.
@@ -131,9 +139,10 @@ fn restore(alloc: Global, given: &[(u16, &[u8])]) -> Result<Vec<Vec<u8>>, CodeFa
         places.push(place(*number))?;
         sources.push(*block)?;
     }
+    let inverses = inverses_at(&places);
     let mut primary = Vec::with_capacity(alloc, given.len())?;
     for j in 0..given.len() {
-        primary.push(primary_block(alloc, given, &places, &sources, j as u16)?)?;
+        primary.push(primary_block(alloc, given, &places, &inverses, &sources, j as u16)?)?;
     }
     Ok(primary)
 }
@@ -143,21 +152,24 @@ fn primary_block(
     alloc: Global,
     given: &[(u16, &[u8])],
     places: &[u8],
+    inverses: &[u8; 256],
     blocks: &[&[u8]],
     j: u16,
 ) -> Result<Vec<u8>, CodeFault>
     requires some { 0 < length given.now }
+    requires few { length given.now ≤ 256 }
     requires number { j < 256 }
     requires numbers { AreNumbers (numbers_of (numbered_of given.now)) }
     requires one_length { HaveOneLength (blocks_of (numbered_of given.now)) }
     requires places { places.now ≡ map (λ g. place_of g.0) (numbered_of given.now) }
+    requires inverses { AreInverses places.now inverses.now }
     requires blocks { contents_of blocks.now ≡ blocks_of (numbered_of given.now) }
     ensures block { IfOk result (λ b. b.items ≡ block_through places.now (contents_of blocks.now) (place_of j)) }
     ensures only_memory { IsOkUnless result CodeFault.NoMemory }
 {
     match index_of(given, j) {
         Some(at) => copied(alloc, blocks[at]),
-        None => block_at(alloc, places, blocks, place(j)),
+        None => block_at(alloc, places, inverses, blocks, place(j)),
     }
 }
 

@@ -1,7 +1,7 @@
 //! The value of a polynomial at one place from its values at others, byte by byte over whole blocks.
-ghost use Rattle.std.specs.Prelude.{◌≡◌, ◌<◌, length, IfOk, IsOkUnless};
+ghost use Rattle.std.specs.Prelude.{◌≡◌, ◌<◌, ◌≤◌, length, take, IfOk, IsOkUnless};
 ghost use Rattle.erasure.specs.Code.{place_of};
-ghost use Rattle.erasure.specs.Blocks.{distance_of, weight_of, block_through};
+ghost use Rattle.erasure.specs.Blocks.{distance_of, whole_distance_of, weight_of, block_through, first_places, AreInverses};
 ghost use Rattle.erasure.specs.Given.{contents_of, HaveOneLength};
 
 use crate::fault::CodeFault;
@@ -21,6 +21,18 @@ pub(crate) fn place(number: u16) -> u8
     }
 }
 
+/// The places of the first `k` blocks, and 0 past them.
+pub(crate) fn places_of_first(k: u16) -> [u8; 256]
+    requires { k ≤ 256 }
+    ensures { take k result ≡ first_places k }
+{
+    let mut places = [0u8; 256];
+    for j in 0..k {
+        places[j as usize] = place(j);
+    }
+    places
+}
+
 /// How far `x` is from each of the places but place `j`, multiplied.
 fn distance(places: &[u8], j: usize, x: u8) -> u8
     ensures { result ≡ distance_of places.now j x }
@@ -34,31 +46,72 @@ fn distance(places: &[u8], j: usize, x: u8) -> u8
     product
 }
 
-/// What the value at place `j` counts in the value at `x`.
-fn weight(places: &[u8], j: usize, x: u8) -> u8
-    requires { j < length places.now }
+/// How far `x` is from each of the places, multiplied.
+fn whole_distance(places: &[u8], x: u8) -> u8
+    ensures { result ≡ whole_distance_of places.now x }
+{
+    let mut product = 1;
+    for place in places {
+        product = mul(product, x ^ *place);
+    }
+    product
+}
+
+/// `distance`, by one product where `x` isn't place `j`: from `whole`, how far it is from all of the places.
+fn distance_from_whole(places: &[u8], j: usize, x: u8, whole: u8) -> u8
+    requires within { j < length places.now }
+    requires whole { whole ≡ whole_distance_of places.now x }
+    ensures { result ≡ distance_of places.now j x }
+{
+    match inv(x ^ places[j]) {
+        Some(inverse) => mul(whole, inverse),
+        None => distance(places, j, x),
+    }
+}
+
+/// For each place the inverse of how far it is from the others, and 0 past them.
+pub(crate) fn inverses_at(places: &[u8]) -> [u8; 256]
+    requires { length places.now ≤ 256 }
+    ensures { AreInverses places.now result }
+{
+    let mut inverses = [0u8; 256];
+    for j in 0..places.len() {
+        inverses[j] = inv(distance(places, j, places[j])).unwrap_or(0);
+    }
+    inverses
+}
+
+/// What the value at place `j` counts in the value at `x`, from `whole`, how far `x` is from all of the places.
+fn weight(places: &[u8], inverses: &[u8; 256], j: usize, x: u8, whole: u8) -> u8
+    requires few { length places.now ≤ 256 }
+    requires within { j < length places.now }
+    requires inverses { AreInverses places.now inverses.now }
+    requires whole { whole ≡ whole_distance_of places.now x }
     ensures { result ≡ weight_of places.now j x }
 {
-    let between = inv(distance(places, j, places[j])).unwrap_or(0);
-    mul(distance(places, j, x), between)
+    mul(distance_from_whole(places, j, x, whole), inverses[j])
 }
 
 /// The block at `x`, from the blocks at these places.
 pub(crate) fn block_at(
     alloc: Global,
     places: &[u8],
+    inverses: &[u8; 256],
     blocks: &[&[u8]],
     x: u8,
 ) -> Result<Vec<u8>, CodeFault>
     requires some { 0 < length blocks.now }
+    requires few { length places.now ≤ 256 }
     requires as_many { length places.now ≡ length blocks.now }
+    requires inverses { AreInverses places.now inverses.now }
     requires one_length { HaveOneLength (contents_of blocks.now) }
     ensures block { IfOk result (λ b. b.items ≡ block_through places.now (contents_of blocks.now) x) }
     ensures only_memory { IsOkUnless result CodeFault.NoMemory }
 {
     let mut sum = vec![in alloc; 0u8; blocks[0].len()]?;
+    let whole = whole_distance(places, x);
     for (j, block) in blocks.iter().enumerate() {
-        mul_add(&mut sum, block, weight(places, j, x));
+        mul_add(&mut sum, block, weight(places, inverses, j, x, whole));
     }
     Ok(sum)
 }

@@ -103,33 +103,43 @@ fn code_all(
     ensures hashes { IfOk result (λ hashes. hashes.items ≡ segment_hashes params.now crypttext.now) }
     ensures coded { OnOk result (drafts.new ≡ all_begun params.now (segments params.now crypttext.now)) }
 {
+    let code = code_of(params);
     let count = params.segment_count();
     let mut hashes = Vec::with_capacity(alloc, count)?;
     for index in 0..count {
         let segment = segment_at(params, crypttext, index);
         hashes.push(tagged(SEGMENT_TAG, segment))?;
-        code_segment(alloc, params, segment, drafts)?;
+        code_segment(alloc, params, &code, segment, drafts)?;
     }
     Ok(hashes)
+}
+
+// The code of a file's blocks.
+fn code_of(params: &Params) -> Code
+    ensures { (result.k ≡ params.now.k) × (result.n ≡ params.now.n) }
+{
+    Code::new(params.k, params.n).unwrap()
 }
 
 // Appends the blocks of a segment to the shares. A copy is made only of one that has to be padded.
 fn code_segment(
     alloc: Global,
     params: &Params,
+    code: &Code,
     segment: &[u8],
     drafts: &mut [Draft],
 ) -> Result<(), AllocError>
-    requires { length drafts.old ≡ params.now.n }
+    requires code { (code.now.k ≡ params.now.k) × (code.now.n ≡ params.now.n) }
+    requires all { length drafts.old ≡ params.now.n }
     ensures { OnOk result (drafts.new ≡ with_blocks drafts.old (primary_blocks params.now.k segment.now)) }
 {
     let count = params.k as usize;
     let size = segment.len().div_ceil(count);
     if segment.len() == size * count {
-        code_padded(alloc, params, segment, size, drafts)
+        code_padded(alloc, params, code, segment, size, drafts)
     } else {
         let bytes = padded(alloc, segment, size * count)?;
-        code_padded(alloc, params, &bytes, size, drafts)
+        code_padded(alloc, params, code, &bytes, size, drafts)
     }
 }
 
@@ -137,32 +147,37 @@ fn code_segment(
 fn code_padded(
     alloc: Global,
     params: &Params,
+    code: &Code,
     bytes: &[u8],
     size: usize,
     drafts: &mut [Draft],
 ) -> Result<(), AllocError>
+    requires code { (code.now.k ≡ params.now.k) × (code.now.n ≡ params.now.n) }
     requires whole { length bytes.now ≡ size * params.now.k }
     requires all { length drafts.old ≡ params.now.n }
     ensures { OnOk result (drafts.new ≡ with_blocks drafts.old (first_chunks size params.now.k bytes.now)) }
 {
     let primary = cut(alloc, bytes, size, params.k as usize)?;
-    take_blocks(alloc, params, &primary, drafts)
+    take_blocks(alloc, params, code, &primary, drafts)
 }
 
 // Appends to each share the block of its number.
 fn take_blocks(
     alloc: Global,
     params: &Params,
+    code: &Code,
     primary: &[&[u8]],
     drafts: &mut [Draft],
 ) -> Result<(), AllocError>
+    requires code { (code.now.k ≡ params.now.k) × (code.now.n ≡ params.now.n) }
     requires count { length primary.now ≡ params.now.k }
     requires blocks { AreBlocks (size_of (contents_of primary.now)) (contents_of primary.now) }
     requires all { length drafts.old ≡ params.now.n }
     ensures { OnOk result (drafts.new ≡ with_blocks drafts.old (contents_of primary.now)) }
 {
     for number in 0..params.n {
-        take_block(alloc, params, primary, number, &mut drafts[number as usize])?;
+        let draft = &mut drafts[number as usize];
+        take_block(alloc, params, code, primary, number, draft)?;
     }
     Ok(())
 }
@@ -171,10 +186,12 @@ fn take_blocks(
 fn take_block(
     alloc: Global,
     params: &Params,
+    code: &Code,
     primary: &[&[u8]],
     number: u16,
     draft: &mut Draft,
 ) -> Result<(), AllocError>
+    requires code { (code.now.k ≡ params.now.k) × (code.now.n ≡ params.now.n) }
     requires count { length primary.now ≡ params.now.k }
     requires blocks { AreBlocks (size_of (contents_of primary.now)) (contents_of primary.now) }
     requires number { number < params.now.n }
@@ -184,23 +201,17 @@ fn take_block(
     if number < params.k {
         return draft.take(primary[number as usize]);
     }
-    let block = encode(alloc, params, primary, number)?;
+    let block = encode(alloc, code, primary, number)?;
     draft.take(&block)
 }
 
 // Block `number` of the code.
-fn encode(
-    alloc: Global,
-    params: &Params,
-    primary: &[&[u8]],
-    number: u16,
-) -> Result<Vec<u8>, AllocError>
-    requires count { length primary.now ≡ params.now.k }
+fn encode(alloc: Global, code: &Code, primary: &[&[u8]], number: u16) -> Result<Vec<u8>, AllocError>
+    requires count { length primary.now ≡ code.now.k }
     requires blocks { AreBlocks (size_of (contents_of primary.now)) (contents_of primary.now) }
-    requires number { number < params.now.n }
+    requires number { number < code.now.n }
     ensures { IfOk result (λ block. block.items ≡ block_of (contents_of primary.now) number) }
 {
-    let code = Code::new(params.k, params.n).unwrap();
     match code.encode_block(alloc, primary, number) {
         Ok(block) => Ok(block),
         Err(_) => Err(AllocError),

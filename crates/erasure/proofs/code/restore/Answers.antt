@@ -34,29 +34,29 @@ loop-j-init c = ap (map (λ (b : Vec ℕ Global). b.items)) c.in_ok-primary.ensu
 
 pub primary_block-requires-clause-places : goal.primary_block-requires-clause-places
 primary_block-requires-clause-places c =
-    c.deref.ensures.value ∙ c.loop-number.invariant.placed
+    c.deref-in-loop-j.ensures.value ∙ c.loop-number.invariant.placed
     ∙ ap (λ (xs : List (ℕ × Bor (List ℕ))). places_of (numbered_of xs)) (take_all c.loop-number.number-index c.args.given.now (omega arith))
 
 pub primary_block-requires-clause-blocks : goal.primary_block-requires-clause-blocks
 primary_block-requires-clause-blocks c =
-    ap contents_of c.deref-in-loop-j.ensures.value ∙ c.loop-number.invariant.sourced
+    ap contents_of c.deref-in-loop-j-2.ensures.value ∙ c.loop-number.invariant.sourced
     ∙ ap (λ (xs : List (ℕ × Bor (List ℕ))). blocks_of (numbered_of xs)) (take_all c.loop-number.number-index c.args.given.now (omega arith))
 
 pub loop-j-preserved : goal.loop-j-preserved
 loop-j-preserved c =
     let given : List (ℕ × List ℕ) = numbered_of c.args.given.now in
-    let places : c.deref.result.now ≡ places_of given =
-    c.deref.ensures.value ∙ c.loop-number.invariant.placed
+    let places : c.deref-in-loop-j.result.now ≡ places_of given =
+    c.deref-in-loop-j.ensures.value ∙ c.loop-number.invariant.placed
     ∙ ap (λ (xs : List (ℕ × Bor (List ℕ))). places_of (numbered_of xs)) (take_all c.loop-number.number-index c.args.given.now (omega arith)) in
-    let blocks : contents_of c.deref-in-loop-j.result.now ≡ blocks_of given =
-    ap contents_of c.deref-in-loop-j.ensures.value ∙ c.loop-number.invariant.sourced
+    let blocks : contents_of c.deref-in-loop-j-2.result.now ≡ blocks_of given =
+    ap contents_of c.deref-in-loop-j-2.ensures.value ∙ c.loop-number.invariant.sourced
     ∙ ap (λ (xs : List (ℕ × Bor (List ℕ))). blocks_of (numbered_of xs)) (take_all c.loop-number.number-index c.args.given.now (omega arith)) in
     ap (map (λ (b : Vec ℕ Global). b.items)) c.in_ok-push-3.ensures.items
     ∙ map-append (λ (b : Vec ℕ Global). b.items) c.loop-j.primary.items (c.in_ok-primary_block.field-0 ∷ [])
     ∙ first_blocks_more (places_of given) (blocks_of given) c.loop-j.j (map (λ (b : Vec ℕ Global). b.items) c.loop-j.primary.items)
     c.in_ok-primary_block.field-0.items c.loop-j.invariant
     (c.in_ok-primary_block.ensures.block
-    ∙ ap (λ (ps : List ℕ). block_through ps (contents_of c.deref-in-loop-j.result.now) (place_of c.loop-j.j)) places
+    ∙ ap (λ (ps : List ℕ). block_through ps (contents_of c.deref-in-loop-j-2.result.now) (place_of c.loop-j.j)) places
     ∙ ap (λ (bs : List (List ℕ)). block_through (places_of given) bs (place_of c.loop-j.j)) blocks)
 
 pub returns-clause-primary : goal.returns-clause-primary

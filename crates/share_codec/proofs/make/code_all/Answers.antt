@@ -8,7 +8,10 @@ use Rattle.share_codec.proofs.Making.{hashed_more, coded_more, length-segments, 
 use Rattle.share_codec.proofs.make.code_all.Goals as goal
 
 pub code_segment-requires : goal.code_segment-requires
-code_segment-requires c = ap length c.loop-index.invariant.coded ∙ length-all_begun c.args.params.now _
+code_segment-requires c = record {
+  code = c.code_of-code.ensures;
+  all = ap length c.loop-index.invariant.coded ∙ length-all_begun c.args.params.now _;
+}
 
 pub loop-index-preserved : goal.loop-index-preserved
 unfolding segment_tag
