@@ -64,7 +64,7 @@ double_of x h = same_values times_x (times 2) 0 256 doubles x (omega arith) h
 pub triple_of : (x : ℕ) → x < 256 → bit_xor (times_x x) x ≡ times 3 x
 triple_of x h = same_values (λ y. bit_xor (times_x y) y) (times 3) 0 256 triples x (omega arith) h
 
--- what a byte of row 0 adds to each row
+-- what a byte of the first row adds to each row
 part_0 : ℕ → List ℕ
 part_0 s = times 2 s ∷ s ∷ s ∷ times 3 s ∷ []
 
@@ -73,14 +73,14 @@ entries_0 : map (λ x. word_bytes (get_or FROM_ROW_0 x 0)) (range_with_len 0 256
 unfolding times times_bits times_x word_bytes part_0
 entries_0 = refl
 
--- the table for row 0
+-- the table for the first row
 pub from_row_0_of : (x : ℕ) → x < 256 → (let s = s_box x in word_bytes (get_or FROM_ROW_0 x 0) ≡ times 2 s ∷ s ∷ s ∷ times 3 s ∷ [])
 unfolding part_0
 from_row_0_of x h =
     same_values (λ y. word_bytes (get_or FROM_ROW_0 y 0)) (λ y. part_0 (get_or S_BOX y 0)) 0 256 entries_0 x (omega arith) h
     ∙ ap part_0 (s_box_of x h)
 
--- what a byte of row 1 adds to each row
+-- what a byte of the second row adds to each row
 part_1 : ℕ → List ℕ
 part_1 s = times 3 s ∷ times 2 s ∷ s ∷ s ∷ []
 
@@ -89,14 +89,14 @@ entries_1 : map (λ x. word_bytes (get_or FROM_ROW_1 x 0)) (range_with_len 0 256
 unfolding times times_bits times_x word_bytes part_1
 entries_1 = refl
 
--- the table for row 1
+-- the table for the second row
 pub from_row_1_of : (x : ℕ) → x < 256 → (let s = s_box x in word_bytes (get_or FROM_ROW_1 x 0) ≡ times 3 s ∷ times 2 s ∷ s ∷ s ∷ [])
 unfolding part_1
 from_row_1_of x h =
     same_values (λ y. word_bytes (get_or FROM_ROW_1 y 0)) (λ y. part_1 (get_or S_BOX y 0)) 0 256 entries_1 x (omega arith) h
     ∙ ap part_1 (s_box_of x h)
 
--- what a byte of row 2 adds to each row
+-- what a byte of the third row adds to each row
 part_2 : ℕ → List ℕ
 part_2 s = s ∷ times 3 s ∷ times 2 s ∷ s ∷ []
 
@@ -105,14 +105,14 @@ entries_2 : map (λ x. word_bytes (get_or FROM_ROW_2 x 0)) (range_with_len 0 256
 unfolding times times_bits times_x word_bytes part_2
 entries_2 = refl
 
--- the table for row 2
+-- the table for the third row
 pub from_row_2_of : (x : ℕ) → x < 256 → (let s = s_box x in word_bytes (get_or FROM_ROW_2 x 0) ≡ s ∷ times 3 s ∷ times 2 s ∷ s ∷ [])
 unfolding part_2
 from_row_2_of x h =
     same_values (λ y. word_bytes (get_or FROM_ROW_2 y 0)) (λ y. part_2 (get_or S_BOX y 0)) 0 256 entries_2 x (omega arith) h
     ∙ ap part_2 (s_box_of x h)
 
--- what a byte of row 3 adds to each row
+-- what a byte of the fourth row adds to each row
 part_3 : ℕ → List ℕ
 part_3 s = s ∷ s ∷ times 3 s ∷ times 2 s ∷ []
 
@@ -121,7 +121,7 @@ entries_3 : map (λ x. word_bytes (get_or FROM_ROW_3 x 0)) (range_with_len 0 256
 unfolding times times_bits times_x word_bytes part_3
 entries_3 = refl
 
--- the table for row 3
+-- the table for the fourth row
 pub from_row_3_of : (x : ℕ) → x < 256 → (let s = s_box x in word_bytes (get_or FROM_ROW_3 x 0) ≡ s ∷ s ∷ times 3 s ∷ times 2 s ∷ [])
 unfolding part_3
 from_row_3_of x h =

@@ -11,7 +11,7 @@ x_power zero = 1
 x_power (suc n) = times_x (x_power n)
 
 -- what round n + 1 adds to column 0: the last column of the round key before, turned up by one row and
--- through the S-box, and Rcon in row 0
+-- through the S-box, and Rcon in the first row
 unfoldable pub turned_column : List ℕ → ℕ → ℕ → ℕ
 turned_column key n row =
     bit_xor (s_box (cell key ((row + 1) % 4) 3)) (if row == 0 then x_power n else 0)

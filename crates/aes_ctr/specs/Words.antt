@@ -1,4 +1,4 @@
--- Columns of the state as words of 32 bits, the byte of row 0 highest (FIPS 197, section 3.5).
+-- Columns of the state as words of 32 bits, the byte of the first row highest (FIPS 197, section 3.5).
 use Rattle.std.specs.Prelude.{◌≡◌, ℕ, ◌<◌, List, [], ◌++◌, slice_index, slice_index_or}
 use Rattle.std.specs.Int.{to_be_bytes, w32}
 use Rattle.aes_ctr.specs.KeyExpansion.{round_key}

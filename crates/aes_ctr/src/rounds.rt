@@ -10,7 +10,7 @@ ghost use Rattle.aes_ctr.specs.Words.{word_bytes, word_byte, columns, AreRoundKe
 use crate::schedule::sub;
 use crate::tables::{FROM_ROW_0, FROM_ROW_1, FROM_ROW_2, FROM_ROW_3};
 
-// What the byte in row 0 of a word adds to the column that SubBytes and MixColumns make. So the next three
+// What the byte in the first row of a word adds to the column that SubBytes and MixColumns make. So the next three
 // do for the other rows.
 #[inline(always)]
 fn from_row_0(word: u32) -> u32
