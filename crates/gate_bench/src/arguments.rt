@@ -1,5 +1,7 @@
 //! What the program is called with.
 
+use std::io::ErrorKind;
+use std::process::ExitCode;
 use std::rt::Env;
 use std::{env, fmt};
 
@@ -9,8 +11,10 @@ pub(crate) enum ArgumentFault {
     NotACount,
     /// There is more than one argument.
     TooMany,
-    /// The arguments can't be read.
+    /// An argument is no text.
     Unreadable,
+    /// There was no memory to read them.
+    NoMemory,
 }
 
 impl fmt::Display for ArgumentFault {
@@ -18,15 +22,30 @@ impl fmt::Display for ArgumentFault {
         match self {
             ArgumentFault::NotACount => write!(f, "NotACount: TURNS is 1 to 4294967295"),
             ArgumentFault::TooMany => write!(f, "TooMany: usage: gate_bench [TURNS]"),
-            ArgumentFault::Unreadable => write!(f, "Unreadable: the arguments can't be read"),
+            ArgumentFault::Unreadable => write!(f, "Unreadable: an argument is no text"),
+            ArgumentFault::NoMemory => write!(f, "out of memory"),
+        }
+    }
+}
+
+impl ArgumentFault {
+    /// 1 where memory was refused, 2 where the arguments are wrong.
+    pub(crate) fn status(&self) -> ExitCode {
+        match self {
+            ArgumentFault::NoMemory => ExitCode::from(1),
+            _ => ExitCode::from(2),
         }
     }
 }
 
 /// The number of turns, if it is given.
 pub(crate) fn turns(rt: &(impl Env + AllocGlobal)) -> Result<Option<u32>, ArgumentFault> {
-    let Ok(arguments) = env::args(rt) else {
-        return Err(ArgumentFault::Unreadable);
+    let arguments = match env::args(rt) {
+        Ok(arguments) => arguments,
+        Err(error) if error.kind() == ErrorKind::OutOfMemory => {
+            return Err(ArgumentFault::NoMemory);
+        }
+        Err(_) => return Err(ArgumentFault::Unreadable),
     };
     let mut arguments = arguments.skip(1);
     let Some(first) = arguments.next() else {

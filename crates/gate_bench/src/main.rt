@@ -14,14 +14,14 @@ use std::rt::Clock;
 /// The bytes of the body.
 const BODY: usize = 4_194_304;
 
-/// Status 0, or 1 where a turn failed, or 2 at wrong arguments.
+/// Status 0, or 1 where a turn failed or memory was refused, or 2 at wrong arguments.
 fn main(rt: HostRuntime) -> ExitCode {
     let turns = match turns(&rt) {
         Ok(Some(turns)) => turns,
         Ok(None) => return ExitCode::SUCCESS,
         Err(fault) => {
             let _ = eprintln!(rt; "gate_bench: {fault}");
-            return ExitCode::from(2);
+            return fault.status();
         }
     };
     match bench(&rt, turns) {
