@@ -1,7 +1,8 @@
 #!/bin/sh
 # Times the work on a body of 4 MiB by `gate_bench` and by the programs that others do it with, in turn, and prints the
 # least time of each and their ratios. It is no test. A peer that isn't installed is left out: OpenSSL, without the
-# processor's AES instructions and with them, and zfec (Debian: openssl, python3-zfec).
+# processor's AES instructions and with them, zfec, and Python over zfec, OpenSSL's AES and hashlib, which puts and gets
+# the body in the same formats (Debian: openssl, python3-zfec, python3-cryptography).
 #
 #     bench/compare.sh [ROUNDS]
 #
@@ -34,6 +35,13 @@ for candidate in ${PYTHON:-} python3 /usr/bin/python3; do
     fi
 done
 
+files=
+for candidate in ${PYTHON:-} python3 /usr/bin/python3; do
+    if [ -z "$files" ] && "$candidate" -c 'import zfec, cryptography' 2> /dev/null; then
+        files=$candidate
+    fi
+done
+
 # The microseconds of 4 MiB, by OpenSSL's own clock over one second: `openssl_time NAME`.
 openssl_time() {
     openssl speed -elapsed -seconds 1 -bytes 4194304 -evp aes-128-ctr 2> /dev/null | awk -v name="$1" '
@@ -49,6 +57,9 @@ while [ "$round" -lt "$rounds" ]; do
     fi
     if [ -n "$python" ]; then
         "$python" "$here/bench/peer_zfec.py" "$turns" | sed 's/^/zfec /'
+    fi
+    if [ -n "$files" ]; then
+        "$files" "$here/bench/peer_files.py" "$turns" | sed 's/^/python /'
     fi
     round=$((round + 1))
 done > "$folder/times"
@@ -69,4 +80,19 @@ awk -v body=4194304 '
         row("apply", "apply", "openssl_with", "OpenSSL with AES instructions", "none")
         row("encode", "encode", "zfec", "zfec", "4 or more")
         row("decode", "decode", "zfec", "zfec", "1 or more")
+        row("put", "put", "python", "Python over the libraries", "none")
+        row("get", "get", "python", "Python over the libraries", "none")
+        row("get, last shares", "get_secondary", "python", "Python over the libraries", "none")
+        print ""
+        print "| part | time | sha2 alone for its hashing | times that | aim |"
+        print "|---|---|---|---|---|"
+        beside("put", "put", "hash_put", "1.3 or less")
+        beside("get", "get", "hash_get", "1.5 or less")
+        beside("get, last shares", "get_secondary", "hash_get", "1.5 or less")
+    }
+    function beside(name, part, hashing, aim,   ours, alone) {
+        ours = least["gate_bench " part]
+        alone = least["gate_bench " hashing]
+        if (alone == "" || alone == 0) return
+        printf "| %s | %.1f ms | %.1f ms | %.2f | %s |\n", name, ours / 1000, alone / 1000, ours / alone, aim
     }' "$folder/times"

@@ -56,7 +56,7 @@ impl Key {
         }
     }
 
-    // `apply` to bytes whose places are in one block of the keystream.
+    /// `apply` to bytes whose places are in one block of the keystream.
     #[inline(always)]
     fn apply_in_block(&self, place: u64, bytes: &mut [u8])
         requires { place % 16 + length bytes.old ≤ 16 }
@@ -70,7 +70,7 @@ impl Key {
         }
     }
 
-    // Block `number` of the keystream.
+    /// Block `number` of the keystream.
     #[inline(always)]
     fn block(&self, number: u64) -> [u32; 4]
         ensures { columns result ≡ encrypt self.now (counter_block number) }
@@ -79,7 +79,7 @@ impl Key {
     }
 }
 
-// Counter block `number`.
+/// Counter block `number`.
 #[inline(always)]
 fn counter_words(number: u64) -> [u32; 4]
     ensures { columns result ≡ counter_block number }
@@ -87,7 +87,7 @@ fn counter_words(number: u64) -> [u32; 4]
     [0, 0, (number >> 32) as u32, (number % 0x1_0000_0000) as u32]
 }
 
-// The bytes of four words, the first and highest first.
+/// The bytes of four words, the first and highest first.
 #[inline(always)]
 pub(crate) fn bytes_of(words: [u32; 4]) -> [u8; 16]
     ensures { result ≡ columns words }
@@ -99,7 +99,7 @@ pub(crate) fn bytes_of(words: [u32; 4]) -> [u8; 16]
     [a, b, c, d, e, f, g, h, i, j, k, l, m, n, o, p]
 }
 
-// Adds to each byte the one at its place in `stream`.
+/// Adds to each byte the one at its place in `stream`.
 fn add(bytes: &mut [u8], stream: &[u8])
     requires { length bytes.old ≤ length stream.now }
     ensures { EachIndex bytes.old (λ i. slice_index bytes.new i ≡ bit_xor (slice_index bytes.old i) (slice_index stream.now i)) }
@@ -109,7 +109,7 @@ fn add(bytes: &mut [u8], stream: &[u8])
     }
 }
 
-// Adds to each byte of a block the one at its place in four words.
+/// Adds to each byte of a block the one at its place in four words.
 #[inline(always)]
 fn add_words(block: &mut [u8], words: [u32; 4])
     requires { length block.old ≡ 16 }
@@ -120,7 +120,7 @@ fn add_words(block: &mut [u8], words: [u32; 4])
     }
 }
 
-// Adds to the four bytes from `at` on those of a word.
+/// Adds to the four bytes from `at` on those of a word.
 #[inline(always)]
 fn add_word(bytes: &mut [u8], at: usize, word: u32)
     requires { at + 4 ≤ length bytes.old }

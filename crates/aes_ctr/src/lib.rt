@@ -1,22 +1,21 @@
-//! AES-128 in counter mode (FIPS 197, SP 800-38A) at any place of the keystream.
+//! AES-128 in counter mode (FIPS 197; SP 800-38A, section 6.5), from any byte of the keystream on.
 //!
-//! A `Key` is made of 16 bytes. `Key::apply` adds its keystream to bytes in place, from any offset on, so it
+//! A [`Key`] is made of 16 bytes. [`Key::apply`] adds its keystream to bytes in place, from any offset on, so it
 //! both encrypts and decrypts, whole or piece by piece. No call takes memory.
 #![tactic(auto)]
 
+// A key, and its keystream added to bytes.
 mod key;
-mod laws;
+// What holds of bytes under a keystream.
+pub mod laws;
+// The cipher's rounds on words.
 mod rounds;
+// The round keys of a key.
 mod schedule;
+// The S-box, and the tables of a round.
 mod tables;
 
 pub use key::Key;
-pub use laws::{
-    bytes_stay_bytes, examples_of_the_standard, keystream_by_place, parts_agree, pieces_join,
-    twice_is_unchanged,
-};
 
-#[cfg(test)]
-mod plain;
 #[cfg(test)]
 mod tests;

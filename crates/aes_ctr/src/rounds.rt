@@ -10,8 +10,8 @@ ghost use Rattle.aes_ctr.specs.Words.{word_bytes, word_byte, columns, AreRoundKe
 use crate::schedule::sub;
 use crate::tables::{FROM_ROW_0, FROM_ROW_1, FROM_ROW_2, FROM_ROW_3};
 
-// What the byte in the first row of a word adds to the column that SubBytes and MixColumns make. So the next three
-// do for the other rows.
+/// What the byte in the first row of a word adds to the column that SubBytes and MixColumns make. So the next three
+/// do for the other rows.
 #[inline(always)]
 fn from_row_0(word: u32) -> u32
     ensures { let s = s_box (word_byte word 0) in word_bytes result ≡ times 2 s ∷ s ∷ s ∷ times 3 s ∷ [] }
@@ -40,7 +40,7 @@ fn from_row_3(word: u32) -> u32
     FROM_ROW_3[(word % 256) as usize]
 }
 
-// A column after a round, from the words that ShiftRows takes its four bytes from.
+/// A column after a round, from the words that ShiftRows takes its four bytes from.
 #[inline(always)]
 fn column(a: u32, b: u32, c: u32, d: u32, key: u32) -> u32
     ensures { let s = s_box (word_byte a 0) in
@@ -53,7 +53,7 @@ fn column(a: u32, b: u32, c: u32, d: u32, key: u32) -> u32
     from_row_0(a) ^ from_row_1(b) ^ from_row_2(c) ^ from_row_3(d) ^ key
 }
 
-// A column after the last round, which mixes no columns.
+/// A column after the last round, which mixes no columns.
 #[inline(always)]
 fn last_column(a: u32, b: u32, c: u32, d: u32, key: u32) -> u32
     ensures { word_bytes result
@@ -69,7 +69,7 @@ fn last_column(a: u32, b: u32, c: u32, d: u32, key: u32) -> u32
     u32::from_be_bytes(bytes) ^ key
 }
 
-// The sum with a round key.
+/// The sum with a round key.
 #[inline(always)]
 fn with_key(s: [u32; 4], key: &[u32; 4]) -> [u32; 4]
     ensures { columns result ≡ add_round_key (columns s) (columns key.now) }
@@ -77,7 +77,7 @@ fn with_key(s: [u32; 4], key: &[u32; 4]) -> [u32; 4]
     [s[0] ^ key[0], s[1] ^ key[1], s[2] ^ key[2], s[3] ^ key[3]]
 }
 
-// A whole round.
+/// A whole round.
 #[inline(always)]
 fn round(s: [u32; 4], key: &[u32; 4]) -> [u32; 4]
     ensures { columns result
@@ -92,7 +92,7 @@ fn round(s: [u32; 4], key: &[u32; 4]) -> [u32; 4]
     ]
 }
 
-// The last round.
+/// The last round.
 #[inline(always)]
 fn last_round(s: [u32; 4], key: &[u32; 4]) -> [u32; 4]
     ensures { columns result ≡ add_round_key (shift_rows (sub_bytes (columns s))) (columns key.now) }
@@ -106,7 +106,7 @@ fn last_round(s: [u32; 4], key: &[u32; 4]) -> [u32; 4]
     ]
 }
 
-// The encryption of a block by the round keys of a key.
+/// The encryption of a block by the round keys of a key.
 #[inline(always)]
 pub(crate) fn encrypted(keys: &[[u32; 4]; 11], block: [u32; 4]) -> [u32; 4]
     ensures { (key : List ℕ) → AreRoundKeys key keys.now → columns result ≡ encrypt key (columns block) }

@@ -8,7 +8,7 @@ ghost use Rattle.aes_ctr.specs.Words.{columns, AreRoundKeys};
 
 use crate::tables::S_BOX;
 
-// SubBytes on one byte (section 5.1.1).
+/// SubBytes on one byte (section 5.1.1).
 #[inline(always)]
 pub(crate) fn sub(x: u8) -> u8
     ensures { result ≡ s_box x }
@@ -16,14 +16,14 @@ pub(crate) fn sub(x: u8) -> u8
     S_BOX[x as usize]
 }
 
-// A byte times x in the field (section 4.2.1).
+/// A byte times x in the field (section 4.2.1).
 pub(crate) fn double(x: u8) -> u8
     ensures { result ≡ times_x x }
 {
     if x < 128 { 2 * x } else { 2 * (x - 128) ^ 0x1b }
 }
 
-// The round key after `key`, where `power` is Rcon.
+/// The round key after `key`, where `power` is Rcon.
 pub(crate) fn next_round_key(key: [u8; 16], power: u8) -> [u8; 16]
     ensures { (n : ℕ) → power ≡ x_power n → result ≡ next_round_key key n }
 {
@@ -37,7 +37,7 @@ pub(crate) fn next_round_key(key: [u8; 16], power: u8) -> [u8; 16]
     [a, b, c, d, e, f, g, h, i, j, k, l, m, n, o, p]
 }
 
-// The words whose bytes are a block's, the first highest.
+/// The words whose bytes are a block's, the first highest.
 pub(crate) fn words_of(block: [u8; 16]) -> [u32; 4]
     ensures { columns result ≡ block }
 {
@@ -49,7 +49,7 @@ pub(crate) fn words_of(block: [u8; 16]) -> [u32; 4]
     ]
 }
 
-// The round keys of a key.
+/// The round keys of a key.
 pub(crate) fn expanded(key: [u8; 16]) -> [[u32; 4]; 11]
     ensures { AreRoundKeys key result }
 {

@@ -1,11 +1,12 @@
 -- What stands between a text and bytes while one is made of the other.
-use Rattle.std.proofs.Common.{◌≡◌, below_more, Fits, w8, ◌==◌, ℕ, ◌+◌, ◌*◌, ◌/◌, ◌<◌, ◌≤◌, Bool, true, false, List, [], ◌∷◌, ◌++◌, length, take, drop, map, get_or, refl, ap, sym, ◌∙◌, subst, arith, append_assoc, length-append}
+use Rattle.std.proofs.Common.{◌≡◌, below_more, Fits, w8, ◌==◌, ℕ, ◌+◌, ◌*◌, ◌/◌, ◌<◌, ◌≤◌, Bool, true, false, List, [], ◌∷◌, ◌++◌, length, take, drop, map, get_or, refl, ap, sym, ◌∙◌, subst, arith, append_assoc, length-append, Result, Ok, Err}
+use Rattle.std.specs.Prelude.{OnErr}
 use Rattle.std.specs.List.{All, AllByRecursion, AllPass, list_any}
 use Rattle.std.proofs.lemmas.Bool.Decides.{nat_tests}
 use Rattle.std.proofs.lemmas.List.{append-nil, map-append, take_more, take_all, drop_at, get_or_default}
 use Rattle.base32_text.specs.Bits.{bits_of, joined}
 use Rattle.base32_text.specs.Alphabet.{is_letter, value_of, letter_of}
-use Rattle.base32_text.specs.Base32.{letter_bits, Spells, spelling}
+use Rattle.base32_text.specs.Base32.{letter_bits, Spells, HasMore, spelling}
 use Rattle.base32_text.specs.Refusals.{is_bad_length, loose_bits, is_loose, Refuses}
 use Rattle.base32_text.proofs.BitLemmas.{AreBits, length-bits_of, length-joined, joined-push, are_bits-joined, are_bits-drop}
 use Rattle.base32_text.proofs.AlphabetLemmas.{all_from, values-letters, are_letters}
@@ -209,3 +210,22 @@ nothing_more before now waiting bits w = subst (Written before now waiting) (sym
 
 pub all_fit : (bytes : List ℕ) → ((i : ℕ) → Fits w8 (get_or bytes i 0)) → All (λ byte. byte < 256) bytes
 all_fit bytes h k d l = let fits : Fits w8 (get_or bytes k 0) = h k in rw (get_or_default bytes k d 0 l) (omega arith)
+
+ascii_letter : (value : ℕ) → value < 32 → letter_of value < 128
+ascii_letter value small = grind (arith, nat_tests)
+
+ascii_letters : (values : List ℕ) → AllByRecursion (λ value. value < 32) values → AllByRecursion (λ letter. letter < 128) (map letter_of values)
+ascii_letters [] small = tt
+ascii_letters (v ∷ values) small = (ascii_letter v small.0, ascii_letters values small.1)
+
+-- what was written so far is letters
+pub more_letters : (before now then waiting bits : List ℕ) → Written before now waiting bits → then ≡ now → HasMore before then
+more_letters before now then waiting bits w e = record {
+  letters = map letter_of w.values;
+  follows = e ∙ w.text;
+  ascii = all_from (λ letter. letter < 128) (map letter_of w.values) (ascii_letters w.values w.small);
+}
+
+pub on_err : {T E : Type 0} (result : Result T E) (P : Type 0) → P → OnErr result P
+on_err (Ok x) P p = tt
+on_err (Err e) P p = p

@@ -20,3 +20,9 @@ pub record Spells (text bytes : List ℕ) : Type 0 where
 -- the text that spells bytes: of their bits and four zero bits, each whole group of five
 unfoldable pub spelling : List ℕ → List ℕ
 spelling bytes = map letter_of (groups 5 ((8 * length bytes + 4) / 5) (joined 8 bytes ++ replicate 4 0))
+
+-- a text, and letters after it
+pub record HasMore (text more : List ℕ) : Type 0 where
+  pub letters : List ℕ
+  pub follows : more ≡ text ++ letters
+  pub ascii : All (λ letter. letter < 128) letters

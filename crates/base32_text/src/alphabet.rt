@@ -17,7 +17,8 @@ pub fn letter(value: u32) -> u8
 
 /// What a letter stands for, None at any other byte.
 pub fn value(byte: u8) -> Option<u32>
-    ensures { MatchOption result (is_letter byte ≡ false) (λ value. (is_letter byte ≡ true) × (value ≡ value_of byte) × (value < 32)) }
+    ensures { MatchOption result (is_letter byte ≡ false)
+        (λ value. (is_letter byte ≡ true) × (value ≡ value_of byte) × (value < 32)) }
 {
     match byte {
         b'a'..=b'z' => Some(u32::from(byte - b'a')),

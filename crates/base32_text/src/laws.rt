@@ -21,8 +21,9 @@ pub fn spelling_spells()
     ensures { (bytes : List ℕ) → All (λ byte. byte < 256) bytes → Spells (spelling bytes) bytes }
 {}
 
-/// `reading` says yes just where the text spells bytes, and gives each fault just where it holds.
+/// `reading` gives bytes exactly when the text spells them, and a fault exactly when that fault holds.
 pub fn reading_is_decided()
     ensures spelled { (text bytes : List ℕ) → Spells text bytes ↔ (reading text ≡ Ok bytes) }
-    ensures refused { (text : List ℕ) (fault : B32Fault) → fault ≢ NoMemory → (Refuses fault text ↔ (reading text ≡ Err fault)) }
+    ensures refused { (text : List ℕ) (fault : B32Fault) → fault ≢ NoMemory
+        → (Refuses fault text ↔ (reading text ≡ Err fault)) }
 {}

@@ -3,16 +3,21 @@
 //! no bytes have and unused bits that are not zero are refused.
 #![tactic(auto)]
 
-mod alphabet;
-mod decoder;
+/// From bytes to the text that spells them.
 mod encoder;
+/// From a text to the bytes that it spells.
+mod decoder;
+/// Why a text spells no bytes.
 mod fault;
-mod laws;
+/// The letters and what they stand for.
+mod alphabet;
+/// Bits that were read and are not yet written.
+mod waiting;
+/// What holds of base32, whatever the bytes and the text.
+pub mod laws;
 #[cfg(test)]
 mod tests;
-mod waiting;
 
 pub use decoder::decode;
 pub use encoder::{encode, push_encoded};
 pub use fault::B32Fault;
-pub use laws::{bytes_have_one_text, reading_is_decided, spelling_spells, texts_have_one_meaning};

@@ -41,7 +41,7 @@ impl Waiting {
         self.value == 0
     }
 
-    /// Puts a number of `width` bits behind them.
+    /// Puts a number of `width` bits after them.
     pub fn put(&mut self, width: u32, number: u32)
         requires room { length self.old + width ≤ 16 }
         requires fits { number < 2 ^ width }

@@ -1,11 +1,9 @@
 -- Five fields parted by `:`.
-use Rattle.std.proofs.Common.{◌≡◌, ◌≢◌, ℕ, ◌<◌, ◌≤◌, ◌^◌, Bool, true, false, ◌&&◌, ◌==◌, nat_eq, nat_lt, cond, List, [], ◌∷◌, length, get_or, decimal, Option, Some, None, Result, Ok, Err, refl, ap, sym, ◌∙◌, arith, eqb-true, eq-eqb}
+use Rattle.std.proofs.Common.{◌≡◌, ◌≢◌, ℕ, ◌<◌, ◌≤◌, ◌^◌, Bool, true, false, ◌&&◌, ◌==◌, cond, List, [], ◌∷◌, length, get_or, decimal, Option, Some, None, Result, Ok, Err, refl, ap, sym, ◌∙◌, arith, eqb-true, eq-eqb}
 use Rattle.std.specs.List.{All, join_with_byte}
 use Rattle.std.specs.Str.Parse.{digits_value, AllDigits}
-use Rattle.std.specs.Cmp.Lexicographic.{pointwise}
 use Rattle.std.proofs.lemmas.Bool.Decides.{nat_tests}
-use Rattle.std.proofs.lemmas.Slice.Eq.{bytes_eq-Decides}
-use Rattle.std.proofs.lemmas.Fmt.{digits_decimal, digits_value-decimal, decimal_injective}
+use Rattle.std.proofs.lemmas.Fmt.{digits_decimal, decimal_injective}
 use Rattle.std.proofs.lemmas.List.{get_or_default}
 use Rattle.std.proofs.lemmas.List.Splits.{slice_split_none, slice_split_at, join_with_byte-slice_split}
 use Rattle.std.proofs.lemmas.Str.Parse.{IsNumeralModel, numerals_by_value, tells_digits, not_in_digits}
@@ -14,10 +12,13 @@ use Rattle.base32_text.specs.Alphabet.{is_letter}
 use Rattle.base32_text.specs.Reading.{reading}
 use Rattle.base32_text.specs.declared.fault.B32Fault.{B32Fault}
 use Rattle.base32_text.proofs.ReadingLemmas.{reading_is_spelled}
-use Rattle.caps.specs.Fields.{IsSharing}
+use Rattle.octets.specs.Sharing.{IsSharing}
 use Rattle.caps.specs.CapTexts.{IsFieldsText}
 use Rattle.caps.specs.Refusals.{parts, HasFields}
-use Rattle.caps.specs.Reading.{numeral, if_long, bytes_spelled, is_sharing}
+use Rattle.octets.specs.Decimal.{number_to}
+use Rattle.octets.specs.Sharing.{is_sharing}
+use Rattle.octets.proofs.NumberLaws.{one_text}
+use Rattle.caps.specs.Reading.{numeral, if_long, bytes_spelled}
 
 -- the texts of digits and their values
 pub digits : IsNumeralModel (AllDigits 10) (digits_value 10)
@@ -32,28 +33,17 @@ abbrev pub NumeralSays : List ℕ → Option ℕ → Type 0
 NumeralSays text (Some number) = (text ≡ decimal number) × (number < 2 ^ 64)
 NumeralSays text None = (number : ℕ) → number < 2 ^ 64 → text ≡ decimal number → ⊥
 
-lt_test : (n m : ℕ) → n < m → nat_lt n m ≡ true
-lt_test n m h = grind (arith, nat_tests)
-
-test_lt : (n m : ℕ) → nat_lt n m ≡ true → n < m
-test_lt n m h = grind (arith, nat_tests)
-
-numeral_by : (text : List ℕ) (number : ℕ) (b : Bool) → number ≡ digits_value 10 text
-    → (nat_lt number 18446744073709551616 && pointwise nat_eq (decimal number) text) ≡ b
-    → NumeralSays text (cond b (Some number) None)
-numeral_by text number true v e =
-    let parts : (nat_lt number 18446744073709551616 ≡ true) × (pointwise nat_eq (decimal number) text ≡ true) = and_parts _ _ e in
-    (sym ((bytes_eq-Decides (decimal number) text).0 parts.1), test_lt number 18446744073709551616 parts.0)
-numeral_by text number false v e = λ other small same.
-    let value : number ≡ other = v ∙ ap (digits_value 10) same ∙ digits_value-decimal digits other small in
-    let low : nat_lt number 18446744073709551616 ≡ true = ap (λ n. nat_lt n 18446744073709551616) value ∙ lt_test other 18446744073709551616 small in
-    let equal : pointwise nat_eq (decimal number) text ≡ true = (bytes_eq-Decides (decimal number) text).1 (ap decimal value ∙ sym same) in
-    let both : (nat_lt number 18446744073709551616 && pointwise nat_eq (decimal number) text) ≡ true = rw (low, equal) refl in
+numeral_by : (text : List ℕ) (o : Option ℕ) → number_to 18446744073709551615 text ≡ o → NumeralSays text o
+numeral_by text (Some number) e =
+    let parts : (number ≤ 18446744073709551615) × (text ≡ decimal number) = (one_text 18446744073709551615 number text (omega arith)).0 e in
+    (parts.1, omega (arith, parts.0))
+numeral_by text None e = λ number small same.
+    let some : number_to 18446744073709551615 text ≡ Some number = (one_text 18446744073709551615 number text (omega arith)).1 (omega arith, same) in
     cc
 
 pub numeral_says : (text : List ℕ) → NumeralSays text (numeral text)
 unfolding numeral
-numeral_says text = numeral_by text (digits_value 10 text) _ refl refl
+numeral_says text = numeral_by text (number_to 18446744073709551615 text) refl
 
 numeral_is : (text : List ℕ) (number : ℕ) (o : Option ℕ) → NumeralSays text o → number < 2 ^ 64 → text ≡ decimal number → o ≡ Some number
 numeral_is text number (Some other) s small same = ap Some (decimal_injective other number s.1 small (sym s.0 ∙ same))

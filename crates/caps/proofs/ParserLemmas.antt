@@ -1,12 +1,12 @@
 -- The steps of the parser.
-use Rattle.std.proofs.Common.{◌≡◌, ℕ, suc, ◌+◌, ◌-◌, ◌<◌, ◌≤◌, ◌^◌, decimal, append_assoc, false, ◌==◌, List, [], ◌∷◌, ◌++◌, length, take, drop, get_or, refl, ap, sym, ◌∙◌, subst, arith, inl, inr, ◌⊎◌, Result, Ok, Err, MatchResult, IfOk, IfErr}
+use Rattle.std.proofs.Common.{◌≡◌, ◌≢◌, ℕ, suc, ◌<◌, ◌^◌, decimal, append_assoc, false, ◌==◌, List, [], ◌∷◌, ◌++◌, length, get_or, refl, ap, sym, ◌∙◌, subst, arith, inl, inr, ◌⊎◌, Result, Ok, Err, MatchResult, IfOk, IfErr, Option, Some, None, MatchOption, Bor}
 use Rattle.std.proofs.lemmas.Bool.Decides.{nat_tests}
 use Rattle.std.specs.List.{All, join_with_byte}
-use Rattle.std.proofs.lemmas.List.{take-append-drop, drop_more, get_or-take, get_or_default, take_rest, length-take-le}
 use Rattle.std.proofs.lemmas.List.Splits.{slice_split_none, slice_split_at, length-slice_split}
 use Rattle.base32_text.specs.Base32.{Spells, spelling}
 use Rattle.base32_text.proofs.SpellingLemmas.{spells_spelling}
-use Rattle.caps.specs.Fields.{IsSharing}
+use Rattle.octets.specs.Sharing.{IsSharing}
+use Rattle.octets.specs.Cut.{IsCutAt}
 use Rattle.caps.proofs.FieldLemmas.{fields_text_of}
 use Rattle.base32_text.specs.Refusals.{Refuses as B32Refuses}
 use Rattle.base32_text.specs.declared.fault.B32Fault.{B32Fault}
@@ -40,25 +40,21 @@ count_refused b32.NoMemory count text r = tt
 not_colon : (byte : ℕ) → (byte ≡ 58 → ⊥) → (byte == 58) ≡ false
 not_colon byte h = grind (arith, nat_tests)
 
-none_before : (text : List ℕ) (at : ℕ) → at ≤ length text → ((k : ℕ) → k < at → get_or text k 0 ≡ 58 → ⊥)
-    → All (λ byte. (byte == 58) ≡ false) (take at text)
-none_before text at within h k d l =
-    let short : k < at = (let e : length (take at text) ≡ at = length-take-le at text within in omega arith) in
-    let inside : k < length text = omega arith in
-    rw (get_or-take at text k d short) (rw (get_or_default text k d 0 inside) (not_colon (get_or text k 0) (h k short)))
-
 -- cut at the first `:`
-pub parts_cut : (text : List ℕ) (at : ℕ) → at < length text → get_or text at 0 ≡ 58 → ((k : ℕ) → k < at → get_or text k 0 ≡ 58 → ⊥)
-    → parts text ≡ take at text ∷ parts (take (length text - (at + 1)) (drop (at + 1) text))
-parts_cut text at within colon before =
-    ap parts (sym (take-append-drop at text))
-    ∙ ap (λ t. parts (take at text ++ t)) (drop_more text at 0 within)
-    ∙ ap (λ b. parts (take at text ++ b ∷ drop (at + 1) text)) colon
-    ∙ slice_split_at (λ byte. byte == 58) (take at text) 58 (drop (at + 1) text) (none_before text at (omega arith) before) refl
-    ∙ ap (λ t. take at text ∷ parts t) (sym (take_rest text (at + 1)))
+no_colon : (text : List ℕ) → All (λ b. b ≢ 58) text → All (λ byte. (byte == 58) ≡ false) text
+no_colon text h = λ k d l. not_colon (get_or text k d) (h k d l)
 
-pub parts_whole : (text : List ℕ) → ((k : ℕ) → k < length text → get_or text k 0 ≡ 58 → ⊥) → parts text ≡ text ∷ []
-parts_whole text h = slice_split_none (λ byte. byte == 58) text (λ k d l. rw (get_or_default text k d 0 l) (not_colon (get_or text k 0) (h k l)))
+pub parts_cut : (text front back : List ℕ) → IsCutAt 58 text front back → parts text ≡ front ∷ parts back
+parts_cut text front back c = ap parts c.parts ∙ slice_split_at (λ byte. byte == 58) front 58 back (no_colon front c.before) refl
+
+pub parts_whole : (text : List ℕ) → All (λ b. b ≢ 58) text → parts text ≡ text ∷ []
+parts_whole text h = slice_split_none (λ byte. byte == 58) text (no_colon text h)
+
+-- the first part and what is after its `:`
+pub cut_parts : (text : List ℕ) (o : Option (Bor (List ℕ) × Bor (List ℕ))) → MatchOption o (All (λ b. b ≢ 58) text) (λ p. IsCutAt 58 text p.0.now p.1.now)
+    → MatchOption o (parts text ≡ text ∷ []) (λ p. parts text ≡ p.0.now ∷ parts p.1.now)
+cut_parts text None h = parts_whole text h
+cut_parts text (Some p) h = parts_cut text p.0.now p.1.now h
 
 some_part : (text : List ℕ) → 0 < length (parts text)
 some_part text = omega (arith, length-slice_split (λ byte. byte == 58) text)

@@ -4,7 +4,8 @@ use Rattle.std.proofs.lemmas.Fmt.{decimal_injective}
 use Rattle.base32_text.specs.Base32.{Spells}
 use Rattle.caps.specs.CapTexts.{IsFieldsText}
 use Rattle.caps.specs.Refusals.{parts, HasFields, AreNumbers, LacksFields, LacksNumbers}
-use Rattle.caps.specs.Reading.{numeral, bytes_spelled, is_sharing, numbered, named, stored}
+use Rattle.caps.specs.Reading.{numeral, bytes_spelled, numbered, named, stored}
+use Rattle.octets.specs.Sharing.{is_sharing}
 use Rattle.caps.specs.declared.cap.Cap.{Cap}
 use Rattle.caps.specs.declared.fault.CapFault.{CapFault}
 use Rattle.caps.specs.declared.fault.CapFault.TheVariants.{UnknownKind, Mutable, BadField, BadNumber, NoMemory}

@@ -2,7 +2,8 @@
 use Rattle.std.specs.Prelude.{◌≡◌, ℕ, ◌<◌, ◌^◌, List, [], ◌∷◌, ◌++◌, length, codes, decimal, All}
 use Rattle.std.specs.List.{join_with_byte}
 use Rattle.base32_text.specs.Base32.{Spells, spelling}
-use Rattle.caps.specs.Fields.{ReadValue, VerifyValue, IsSharing}
+use Rattle.octets.specs.Sharing.{IsSharing}
+use Rattle.caps.specs.Fields.{ReadValue, VerifyValue}
 use Rattle.caps.specs.declared.cap.Cap.{Cap}
 use Rattle.caps.specs.declared.cap.Cap.TheVariants.{Chk, Lit, DirChk, DirLit, ChkVerify, DirChkVerify}
 

@@ -1,5 +1,5 @@
 -- What the caps of stored bytes hold.
-use Rattle.std.specs.Prelude.{ℕ, ◌≤◌, List}
+use Rattle.std.specs.Prelude.{ℕ, List}
 
 -- the fields of a read cap
 pub record ReadValue : Type 0 where
@@ -16,9 +16,3 @@ pub record VerifyValue : Type 0 where
   pub k : ℕ
   pub n : ℕ
   pub size : ℕ
-
--- `k` shares are enough of the `n` that were made
-pub record IsSharing (k n : ℕ) : Type 0 where
-  pub some : 1 ≤ k
-  pub enough : k ≤ n
-  pub limit : n ≤ 256

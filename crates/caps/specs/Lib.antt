@@ -4,3 +4,5 @@ pub mod Beginnings
 pub mod Refusals
 pub mod Reading
 pub mod Steps
+pub mod StorageIndex
+pub mod Weakening

@@ -1,8 +1,8 @@
 -- What a text is read as: the cap whose text it is, or why it is no cap's.
-use Rattle.std.specs.Prelude.{ℕ, ◌^◌, Bool, ◌==◌, ◌&&◌, nat_eq, nat_le, nat_lt, if◌then◌else◌, List, [], ◌∷◌, length, drop, decimal, Option, Some, None, Result, Ok, Err}
+use Rattle.std.specs.Prelude.{ℕ, ◌^◌, ◌-◌, ◌==◌, if◌then◌else◌, List, [], ◌∷◌, length, drop, Option, Some, None, Result, Ok, Err}
 use Rattle.std.specs.List.{find}
-use Rattle.std.specs.Str.Parse.{digits_value}
-use Rattle.std.specs.Cmp.Lexicographic.{pointwise}
+use Rattle.octets.specs.Decimal.{number_to}
+use Rattle.octets.specs.Sharing.{is_sharing}
 use Rattle.base32_text.specs.Reading.{reading}
 use Rattle.base32_text.specs.declared.fault.B32Fault.{B32Fault}
 use Rattle.caps.specs.Beginnings.{begins_with, beginning, kinds, is_mutable}
@@ -16,9 +16,7 @@ use Rattle.caps.specs.declared.fault.CapFault.TheVariants.{UnknownKind, Mutable,
 
 -- the number below 2 ^ 64 whose decimal text this is
 unfoldable pub numeral : List ℕ → Option ℕ
-numeral text =
-    let number : ℕ = digits_value 10 text in
-    if nat_lt number (2 ^ 64) && pointwise nat_eq (decimal number) text then Some number else None
+numeral text = number_to (2 ^ 64 - 1) text
 
 abbrev pub if_long : ℕ → Result (List ℕ) B32Fault → Option (List ℕ)
 if_long count (Ok bytes) = if length bytes == count then Some bytes else None
@@ -27,10 +25,6 @@ if_long count (Err fault) = None
 -- the bytes that a text spells, where they are so many
 unfoldable pub bytes_spelled : ℕ → List ℕ → Option (List ℕ)
 bytes_spelled count text = if_long count (reading text)
-
--- `k` shares are enough of `n`, at most 256
-abbrev pub is_sharing : ℕ → ℕ → Bool
-is_sharing k n = nat_le 1 k && nat_le k n && nat_le n 256
 
 abbrev pub numbered : (ℕ → ℕ → ℕ → Cap) → Option ℕ → Option ℕ → Option ℕ → Result Cap CapFault
 numbered make (Some k) (Some n) (Some size) = if is_sharing k n then Ok (make k n size) else Err BadNumber

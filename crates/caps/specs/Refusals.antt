@@ -2,7 +2,7 @@
 use Rattle.std.specs.Prelude.{◌≡◌, ℕ, ◌<◌, ◌^◌, Bool, true, false, ◌==◌, List, [], ◌∷◌, ◌++◌, length, decimal, MatchBool}
 use Rattle.std.specs.List.{slice_split}
 use Rattle.base32_text.specs.Base32.{Spells}
-use Rattle.caps.specs.Fields.{IsSharing}
+use Rattle.octets.specs.Sharing.{IsSharing}
 use Rattle.caps.specs.Beginnings.{begins_with, beginning, is_mutable}
 use Rattle.caps.specs.declared.kind.Kind.{Kind}
 use Rattle.caps.specs.declared.kind.Kind.TheVariants.{ReadFile, LiteralFile, ReadDirectory, LiteralDirectory, VerifyFile, VerifyDirectory}

@@ -54,7 +54,8 @@ pub fn names_mutable(text: &[u8]) -> bool
 
 /// Whether the text begins like one of three.
 fn begins_like(text: &[u8], write: &[u8], read: &[u8], verify: &[u8]) -> bool
-    ensures { result ≡ (begins_with text.now write.now || (begins_with text.now read.now || begins_with text.now verify.now)) }
+    ensures { result ≡ (begins_with text.now write.now
+        || (begins_with text.now read.now || begins_with text.now verify.now)) }
 {
     begins(text, write) || (begins(text, read) || begins(text, verify))
 }
@@ -68,7 +69,8 @@ fn begins(text: &[u8], beginning: &[u8]) -> bool
 
 /// What follows a beginning, None where the text begins otherwise.
 fn after<'a>(text: &'a [u8], beginning: &[u8]) -> Option<&'a [u8]>
-    ensures { MatchOption result (begins_with text.now beginning.now ≡ false) (λ rest. text.now ≡ beginning.now ++ rest.now) }
+    ensures { MatchOption result (begins_with text.now beginning.now ≡ false)
+        (λ rest. text.now ≡ beginning.now ++ rest.now) }
 {
     match text.strip_prefix(beginning) {
         Some(rest) => Some(rest),

@@ -1,7 +1,7 @@
 //! Caps.
 
-use crate::bytes::CapBytes;
 use crate::fields::{ReadFields, VerifyFields};
+use octets::Bytes;
 
 /// A cap: holding it is the whole authority over what it names.
 #[derive(Debug, Drop)]
@@ -9,13 +9,37 @@ pub enum Cap {
     /// Reads a stored file.
     Chk(ReadFields),
     /// A file whose bytes stand in the cap.
-    Lit(CapBytes),
+    Lit(Bytes),
     /// Reads a stored directory.
     DirChk(ReadFields),
     /// A directory whose bytes stand in the cap.
-    DirLit(CapBytes),
+    DirLit(Bytes),
     /// Verifies the shares of a stored file.
     ChkVerify(VerifyFields),
     /// Verifies the shares of a stored directory.
     DirChkVerify(VerifyFields),
+}
+
+/// A verify cap: holding it is the authority to fetch and verify the shares of a file, and to read nothing of it.
+#[derive(Clone, Copy, Debug, PartialEq, Eq, Hash)]
+pub struct VerifyCap {
+    /// Whether the file is a directory's.
+    pub directory: bool,
+    /// What it verifies.
+    pub fields: VerifyFields,
+}
+
+impl From<VerifyCap> for Cap {
+    ghost use Rattle.std.specs.Prelude.{◌≡◌};
+    ghost use Rattle.caps.specs.Weakening.{cap_of};
+
+    ghost from_gives = { λ verify cap. cap ≡ cap_of verify };
+
+    fn from(verify: VerifyCap) -> Cap {
+        if verify.directory {
+            Cap::DirChkVerify(verify.fields)
+        } else {
+            Cap::ChkVerify(verify.fields)
+        }
+    }
 }

@@ -17,7 +17,8 @@ pub struct ReadFields {
 }
 
 impl Model for ReadFields {
-    ghost use Rattle.caps.specs.Fields.{ReadValue, IsSharing};
+    ghost use Rattle.octets.specs.Sharing.{IsSharing};
+    ghost use Rattle.caps.specs.Fields.{ReadValue};
 
     ghost Value = { ReadValue };
 
@@ -44,7 +45,8 @@ pub struct VerifyFields {
 }
 
 impl Model for VerifyFields {
-    ghost use Rattle.caps.specs.Fields.{VerifyValue, IsSharing};
+    ghost use Rattle.octets.specs.Sharing.{IsSharing};
+    ghost use Rattle.caps.specs.Fields.{VerifyValue};
 
     ghost Value = { VerifyValue };
 

@@ -1,9 +1,11 @@
 //! What holds of caps and their texts.
-ghost use Rattle.std.specs.Prelude.{◌≡◌, ◌≢◌, ◌↔◌, ℕ, List, Ok, Err};
+ghost use Rattle.std.specs.Prelude.{◌≡◌, ◌≢◌, ◌↔◌, ℕ, List, Ok, Err, Some};
 ghost use Rattle.caps.specs.CapTexts.{IsCapText, IsCap, cap_text};
 ghost use Rattle.caps.specs.Refusals.{Refuses};
 ghost use Rattle.caps.specs.Reading.{cap_reading};
+ghost use Rattle.caps.specs.Weakening.{weakened, cap_of};
 ghost use Rattle.caps.specs.declared.cap.Cap.{Cap};
+ghost use Rattle.caps.specs.declared.cap.VerifyCap.{VerifyCap};
 ghost use Rattle.caps.specs.declared.fault.CapFault.{CapFault};
 ghost use Rattle.caps.specs.declared.fault.CapFault.TheVariants.{NoMemory};
 
@@ -15,11 +17,18 @@ pub fn caps_have_one_text()
 
 /// A text is one cap's at most.
 pub fn texts_have_one_cap()
-    ensures { (text : List ℕ) (cap other : Cap) → IsCapText cap text → IsCapText other text → cap ≡ other }
+    ensures { (text : List ℕ) (cap other : Cap) → IsCapText cap text → IsCapText other text
+        → cap ≡ other }
 {}
 
-/// `cap_reading` says yes with a cap just where the text is its text, and gives each fault just where it holds.
+/// `cap_reading` gives a cap exactly when the text is its text, and a fault exactly when that fault holds.
 pub fn reading_is_decided()
     ensures read { (text : List ℕ) (cap : Cap) → IsCapText cap text ↔ (cap_reading text ≡ Ok cap) }
-    ensures refused { (text : List ℕ) (fault : CapFault) → fault ≢ NoMemory → (Refuses fault text ↔ (cap_reading text ≡ Err fault)) }
+    ensures refused { (text : List ℕ) (fault : CapFault) → fault ≢ NoMemory
+        → (Refuses fault text ↔ (cap_reading text ≡ Err fault)) }
+{}
+
+/// A verify cap is its own verify cap, and what a cap is weakened to is a verify cap.
+pub fn verify_caps_are_their_own()
+    ensures { (verify : VerifyCap) → weakened (cap_of verify) ≡ Some verify }
 {}

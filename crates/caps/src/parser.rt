@@ -8,13 +8,13 @@ ghost use Rattle.caps.specs.Reading.{cap_reading};
 ghost use Rattle.caps.specs.Steps.{RefusesBytes, RefusesFields, RefusesRest};
 
 use crate::beginning::{kind_and_rest, names_mutable};
-use crate::bytes::CapBytes;
 use crate::cap::Cap;
 use crate::fault::CapFault;
 use crate::fields::{ReadFields, VerifyFields};
 use crate::kind::Kind;
 use crate::stored::{Stored, read_stored};
 use base32_text::decode;
+use octets::Bytes;
 use std::alloc::Global;
 
 /// The cap whose text this is. Each fault says why it is no cap's, and is given where no fault before it holds.
@@ -43,7 +43,8 @@ pub fn parse_bytes(alloc: Global, text: &[u8]) -> Result<Cap, CapFault>
 
 /// The cap of this kind, from what follows the beginning of its text.
 fn parse_rest(alloc: Global, kind: Kind, rest: &[u8]) -> Result<Cap, CapFault>
-    ensures { MatchResult result (λ cap. IsCapText cap (beginning kind ++ rest.now)) (λ fault. RefusesRest fault kind rest.now) }
+    ensures { MatchResult result (λ cap. IsCapText cap (beginning kind ++ rest.now))
+        (λ fault. RefusesRest fault kind rest.now) }
 {
     match kind {
         Kind::ReadFile => Ok(Cap::Chk(read_fields(alloc, rest)?)),
@@ -57,7 +58,8 @@ fn parse_rest(alloc: Global, kind: Kind, rest: &[u8]) -> Result<Cap, CapFault>
 
 /// The fields of a read cap.
 fn read_fields(alloc: Global, rest: &[u8]) -> Result<ReadFields, CapFault>
-    ensures { MatchResult result (λ fields. IsReadText fields rest.now) (λ fault. RefusesFields fault rest.now) }
+    ensures { MatchResult result (λ fields. IsReadText fields rest.now)
+        (λ fault. RefusesFields fault rest.now) }
 {
     let Stored {
         name,
@@ -77,7 +79,8 @@ fn read_fields(alloc: Global, rest: &[u8]) -> Result<ReadFields, CapFault>
 
 /// The fields of a verify cap.
 fn verify_fields(alloc: Global, rest: &[u8]) -> Result<VerifyFields, CapFault>
-    ensures { MatchResult result (λ fields. IsVerifyText fields rest.now) (λ fault. RefusesFields fault rest.now) }
+    ensures { MatchResult result (λ fields. IsVerifyText fields rest.now)
+        (λ fault. RefusesFields fault rest.now) }
 {
     let Stored {
         name,
@@ -96,9 +99,10 @@ fn verify_fields(alloc: Global, rest: &[u8]) -> Result<VerifyFields, CapFault>
 }
 
 /// The bytes of a cap that holds them.
-fn literal(alloc: Global, rest: &[u8]) -> Result<CapBytes, CapFault>
-    ensures { MatchResult result (λ bytes. Spells rest.now bytes) (λ fault. RefusesBytes fault rest.now) }
+fn literal(alloc: Global, rest: &[u8]) -> Result<Bytes, CapFault>
+    ensures { MatchResult result (λ bytes. Spells rest.now bytes)
+        (λ fault. RefusesBytes fault rest.now) }
 {
     let bytes = decode(alloc, rest)?;
-    Ok(CapBytes::new(bytes))
+    Ok(Bytes::from_vec(bytes))
 }

@@ -2,6 +2,8 @@
 ghost use Rattle.std.specs.Prelude.{◌≡◌, List, [], ◌∷◌, length, MatchOption};
 ghost use Rattle.caps.specs.Refusals.{parts};
 
+use octets::split_at_byte;
+
 /// The texts of a cap's five fields.
 #[derive(Drop)]
 pub struct FieldTexts<'a> {
@@ -33,14 +35,10 @@ pub fn five_fields(text: &[u8]) -> Option<FieldTexts<'_>>
     })
 }
 
-/// The first field, and what stands behind its `:`. None where the text is one field.
+/// The first field, and what stands after its `:`. None where the text is one field.
 fn cut(text: &[u8]) -> Option<(&[u8], &[u8])>
-    ensures { MatchOption result (parts text.now ≡ text.now ∷ []) (λ p. parts text.now ≡ p.0.now ∷ parts p.1.now) }
+    ensures { MatchOption result (parts text.now ≡ text.now ∷ [])
+        (λ p. parts text.now ≡ p.0.now ∷ parts p.1.now) }
 {
-    for (at, byte) in text.iter().enumerate() {
-        if *byte == b':' {
-            return Some((&text[..at], &text[at + 1..]));
-        }
-    }
-    None
+    split_at_byte(text, b':')
 }

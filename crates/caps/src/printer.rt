@@ -1,7 +1,7 @@
 //! From a cap to its text.
 ghost use Rattle.std.specs.Prelude.{◌≡◌, ◌++◌, ◌∷◌, ℕ, List, length, decimal, IfOk, OnOk, string_bytes};
 ghost use Rattle.base32_text.specs.Base32.{Spells};
-ghost use Rattle.caps.specs.Fields.{IsSharing};
+ghost use Rattle.octets.specs.Sharing.{IsSharing};
 ghost use Rattle.caps.specs.CapTexts.{IsCapText, IsFieldsText};
 
 use crate::cap::Cap;
@@ -45,7 +45,8 @@ pub fn print(alloc: Global, cap: &Cap) -> Result<String, AllocError>
 
 /// The text of a cap that holds its bytes.
 fn literal_text(alloc: Global, beginning: &str, bytes: &[u8]) -> Result<String, AllocError>
-    ensures { IfOk result (λ text. (rest : List ℕ) × (string_bytes text ≡ beginning.now ++ rest) × Spells rest bytes.now) }
+    ensures { IfOk result (λ text. (rest : List ℕ) × (string_bytes text ≡ beginning.now ++ rest)
+        × Spells rest bytes.now) }
 {
     let mut text = String::with_capacity(alloc, bytes.len() / 5 * 8 + 32)?;
     text.push_str(beginning)?;
@@ -66,7 +67,8 @@ fn stored_text(
     requires name_long { length name.now ≡ 16 }
     requires ueb_long { length ueb.now ≡ 32 }
     requires sharing { IsSharing k n }
-    ensures { IfOk result (λ text. (rest : List ℕ) × (string_bytes text ≡ beginning.now ++ rest) × IsFieldsText name.now ueb.now k n size rest) }
+    ensures { IfOk result (λ text. (rest : List ℕ) × (string_bytes text ≡ beginning.now ++ rest)
+        × IsFieldsText name.now ueb.now k n size rest) }
 {
     let mut text = String::with_capacity(alloc, LONGEST_STORED)?;
     text.push_str(beginning)?;
@@ -79,7 +81,7 @@ fn stored_text(
     Ok(text)
 }
 
-/// Writes `:` and the number behind a text.
+/// Writes `:` and the number after a text.
 fn push_number(text: &mut String, number: u64) -> Result<(), AllocError>
     ensures { OnOk result (string_bytes text.new ≡ string_bytes text.old ++ 58 ∷ decimal number) }
 {

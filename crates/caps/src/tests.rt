@@ -1,5 +1,6 @@
 //! Texts of another program, and bad texts.
 use super::*;
+use hex::FromHex;
 use std::alloc::Global;
 use std::test::Fail;
 
@@ -22,6 +23,56 @@ fn each_kind_is_read_and_printed(rt: HostRuntime) -> Result<(), Fail> {
         let cap = parse(rt.alloc(), text)?;
         let printed = print(rt.alloc(), &cap)?;
         assert_eq!(rt; printed.as_str(), text);
+    }
+    Ok(())
+}
+
+#[test]
+fn a_cap_weakens_to_its_verify_cap(rt: HostRuntime) -> Result<(), Fail> {
+    for (text, verify) in [
+        (
+            "URI:CHK:aaaqeayeaudaocajbifqydiob4:aaaqeayeaudaocajbifqydiob4ibceqtcqkrmfyydenbwha5dypq:3:10:0",
+            "URI:CHK-Verifier:eszhlbsqc5emluwbawwnl5adnu:aaaqeayeaudaocajbifqydiob4ibceqtcqkrmfyydenbwha5dypq:3:10:0",
+        ),
+        (
+            "URI:DIR2-CHK:aaaaaaaaaaaaaaaaaaaaaaaaaa:aaaaaaaaaaaaaaaaaaaaaaaaaaaaaaaaaaaaaaaaaaaaaaaaaaaa:256:256:18446744073709551615",
+            "URI:DIR2-CHK-Verifier:mvv7loy75flm6daqd2orhr4iky:aaaaaaaaaaaaaaaaaaaaaaaaaaaaaaaaaaaaaaaaaaaaaaaaaaaa:256:256:18446744073709551615",
+        ),
+    ] {
+        for cap in [text, verify] {
+            let Some(weakened) = weaken(&parse(rt.alloc(), cap)?) else {
+                panic!(rt; "no verify cap of {cap}");
+            };
+            let printed = print(rt.alloc(), &Cap::from(weakened))?;
+            assert_eq!(rt; printed.as_str(), verify, "of {cap}");
+        }
+    }
+    for text in ["URI:LIT:mzxw6ytboi", "URI:DIR2-LIT:"] {
+        assert_eq!(rt; weaken(&parse(rt.alloc(), text)?), None, "of {text}");
+    }
+    laws::verify_caps_are_their_own();
+    Ok(())
+}
+
+#[test]
+fn storage_indexes_of_another_program(rt: HostRuntime) -> Result<(), Fail> {
+    for (key, index) in [
+        (
+            "00000000000000000000000000000000",
+            "656bf5bb1fe956cf0c101e9d13c78856",
+        ),
+        (
+            "b89043d3f651e2a19e44c65a08c97e6f",
+            "94389cedfc6993e24b654444cda7128d",
+        ),
+        (
+            "c392dfb7f8fd6ab0b7d7936bcab95081",
+            "d6417cfb7faa6ec91ccf4a34d5432604",
+        ),
+    ] {
+        let key = <[u8; 16] as FromHex>::from_hex(key)?;
+        let wanted = <[u8; 16] as FromHex>::from_hex(index)?;
+        assert_eq!(rt; storage_index(&key), wanted, "{index}");
     }
     Ok(())
 }

@@ -301,3 +301,24 @@ determined size primary other given some few e h g many numbers p q =
     let second = restored size other given (omega arith) (omega arith) g (omega arith) numbers
     (λ k d lt. is_block_only size other (get_or given k d).0 (get_or given k d).1 (omega arith) (omega arith) g (q k d lt)) in
     sym first ∙ ap (λ (k : ℕ). primary_from k given) (sym e) ∙ second
+
+-- ---- what blocks decode to
+through_bytes : (places : List ℕ) (blocks : List (List ℕ)) (x : ℕ) → AreBytes (block_through places blocks x)
+through_bytes places blocks x p d less =
+    let inside : p < size_of blocks = omega (arith, length-block_through places blocks x) in
+    let cs : List ℕ = coefficients_of places (column blocks p) in
+    let at : get_or (block_through places blocks x) p d ≡ value_at cs x =
+    get_or_default (block_through places blocks x) p d 0 less ∙ block_through_at places blocks x p inside ∙ sym (value-coefficients_of places (column blocks p) x) in
+    let small = value_lt cs x (bytes-coefficients_of places (column blocks p)) in
+    omega arith
+
+pub length-primary_from : (k : ℕ) (given : List (ℕ × List ℕ)) → length (primary_from k given) ≡ k
+length-primary_from k given = length-map-range_with_len (λ j. block_through (places_of given) (blocks_of given) (place_of j)) 0 k
+
+pub primary_from-are : (k : ℕ) (given : List (ℕ × List ℕ)) → AreBlocks (size_of (blocks_of given)) (primary_from k given)
+primary_from-are k given j d lt =
+    let places : List ℕ = places_of given in
+    let blocks : List (List ℕ) = blocks_of given in
+    let inside : j < k = omega (arith, length-primary_from k given) in
+    subst (λ (b : List ℕ). (length b ≡ size_of blocks) × AreBytes b) (sym (first_block_at places blocks k j d inside))
+    (length-block_through places blocks (place_of j), through_bytes places blocks (place_of j))

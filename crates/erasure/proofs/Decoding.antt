@@ -5,7 +5,7 @@ use Rattle.std.proofs.lemmas.List.FromFn.{map-range_with_len_more}
 use Rattle.erasure.specs.Code.{place_of, AreBytes, IsBlock}
 use Rattle.erasure.specs.Blocks.{size_of, block_through, first_places, block_of, primary_from}
 use Rattle.erasure.specs.Given.{contents_of, numbered_of, numbers_of, blocks_of, AreNumbers, HaveOneLength}
-use Rattle.erasure.proofs.Coding.{places_of, length-places_of, place_of_number, places_bytes, places_distinct, through_block, first_blocks, through_is_block, first_place_at, first_places_bytes, first_places_apart, length-first_places}
+use Rattle.erasure.proofs.Coding.{places_of, length-places_of, place_of_number, places_bytes, places_distinct, through_block, first_blocks, through_is_block, is_block_only, length-primary_from, primary_from-are, first_place_at, first_places_bytes, first_places_apart, length-first_places}
 
 pub if_ok : {T E : Type 0} (r : Result T E) (P Q : T → Type 0) → ((v : T) → P v → Q v) → IfOk r P → IfOk r Q
 if_ok (Ok v) P Q f h = f v h
@@ -110,3 +110,11 @@ decoded_blocks given primary bytes e h a d lt =
     let same : primary_from (length (numbered_of given)) (numbered_of given) ≡ primary =
     ap (λ (k : ℕ). primary_from k (numbered_of given)) (length-numbered_of given) ∙ sym e in
     subst (λ (p : List (List ℕ)). IsBlock p (size_of (blocks_of (numbered_of given))) (get_or (numbered_of given) a d).0 (get_or (numbered_of given) a d).1) same is
+
+pub given_are_coded : (k : ℕ) (given : List (ℕ × List ℕ)) → 0 < k → k ≤ 256 → length given ≡ k → AreNumbers (numbers_of given) → HaveOneLength (blocks_of given)
+    → All AreBytes (blocks_of given) → All (λ g. g.1 ≡ block_of (primary_from k given) g.0) given
+given_are_coded k given some few many numbers same bytes a d lt =
+    let primary : List (List ℕ) = primary_from k given in
+    let long : length primary ≡ k = length-primary_from k given in
+    let is = subst (λ (n : ℕ). IsBlock (primary_from n given) (size_of (blocks_of given)) (get_or given a d).0 (get_or given a d).1) many (given_are_blocks given numbers same bytes a d lt) in
+    is_block_only (size_of (blocks_of given)) primary (get_or given a d).0 (get_or given a d).1 (omega arith) (omega arith) (primary_from-are k given) is

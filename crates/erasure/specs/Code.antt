@@ -1,10 +1,10 @@
--- The k-of-n code. Byte by byte, n blocks are the values of one polynomial, of degree below k, at n places of the field,
+-- The k-of-n code. Byte by byte, n blocks are the values of one polynomial, of degree below k, at n points of the field,
 -- and the first k blocks are the primary ones.
 use Rattle.std.specs.Prelude.{◌≡◌, ◌<◌, ℕ, zero, suc, List, length, map, All, slice_index}
 use Rattle.gf_field.specs.Field.{power_of}
 use Rattle.erasure.specs.Polynomial.{value_at}
 
--- the place of block i: 0, 1, 2, 4, 8 and so on by powers of 2
+-- the point of block i: 0, 1, 2, 4, 8 and so on by powers of 2
 unfoldable pub place_of : ℕ → ℕ
 place_of zero = 0
 place_of (suc i) = power_of 2 i
@@ -17,13 +17,13 @@ AreBytes bytes = All (λ b. b < 256) bytes
 abbrev pub column : List (List ℕ) → ℕ → List ℕ
 column blocks at = map (λ block. slice_index block at) blocks
 
--- a polynomial with as many coefficients as there are primary bytes has primary byte j at the place of block j
+-- a polynomial with as many coefficients as there are primary bytes has primary byte j at the point of block j
 pub record PassesThrough (coefficients primary : List ℕ) : Type 0 where
   pub as_many : length coefficients ≡ length primary
   pub elements : AreBytes coefficients
   pub at_place : (j : ℕ) → j < length primary → value_at coefficients (place_of j) ≡ slice_index primary j
 
--- these bytes are the code of the primary bytes: one such polynomial has byte i at the place of block i, for each i
+-- these bytes are the code of the primary bytes: one such polynomial has byte i at the point of block i, for each i
 pub record IsCode (primary bytes : List ℕ) : Type 0 where
   pub coefficients : List ℕ
   pub passes : PassesThrough coefficients primary
@@ -38,7 +38,7 @@ pub record AreCoded (primary blocks : List (List ℕ)) (size : ℕ) : Type 0 whe
   pub sizes : All (λ block. length block ≡ size) blocks
   pub columns : (at : ℕ) → at < size → IsCode (column primary at) (column blocks at)
 
--- this is block i of the primary ones: byte by byte, the value of that polynomial at its place
+-- this is block i of the primary ones: byte by byte, the value of that polynomial at its point
 pub record IsBlock (primary : List (List ℕ)) (size i : ℕ) (block : List ℕ) : Type 0 where
   pub as_long : length block ≡ size
   pub byte_at : (at : ℕ) → at < size

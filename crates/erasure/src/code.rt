@@ -1,5 +1,6 @@
 //! The code: encoding a block, and decoding.
 ghost use Rattle.std.specs.Prelude.{◌≡◌, ◌≢◌, ◌↔◌, ◌<◌, ◌≤◌, length, map, take, slice_index, All, IfSome, IfOk, OnOk, IfErr, IsOk, IsErrOf, IsOkUnless};
+ghost use Rattle.octets.specs.Sharing.{IsSharing};
 ghost use Rattle.erasure.specs.Code.{place_of, AreBytes, AreBlocks, IsBlock};
 ghost use Rattle.erasure.specs.Blocks.{size_of, block_through, block_of, primary_from, AreInverses};
 ghost use Rattle.erasure.specs.Given.{contents_of, numbered_of, numbers_of, blocks_of, AreDistinct, AreNumbers, Repeats, HaveOneLength, HasAnotherLength};
@@ -7,6 +8,7 @@ ghost use Rattle.erasure.specs.Given.{contents_of, numbered_of, numbers_of, bloc
 use crate::fault::CodeFault;
 use crate::given::{has_another_length, repeats};
 use crate::interpolation::{block_at, inverses_at, place, places_of_first};
+use octets::is_sharing;
 use std::alloc::Global;
 use std::marker::Model;
 
@@ -20,7 +22,8 @@ pub struct Code {
 }
 
 impl Model for Code {
-    ghost use Rattle.std.specs.Prelude.{◌≡◌, ◌≤◌, take};
+    ghost use Rattle.std.specs.Prelude.{◌≡◌, take};
+    ghost use Rattle.octets.specs.Sharing.{IsSharing};
     ghost use Rattle.erasure.specs.Size.{CodeSize};
     ghost use Rattle.erasure.specs.Blocks.{first_places, AreInverses};
 
@@ -28,18 +31,18 @@ impl Model for Code {
 
     ghost view = { λ c. record { k = c.k; n = c.n } };
 
-    ghost invariant = { λ c. (1 ≤ c.k) × (c.k ≤ c.n) × (c.n ≤ 256)
-        × (take c.k c.places ≡ first_places c.k) × AreInverses (first_places c.k) c.inverses };
+    ghost invariant = { λ c. IsSharing c.k c.n × (take c.k c.places ≡ first_places c.k)
+        × AreInverses (first_places c.k) c.inverses };
 }
 
 impl Code {
     /// A code of `n` blocks, `k` of them primary: `BadParameters` unless 1 <= k <= n <= 256.
     pub fn new(k: u16, n: u16) -> Result<Self, CodeFault>
         ensures code { IfOk result (λ c. (c.k ≡ k) × (c.n ≡ n)) }
-        ensures taken { IsOk result ↔ ((1 ≤ k) × (k ≤ n) × (n ≤ 256)) }
+        ensures taken { IsOk result ↔ IsSharing k n }
         ensures refused { IsOkUnless result CodeFault.BadParameters }
     {
-        if 1 <= k && k <= n && n <= 256 {
+        if is_sharing(k, n) {
             let places = places_of_first(k);
             let inverses = inverses_at(&places[..k as usize]);
             Ok(Code {
@@ -65,7 +68,8 @@ impl Code {
         requires number { i < self.now.n }
         ensures block { IfOk result (λ b. b.items ≡ block_of (contents_of primary.now) i) }
         ensures code { let blocks = contents_of primary.now in
-            AreBlocks (size_of blocks) blocks → IfOk result (λ b. IsBlock blocks (size_of blocks) i b.items) }
+            AreBlocks (size_of blocks) blocks
+            → IfOk result (λ b. IsBlock blocks (size_of blocks) i b.items) }
         ensures only_memory { IsOkUnless result CodeFault.NoMemory }
     {
         if i < self.k {
@@ -84,8 +88,9 @@ impl Code {
 
         ensures primary { let given = numbered_of (take self.now.k blocks.now) in
             IfOk result (λ v. map (λ b. b.items) v.items ≡ primary_from self.now.k given) }
-        ensures code { let given = numbered_of (take self.now.k blocks.now) in All AreBytes (blocks_of given)
-            → IfOk result (λ v. All (λ g. IsBlock (map (λ b. b.items) v.items) (size_of (blocks_of given)) g.0 g.1) given) }
+        ensures code { let given = numbered_of (take self.now.k blocks.now) in
+            let size = size_of (blocks_of given) in All AreBytes (blocks_of given)
+            → IfOk result (λ v. All (λ g. IsBlock (map (λ b. b.items) v.items) size g.0 g.1) given) }
 
         ensures too_few { IsErrOf result CodeFault.TooFew ↔ (length blocks.now < self.now.k) }
         ensures repeated { let given = numbered_of (take self.now.k blocks.now) in
@@ -147,7 +152,7 @@ fn restore(alloc: Global, given: &[(u16, &[u8])]) -> Result<Vec<Vec<u8>>, CodeFa
     Ok(primary)
 }
 
-/// Primary block `j`: as it was given, or else from the blocks at their places.
+/// Primary block `j`: as it was given, or else from the blocks at their points.
 fn primary_block(
     alloc: Global,
     given: &[(u16, &[u8])],

@@ -5,6 +5,7 @@ ghost use Rattle.erasure.specs.declared.fault.CodeFault.TheVariants.{NoMemory};
 use std::alloc::{AllocError, AllocFailed};
 use thiserror::Error;
 
+/// Why a code isn't made, or blocks aren't decoded.
 #[derive(Debug, PartialEq, Eq, Drop, Error)]
 pub enum CodeFault {
     /// A code needs 1 <= k <= n <= 256.

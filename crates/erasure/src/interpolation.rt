@@ -1,4 +1,4 @@
-//! The value of a polynomial at one place from its values at others, byte by byte over whole blocks.
+//! The value of a polynomial at one evaluation point from its values at others, byte by byte over whole blocks.
 ghost use Rattle.std.specs.Prelude.{◌≡◌, ◌<◌, ◌≤◌, length, take, IfOk, IsOkUnless};
 ghost use Rattle.erasure.specs.Code.{place_of};
 ghost use Rattle.erasure.specs.Blocks.{distance_of, whole_distance_of, weight_of, block_through, first_places, AreInverses};
@@ -9,7 +9,7 @@ use crate::kernel::mul_add;
 use gf_field::{exp, inv, mul};
 use std::alloc::Global;
 
-/// The place of block `number`.
+/// The evaluation point of block `number`.
 pub(crate) fn place(number: u16) -> u8
     requires { number < 256 }
     ensures { result ≡ place_of number }
@@ -21,7 +21,7 @@ pub(crate) fn place(number: u16) -> u8
     }
 }
 
-/// The places of the first `k` blocks, and 0 past them.
+/// The points of the first `k` blocks, and 0 past them.
 pub(crate) fn places_of_first(k: u16) -> [u8; 256]
     requires { k ≤ 256 }
     ensures { take k result ≡ first_places k }
@@ -33,7 +33,7 @@ pub(crate) fn places_of_first(k: u16) -> [u8; 256]
     places
 }
 
-/// How far `x` is from each of the places but place `j`, multiplied.
+/// How far `x` is from each of the points but point `j`, multiplied.
 fn distance(places: &[u8], j: usize, x: u8) -> u8
     ensures { result ≡ distance_of places.now j x }
 {
@@ -46,7 +46,7 @@ fn distance(places: &[u8], j: usize, x: u8) -> u8
     product
 }
 
-/// How far `x` is from each of the places, multiplied.
+/// How far `x` is from each of the points, multiplied.
 fn whole_distance(places: &[u8], x: u8) -> u8
     ensures { result ≡ whole_distance_of places.now x }
 {
@@ -57,7 +57,7 @@ fn whole_distance(places: &[u8], x: u8) -> u8
     product
 }
 
-/// `distance`, by one product where `x` isn't place `j`: from `whole`, how far it is from all of the places.
+/// `distance`, by one product where `x` isn't point `j`: from `whole`, how far it is from all of the points.
 fn distance_from_whole(places: &[u8], j: usize, x: u8, whole: u8) -> u8
     requires within { j < length places.now }
     requires whole { whole ≡ whole_distance_of places.now x }
@@ -69,7 +69,7 @@ fn distance_from_whole(places: &[u8], j: usize, x: u8, whole: u8) -> u8
     }
 }
 
-/// For each place the inverse of how far it is from the others, and 0 past them.
+/// For each point the inverse of how far it is from the others, and 0 past them.
 pub(crate) fn inverses_at(places: &[u8]) -> [u8; 256]
     requires { length places.now ≤ 256 }
     ensures { AreInverses places.now result }
@@ -81,7 +81,7 @@ pub(crate) fn inverses_at(places: &[u8]) -> [u8; 256]
     inverses
 }
 
-/// What the value at place `j` counts in the value at `x`, from `whole`, how far `x` is from all of the places.
+/// The Lagrange coefficient of point `j` at `x`, from `whole`, how far `x` is from all of the points.
 fn weight(places: &[u8], inverses: &[u8; 256], j: usize, x: u8, whole: u8) -> u8
     requires few { length places.now ≤ 256 }
     requires within { j < length places.now }
@@ -92,7 +92,7 @@ fn weight(places: &[u8], inverses: &[u8; 256], j: usize, x: u8, whole: u8) -> u8
     mul(distance_from_whole(places, j, x, whole), inverses[j])
 }
 
-/// The block at `x`, from the blocks at these places.
+/// The block at `x`, from the blocks at these points.
 pub(crate) fn block_at(
     alloc: Global,
     places: &[u8],

@@ -1,3 +1,4 @@
+//! Blocks of another program, and what the clauses do not show.
 ghost use Rattle.std.specs.Prelude.{◌≡◌, ◌<◌, IsTrue, length, take, All};
 ghost use Rattle.erasure.specs.Given.{contents_of, HaveOneLength};
 
@@ -132,8 +133,9 @@ fn check_vector(
     alloc: Global,
     (k, n): (u16, u16),
     size: usize,
-    bytes: &[u8],
+    text: &str,
 ) -> Result<(), Fail> {
+    let bytes = hex::decode(alloc, text)?;
     let mut expected = Vec::new(alloc);
     for piece in bytes.chunks(size.max(1)) {
         expected.push(piece)?;
@@ -159,12 +161,12 @@ fn check_vector(
 
 #[test]
 fn blocks_are_those_of_zfec(rt: HostRuntime) -> Result<(), Fail> {
-    check_vector(&rt, rt.alloc(), (2, 4), 1, &vectors::BLOCKS_2_OF_4)?;
-    check_vector(&rt, rt.alloc(), (3, 10), 19, &vectors::BLOCKS_3_OF_10)?;
-    check_vector(&rt, rt.alloc(), (5, 7), 8, &vectors::BLOCKS_5_OF_7)?;
-    check_vector(&rt, rt.alloc(), (4, 4), 5, &vectors::BLOCKS_4_OF_4)?;
-    check_vector(&rt, rt.alloc(), (16, 40), 2, &vectors::BLOCKS_16_OF_40)?;
-    check_vector(&rt, rt.alloc(), (100, 256), 1, &vectors::BLOCKS_100_OF_256)
+    check_vector(&rt, rt.alloc(), (2, 4), 1, vectors::BLOCKS_2_OF_4)?;
+    check_vector(&rt, rt.alloc(), (3, 10), 19, vectors::BLOCKS_3_OF_10)?;
+    check_vector(&rt, rt.alloc(), (5, 7), 8, vectors::BLOCKS_5_OF_7)?;
+    check_vector(&rt, rt.alloc(), (4, 4), 5, vectors::BLOCKS_4_OF_4)?;
+    check_vector(&rt, rt.alloc(), (16, 40), 2, vectors::BLOCKS_16_OF_40)?;
+    check_vector(&rt, rt.alloc(), (100, 256), 1, vectors::BLOCKS_100_OF_256)
 }
 
 /// Decodes from the blocks whose bits are set.

@@ -1,11 +1,14 @@
 //! Times the work on a body of 4 MiB. `gate_bench TURNS` prints the least microseconds that one of so many turns took
 //! of each part: `apply`, its encryption; `encode`, the seven secondary blocks of its three primary ones; `decode`, its
-//! primary blocks from the last three. Without an argument it prints nothing.
+//! primary blocks from the last three; `put`, `get` and `get_secondary`, through the gateway, from the first three shares
+//! and from the last three; `hash_put` and `hash_get`, the hashing in them alone. Without an argument it prints nothing.
 #![tactic(auto)]
 
 mod arguments;
 mod cipher;
 mod code;
+mod files;
+mod hashing;
 
 use crate::arguments::turns;
 use std::process::ExitCode;
@@ -41,5 +44,12 @@ fn bench(rt: &(impl Print + Clock + AllocGlobal), turns: u32) -> anyhow::Result<
     let (encode, decode) = code::least(rt, turns, byte)?;
     println!(rt; "encode {encode}")?;
     println!(rt; "decode {decode}")?;
+    let files = files::least(rt, turns, byte)?;
+    println!(rt; "put {}", files.put)?;
+    println!(rt; "get {}", files.get)?;
+    println!(rt; "get_secondary {}", files.get_secondary)?;
+    let (hash_put, hash_get) = hashing::least(rt, turns, byte)?;
+    println!(rt; "hash_put {hash_put}")?;
+    println!(rt; "hash_get {hash_get}")?;
     Ok(())
 }

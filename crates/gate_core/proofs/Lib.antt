@@ -1,6 +1,11 @@
 pub mod Maps
 pub mod Queues
-pub mod Runs
-pub mod Steps
-pub mod Arrivals
 pub mod TargetLemmas
+pub mod Calls
+pub mod Entries
+pub mod Steps
+pub mod Performed
+pub mod Serving
+pub mod Arrivals
+pub mod Empty
+pub mod Local

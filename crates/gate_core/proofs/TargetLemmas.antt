@@ -3,7 +3,7 @@ use Rattle.std.proofs.Common.{◌≡◌, ℕ, ◌-◌, List, length, take, drop,
 use Rattle.std.specs.Prelude.{◌&&◌, not, nat_eq, codes}
 use Rattle.std.specs.List.{list_any, starts_with}
 use Rattle.std.proofs.lemmas.List.{length-drop, take_all}
-use Rattle.gate_core.specs.Answers.{cap_text, is_reserved}
+use Rattle.gate_core.specs.Requests.{cap_text, is_reserved}
 
 chosen : (a b : Bool) (x : List ℕ) → a ≡ true → b ≡ false → cond (a && not b) (Some x) None ≡ Some x
 chosen true true x p q = cc

@@ -1,15 +1,14 @@
--- What a gateway holds, and which calls it came from.
-use Rattle.std.specs.Prelude.{◌≡◌, ◌≢◌, ◌≤◌, ℕ, List, [], ◌++◌, Bool, true, false, ◌||◌, Option, Some, None}
+-- What a gateway holds.
+use Rattle.std.specs.Prelude.{◌≡◌, ◌≢◌, ◌≤◌, ℕ, List, [], Bool, true, false, ◌||◌, Option, Some, None}
 use Rattle.std.specs.Ordering.{nat_cmp}
 use Rattle.std.specs.FinMap as map
-use Rattle.http_edge.specs.Left.{Left, rest, is_closed as is_left_closed}
+use Rattle.http_edge.specs.Left.{Left, is_closed as is_left_closed}
 use Rattle.gate_core.specs.declared.stage.Stage.{Stage}
 use Rattle.gate_core.specs.declared.stage.Stage.TheVariants.{Open, Ended, Cut}
 use Rattle.gate_core.specs.declared.fault.GatewayFault.{GatewayFault}
 use Rattle.gate_core.specs.declared.fault.GatewayFault.TheVariants.{Known, NotOpen, Cut as CutFault}
-use Rattle.gate_core.specs.Events.{Event, is_known, joined, handed, has_ended}
-use Rattle.gate_core.specs.Items.{items}
-use Rattle.gate_core.specs.Said.{said, kept}
+use Rattle.grid.specs.GridState.{GridState}
+use Rattle.gate_core.specs.Settings.{Settings}
 
 -- what is held of a connection: what framing goes on with, how far its calls went, and the bytes that wait to be taken
 pub record Held : Type 0 where
@@ -23,7 +22,13 @@ Connections = map.FinMap nat_cmp Held
 
 -- what a gateway holds
 pub record State : Type 0 where
+  pub settings : Settings
   pub connections : Connections
+  pub grid : GridState
+
+-- what is held of an id
+abbrev pub held_at : State → ℕ → Option Held
+held_at g id = map.get g.connections id
 
 -- the bytes that wait for a caller
 abbrev pub waiting_in : Option Held → List ℕ
@@ -31,7 +36,7 @@ waiting_in None = []
 waiting_in (Some held) = held.waiting
 
 abbrev pub waiting : State → ℕ → List ℕ
-waiting g caller = waiting_in (map.get g.connections caller)
+waiting g caller = waiting_in (held_at g caller)
 
 -- no more bytes count of a connection at a stage
 abbrev pub is_over : Stage → Bool
@@ -74,48 +79,9 @@ abbrev pub take_refusal : Option Held → Option GatewayFault
 take_refusal None = Some NotOpen
 take_refusal (Some held) = cut_refusal held.stage
 
--- what is left of a connection on which memory ran out: it is refused from then on, and nothing waits
-pub record IsCut (held : Held) : Type 0 where
-  pub stage : held.stage ≡ Cut
-  pub waiting : held.waiting ≡ []
-
 -- every other connection is as it was
 abbrev pub OthersSame : State → State → ℕ → Type 0
-OthersSame old new id = (other : ℕ) → other ≢ id → map.get new.connections other ≡ map.get old.connections other
-
--- how far a connection's calls went, where memory lasted
-abbrev pub stage_of : Bool → Stage
-stage_of true = Ended
-stage_of false = Open
-
--- what is held of a connection came from these calls: what was handed out and what waits is what the written answers say
-pub record IsAt (id : ℕ) (held : Held) (events : List Event) : Type 0 where
-  pub known : is_known id events ≡ true
-  pub read : held.conn ≡ rest (joined id events)
-  pub stage : held.stage ≡ stage_of (has_ended id events)
-  pub out : handed id events ++ held.waiting ≡ said id (items events)
-
--- no call was of this connection
-pub record IsFresh (id : ℕ) (events : List Event) : Type 0 where
-  pub unknown : is_known id events ≡ false
-  pub read : joined id events ≡ []
-  pub going : has_ended id events ≡ false
-  pub given : handed id events ≡ []
-  pub out : said id (items events) ≡ []
-
-abbrev pub CameAt : ℕ → Option Held → List Event → Type 0
-CameAt id None events = IsFresh id events
-CameAt id (Some held) events = IsAt id held events
-
--- What a gateway holds came from these calls. No history is stored.
-pub record Came (g : State) (events : List Event) : Type 0 where
-  pub each : (id : ℕ) → CameAt id (map.get g.connections id) events
-
--- The headline: what each caller was handed and what waits for it is what the written answers say, and what they
--- say where the items of others are dropped on which its answers do not rest.
-pub record Isolated (g : State) (events : List Event) : Type 0 where
-  pub whole : (caller : ℕ) → handed caller events ++ waiting g caller ≡ said caller (items events)
-  pub apart : (caller : ℕ) → handed caller events ++ waiting g caller ≡ said caller (kept caller (items events))
+OthersSame old new id = (other : ℕ) → other ≢ id → held_at new other ≡ held_at old other
 
 -- what `new` takes: k of N shares, on so many servers, under a secret of so many bytes
 pub record AreParameters (k n servers secret : ℕ) : Type 0 where

@@ -1,5 +1,15 @@
+pub mod Settings
+pub mod Replies
+pub mod Requests
+pub mod Answers
 pub mod Events
 pub mod Items
-pub mod Answers
-pub mod Said
+pub mod Runs
+pub mod Reach
+pub mod Agrees
+pub mod Rooms
 pub mod Held
+pub mod Lefts
+pub mod Came
+pub mod Replied
+pub mod Served

@@ -1,13 +1,17 @@
 //! One connection: what framing goes on with, and what waits to be taken.
-ghost use Rattle.std.specs.Prelude.{◌≡◌, ℕ, List, [], ◌∷◌, ◌++◌, ◌⊎◌, take, OnOk, IfOk, OnErr, IsOk, IsTrue, ◌↔◌, ◌≢◌, MatchOption, IsOkUnless, Some};
-ghost use Rattle.http_edge.specs.Left.{is_closed as is_left_closed};
-ghost use Rattle.gate_core.specs.Events.{Event, Open, Bytes, End, Take};
+ghost use Rattle.std.specs.Prelude.{◌≡◌, ℕ, List, [], ◌∷◌, ◌++◌, ◌⊎◌, take, length, OnOk, IfOk, OnErr, IsOk, IsTrue, ◌↔◌, ◌≢◌, MatchOption, IsOkUnless, Some};
+ghost use Rattle.http_edge.specs.Left.{is_closed as is_left_closed, frame_from, rest_from};
+ghost use Rattle.grid.specs.Leaves.{Leaves};
+ghost use Rattle.gate_core.specs.Settings.{settings_of};
 
-use crate::answer::answer_all;
 use crate::fault::GatewayFault;
 use crate::output::Output;
+use crate::parameters::Parameters;
+use crate::server::serve_all;
 use crate::stage::Stage;
+use grid::Grid;
 use http_edge::Conn;
+use share_store::Store;
 use std::alloc::{AllocError, Global};
 use std::marker::Model;
 
@@ -29,10 +33,13 @@ impl Model for Connection {
 }
 
 impl Connection {
-    ghost use Rattle.gate_core.specs.Held.{Held, IsAt, IsFresh, IsCut, stage_refusal, cut_refusal, is_closed_in};
+    ghost use Rattle.gate_core.specs.Held.{stage_refusal, cut_refusal, is_closed_in};
+    ghost use Rattle.gate_core.specs.Lefts.{opened, taken, ended, cut};
+    ghost use Rattle.gate_core.specs.Served.{IsFed};
 
+    /// A connection of which no byte has come. Takes no memory.
     pub fn new(alloc: Global) -> Connection
-        ensures fresh { (id : ℕ) (events : List Event) → IsFresh id events → IsAt id result (events ++ Open id ∷ []) }
+        ensures { result ≡ opened }
     {
         Connection {
             alloc,
@@ -57,16 +64,25 @@ impl Connection {
     }
 
     /// Takes the next bytes, and answers the items that they complete. Where memory runs out the connection is cut.
-    pub fn bytes(&mut self, piece: &[u8]) -> Result<(), GatewayFault>
+    pub fn bytes<S: Store>(
+        &mut self,
+        parameters: &Parameters,
+        grid: &mut Grid<S>,
+        piece: &[u8],
+    ) -> Result<(), GatewayFault>
         ensures answer { MatchOption (stage_refusal self.old.stage)
             (IsOkUnless result GatewayFault.NoMemory)
-            (λ e. (result ≡ Err e) × (self.new ≡ self.old)) }
-        ensures no_memory { result ≡ Err GatewayFault.NoMemory → IsCut self.new }
-        ensures calm { (piece.now ≡ []) ⊎ IsTrue (is_left_closed self.old.conn) → result ≢ Err GatewayFault.NoMemory }
-        ensures at { OnOk result ((id : ℕ) (events : List Event) → IsAt id self.old events → IsAt id self.new (events ++ Bytes id piece.now ∷ [])) }
+            (λ e. (result ≡ Err e) × (self.new ≡ self.old) × (grid.new ≡ grid.old)) }
+        ensures leaves { Leaves grid.old grid.new }
+        ensures no_memory { result ≡ Err GatewayFault.NoMemory → self.new ≡ cut }
+        ensures calm { (piece.now ≡ []) ⊎ IsTrue (is_left_closed self.old.conn) →
+            result ≢ Err GatewayFault.NoMemory }
+        ensures fed { OnOk result
+            (IsFed (settings_of parameters.now
+            (length grid.old)) piece.now self.old self.new grid.old grid.new) }
     {
         self.check_open()?;
-        match self.receive(piece) {
+        match self.receive(parameters, grid, piece) {
             Ok(()) => Ok(()),
             Err(_) => {
                 self.cut();
@@ -87,21 +103,25 @@ impl Connection {
     }
 
     /// `bytes` of an open connection, which is of no more use after an error.
-    fn receive(&mut self, piece: &[u8]) -> Result<(), AllocError>
-        ensures at { OnOk result ((id : ℕ) (events : List Event) → IsAt id self.old events → IsAt id self.new (events ++ Bytes id piece.now ∷ [])) }
+    fn receive<S: Store>(
+        &mut self,
+        parameters: &Parameters,
+        grid: &mut Grid<S>,
+        piece: &[u8],
+    ) -> Result<(), AllocError>
+        ensures leaves { Leaves grid.old grid.new }
+        ensures fed { OnOk result
+            (IsFed (settings_of parameters.now
+            (length grid.old)) piece.now self.old self.new grid.old grid.new) }
         ensures calm { (piece.now ≡ []) ⊎ IsTrue (is_left_closed self.old.conn) → IsOk result }
     {
-        if piece.is_empty() {
-            return Ok(());
-        }
         let items = self.conn.feed(piece)?;
-        answer_all(self.alloc, &items, &mut self.output)?;
-        Ok(())
+        serve_all(self.alloc, parameters, grid, items, &mut self.output)
     }
 
     /// Gives up what came and what waits.
     fn cut(&mut self)
-        ensures { IsCut self.new }
+        ensures { self.new ≡ cut }
     {
         self.conn = Conn::new(self.alloc);
         self.output = Output::new(self.alloc);
@@ -113,7 +133,7 @@ impl Connection {
         ensures answer { MatchOption (cut_refusal self.old.stage)
             (IsOkUnless result GatewayFault.NoMemory)
             (λ e. result ≡ Err e) }
-        ensures at { IfOk result (λ given. (id : ℕ) (events : List Event) → IsAt id self.old events → IsAt id self.new (events ++ Take id given.items ∷ [])) }
+        ensures left { OnOk result (self.new ≡ taken max self.old) }
         ensures given { IfOk result (λ given. given.items ≡ take max self.old.waiting) }
         ensures err { OnErr result (self.new ≡ self.old) }
         ensures nothing_asked { max ≡ 0 → result ≢ Err GatewayFault.NoMemory }
@@ -128,14 +148,15 @@ impl Connection {
         Ok(given)
     }
 
-    /// No more bytes come. An unfinished request is dropped without an answer.
+    /// No more bytes come. An unfinished request is dropped without an answer, and its memory given back.
     pub fn end(&mut self) -> Result<(), GatewayFault>
         ensures answer { MatchOption (stage_refusal self.old.stage)
             (IsOk result)
             (λ e. (result ≡ Err e) × (self.new ≡ self.old)) }
-        ensures at { OnOk result ((id : ℕ) (events : List Event) → IsAt id self.old events → IsAt id self.new (events ++ End id ∷ [])) }
+        ensures left { OnOk result (self.new ≡ ended self.old) }
     {
         self.check_open()?;
+        self.conn = Conn::new(self.alloc);
         self.stage = Stage::Ended;
         Ok(())
     }

@@ -1,5 +1,6 @@
 //! Why a call was refused.
 
+use grid::GridFault;
 use thiserror::Error;
 
 /// Why a call of a gateway was refused. A refusal other than `NoMemory` of `bytes` changes nothing that callers see.
@@ -12,7 +13,7 @@ pub enum GatewayFault {
     #[error("no such connection is open")]
     NotOpen = 2,
     /// Memory ran out on this connection before.
-    #[error("the connection was cut for want of memory")]
+    #[error("the connection was cut: out of memory")]
     Cut = 3,
     /// Memory ran out in this call.
     #[error("out of memory")]
@@ -20,4 +21,15 @@ pub enum GatewayFault {
     /// A parameter of the gateway is out of its range.
     #[error("a parameter is out of its range")]
     BadParameters = 5,
+}
+
+/// Why no gateway was made of an image.
+#[derive(Clone, Copy, Debug, PartialEq, Eq, Error)]
+pub enum RestoreFault {
+    /// A parameter of the gateway is out of its range.
+    #[error("a parameter is out of its range")]
+    BadParameters,
+    /// The image was not read into the stores.
+    #[error("no image: {0}")]
+    Grid(GridFault),
 }

@@ -2,15 +2,31 @@
 //! what the written answers say of that caller's own requests.
 #![tactic(auto)]
 
-mod answer;
-mod connection;
+/// Why a call was refused.
 mod fault;
-mod gateway;
+/// What a gateway is set up with.
+mod parameters;
+/// What a request asks for.
+mod request;
+/// The replies that are given.
+mod replies;
+/// Carrying out requests over a grid.
+mod performer;
+/// Bytes that wait to be taken.
 mod output;
+/// Answering items over a grid.
+mod server;
+/// How far a connection's calls went.
 mod stage;
+/// One connection: what framing goes on with, and what waits to be taken.
+mod connection;
+/// The calls of a gateway.
+mod gateway;
+/// Laws of the definitions.
+pub mod laws;
 
-pub use fault::GatewayFault;
-pub use gateway::{Gateway, isolation, same_part};
+pub use fault::{GatewayFault, RestoreFault};
+pub use gateway::Gateway;
 
 #[cfg(test)]
 mod tests;

@@ -1,6 +1,8 @@
 //! Bytes that wait to be taken.
 ghost use Rattle.std.specs.Prelude.{◌≡◌, [], ◌++◌, take, drop, OnOk, IfOk, OnErr, IsOk, IsTrue, ◌↔◌};
+ghost use Rattle.http_edge.specs.Reply.{rendered};
 
+use http_edge::{Reply, render_into};
 use std::alloc::{AllocError, Global};
 use std::marker::Model;
 
@@ -24,6 +26,7 @@ impl Model for Output {
 }
 
 impl Output {
+    /// No bytes. Takes no memory.
     pub fn new(alloc: Global) -> Output
         ensures { result ≡ [] }
     {
@@ -34,21 +37,26 @@ impl Output {
         }
     }
 
+    /// Whether nothing waits.
     pub fn is_empty(&self) -> bool
         ensures { IsTrue result ↔ (self.now ≡ []) }
     {
         self.given == self.bytes.len()
     }
 
-    /// Adds bytes at the end.
-    pub fn push(&mut self, piece: &[u8]) -> Result<(), AllocError>
-        ensures ok { OnOk result (self.new ≡ self.old ++ piece.now) }
-        ensures err { OnErr result (self.new ≡ self.old) }
+    /// Adds a reply at the end, as it is sent.
+    pub fn push_reply(
+        &mut self,
+        reply: &Reply,
+        head_only: bool,
+        close: bool,
+    ) -> Result<(), AllocError>
+        ensures { OnOk result (self.new ≡ self.old ++ rendered reply.now head_only close) }
     {
         if self.given > self.bytes.len() / 2 {
             self.reclaim();
         }
-        self.bytes.extend_from_slice(piece)
+        render_into(&mut self.bytes, reply, head_only, close)
     }
 
     /// Moves what waits to the front of the buffer.
@@ -61,7 +69,7 @@ impl Output {
         self.given = 0;
     }
 
-    /// Takes the first bytes, as many as are there.
+    /// Takes the first bytes, as many as are there. An output that was taken whole gives its memory back.
     pub fn take(&mut self, max: usize) -> Result<Vec<u8>, AllocError>
         ensures given { IfOk result (λ given. given.items ≡ take max self.old) }
         ensures rest { OnOk result (self.new ≡ drop max self.old) }
@@ -76,7 +84,7 @@ impl Output {
         let given = self.bytes[self.given..self.given + n].to_vec(self.alloc)?;
         self.given += n;
         if self.given == self.bytes.len() {
-            self.bytes.clear();
+            self.bytes = Vec::new(self.alloc);
             self.given = 0;
         }
         Ok(given)

@@ -8,12 +8,13 @@ use Rattle.std.specs.List.{join_with_byte, list_all}
 use Rattle.std.specs.Option.{option_map}
 use Rattle.std.proofs.lemmas.List.Elements.{All-weaker}
 use Rattle.std.proofs.lemmas.List.Splits.{slice_split_at, slice_split_none, join_with_byte-slice_split, length-slice_split}
-use Rattle.gate_main.specs.Cut.{IsCutAt}
-use Rattle.gate_main.specs.Decimal.{number_to}
+use Rattle.octets.specs.Cut.{IsCutAt}
+use Rattle.octets.specs.Decimal.{number_to}
 use Rattle.gate_main.specs.Text.{unescaped}
-use Rattle.gate_main.specs.Command.{words, asked_by, grid_of, open_of, bytes_of, end_of, take_of, long_number}
+use Rattle.gate_main.specs.Command.{words, asked_by, asked_among, arguments_of, grid_of, restore_of, open_of, bytes_of, text_of, end_of, take_of, lose_of, spoil_of, image_of, share_of, index_of, short_number, middle_number, long_number}
 use Rattle.gate_main.specs.declared.command.Command.{Command}
-use Rattle.gate_main.specs.declared.command.Command.TheVariants.{Open, Bytes, End, Take}
+use Rattle.gate_main.specs.declared.command.Command.TheVariants.{Restore, Open, Bytes, End, Take, Lose, Spoil, Image}
+use Rattle.gate_main.specs.declared.command.Share.{Share}
 
 is_other : (b : ℕ) → b ≢ 32 → (b == 32) ≡ false
 is_other b other = ne_eqb b 32 other
@@ -32,7 +33,7 @@ joined_words : (line : List ℕ) → join_with_byte 32 (words line) ≡ line
 joined_words line = join_with_byte-slice_split 32 line
 
 -- a line has a word
-some_word : (line : List ℕ) → 0 < length (words line)
+pub some_word : (line : List ℕ) → 0 < length (words line)
 some_word line = omega (arith, length-slice_split (λ b. b == 32) line)
 
 -- ---- numbers hold no space
@@ -112,8 +113,89 @@ bytes_line line word rest id piece cut first second =
     ∙ ap (λ p. option_and_then (λ id. option_map (λ piece. Bytes id piece) p) (long_number word)) second
     ∙ bytes_is word rest (words rest) (joined_words rest) (some_word rest) ∙ ap bytes_of (sym (words_cut line word rest cut))
 
+bytes_never : (id : Option ℕ) → None ≡ option_and_then (λ id. option_map (λ piece. Bytes id piece) None) id
+bytes_never None = refl
+bytes_never (Some id) = refl
+
 pub bytes_one : (line : List ℕ) → All (λ b. b ≢ 32) line → None ≡ bytes_of (words line)
-bytes_one line none = ap bytes_of (sym (words_one line none))
+bytes_one line none = bytes_never (long_number line) ∙ ap bytes_of (sym (words_one line none))
+
+-- ---- the argument of `restore`
+
+text_is : (line : List ℕ) (ws : List (List ℕ)) → join_with_byte 32 ws ≡ line → 0 < length ws → unescaped line ≡ text_of ws
+text_is line [] is some = absurd (omega arith)
+text_is line (w ∷ more) is some = ap unescaped (sym is)
+
+pub restore_line : (line : List ℕ) (image : Option (List ℕ)) → image ≡ unescaped line → option_map (λ i. Restore i) image ≡ restore_of (words line)
+restore_line line image is = ap (option_map (λ i. Restore i)) (is ∙ text_is line (words line) (joined_words line) (some_word line))
+
+-- ---- the arguments of `lose` and of `spoil`
+
+share_by : Option ℕ → Option (List ℕ) → Option ℕ → Option Share
+share_by server index number = option_and_then (λ server. option_and_then (λ index. option_map (λ number. record { server = server; index = index; number = number }) number) index) server
+
+share_never : (server : Option ℕ) (index : Option (List ℕ)) → None ≡ share_by server index None
+unfolding share_by
+share_never None index = refl
+share_never (Some server) None = refl
+share_never (Some server) (Some index) = refl
+
+-- no share is named by a number that holds a space
+share_spaced : (server index number rest : List ℕ) → None ≡ share_of server index (number ++ 32 ∷ rest)
+unfolding share_by
+share_spaced server index number rest =
+    share_never (middle_number server) (index_of index) ∙ ap (share_by (middle_number server) (index_of index)) (number_spaced (2 ^ 16 - 1) number rest)
+
+lose_is : (server index line : List ℕ) (ws : List (List ℕ)) → join_with_byte 32 ws ≡ line → 0 < length ws → option_map (λ share. Lose share) (share_of server index line) ≡ lose_of (server ∷ index ∷ ws)
+lose_is server index line [] is some = absurd (omega arith)
+lose_is server index line (w ∷ []) is some = ap (λ l. option_map (λ share. Lose share) (share_of server index l)) (sym is)
+lose_is server index line (w ∷ v ∷ more) is some =
+    ap (option_map (λ share. Lose share)) (ap (share_of server index) (sym is) ∙ sym (share_spaced server index w (join_with_byte 32 (v ∷ more))))
+
+pub lose_one : (line : List ℕ) → All (λ b. b ≢ 32) line → None ≡ lose_of (words line)
+lose_one line none = ap lose_of (sym (words_one line none))
+
+pub lose_two : (line server rest : List ℕ) → IsCutAt 32 line server rest → All (λ b. b ≢ 32) rest → None ≡ lose_of (words line)
+lose_two line server rest cut none = ap lose_of (sym (words_cut line server rest cut ∙ ap (λ ws. server ∷ ws) (words_one rest none)))
+
+pub lose_line : (line server rest index number : List ℕ) (share : Option Share) → IsCutAt 32 line server rest → IsCutAt 32 rest index number → share ≡ share_of server index number
+    → option_map (λ share. Lose share) share ≡ lose_of (words line)
+lose_line line server rest index number share cut1 cut2 is =
+    ap (option_map (λ share. Lose share)) is ∙ lose_is server index number (words number) (joined_words number) (some_word number)
+    ∙ ap lose_of (sym (words_cut line server rest cut1 ∙ ap (λ ws. server ∷ ws) (words_cut rest index number cut2)))
+
+spoil_by : Option Share → Option ℕ → Option Command
+spoil_by share place = option_and_then (λ share. option_map (λ place. Spoil share place) place) share
+
+spoil_never : (share : Option Share) → option_and_then (λ share. option_map (λ place. Spoil share place) None) share ≡ None
+spoil_never None = refl
+spoil_never (Some share) = refl
+
+spoil_is : (server index number line : List ℕ) (ws : List (List ℕ)) → join_with_byte 32 ws ≡ line → 0 < length ws
+    → spoil_by (share_of server index number) (long_number line) ≡ spoil_of (server ∷ index ∷ number ∷ ws)
+unfolding spoil_by
+spoil_is server index number line [] is some = absurd (omega arith)
+spoil_is server index number line (w ∷ []) is some = ap (λ l. spoil_by (share_of server index number) (long_number l)) (sym is)
+spoil_is server index number line (w ∷ v ∷ more) is some =
+    ap (spoil_by (share_of server index number)) (ap long_number (sym is) ∙ sym (number_spaced (2 ^ 64 - 1) w (join_with_byte 32 (v ∷ more)))) ∙ spoil_never (share_of server index number)
+
+pub spoil_one : (line : List ℕ) → All (λ b. b ≢ 32) line → None ≡ spoil_of (words line)
+spoil_one line none = ap spoil_of (sym (words_one line none))
+
+pub spoil_two : (line server rest : List ℕ) → IsCutAt 32 line server rest → All (λ b. b ≢ 32) rest → None ≡ spoil_of (words line)
+spoil_two line server rest cut none = ap spoil_of (sym (words_cut line server rest cut ∙ ap (λ ws. server ∷ ws) (words_one rest none)))
+
+pub spoil_three : (line server l1 index l2 : List ℕ) → IsCutAt 32 line server l1 → IsCutAt 32 l1 index l2 → All (λ b. b ≢ 32) l2 → None ≡ spoil_of (words line)
+spoil_three line server l1 index l2 cut1 cut2 none =
+    ap spoil_of (sym (words_cut line server l1 cut1 ∙ ap (λ ws. server ∷ ws) (words_cut l1 index l2 cut2 ∙ ap (λ ws. index ∷ ws) (words_one l2 none))))
+
+pub spoil_line : (line server l1 index l2 number place : List ℕ) (share : Option Share) (at : Option ℕ) → IsCutAt 32 line server l1 → IsCutAt 32 l1 index l2 → IsCutAt 32 l2 number place
+    → share ≡ share_of server index number → at ≡ long_number place
+    → option_and_then (λ share. option_map (λ place. Spoil share place) at) share ≡ spoil_of (words line)
+unfolding spoil_by
+spoil_line line server l1 index l2 number place share at cut1 cut2 cut3 first second =
+    ap (λ s. spoil_by s at) first ∙ ap (spoil_by (share_of server index number)) second ∙ spoil_is server index number place (words place) (joined_words place) (some_word place)
+    ∙ ap spoil_of (sym (words_cut line server l1 cut1 ∙ ap (λ ws. server ∷ ws) (words_cut l1 index l2 cut2 ∙ ap (λ ws. index ∷ ws) (words_cut l2 number place cut3))))
 
 -- ---- the arguments of `grid`
 
@@ -153,18 +235,28 @@ skip : (t : Bool) (o : Option Command) → None ≡ o → None ≡ cond t None o
 skip true o none = refl
 skip false o none = none
 
--- a verb alone asks nothing
-pub verb_alone : (line : List ℕ) → All (λ b. b ≢ 32) line → None ≡ asked_by (words line)
-verb_alone line none =
-    skip (bytes_eq line (codes "grid")) _ (skip (bytes_eq line (codes "open")) _ (skip (bytes_eq line (codes "bytes")) _ (skip (bytes_eq line (codes "end")) _ (skip (bytes_eq line (codes "take")) _ refl))))
-    ∙ ap asked_by (sym (words_one line none))
+-- another verb than `image` alone asks nothing
+pub verb_alone : (verb : List ℕ) → false ≡ bytes_eq verb (codes "image") → None ≡ asked_by (verb ∷ [])
+verb_alone verb other =
+    skip (bytes_eq verb (codes "grid")) _ (skip (bytes_eq verb (codes "restore")) _ (skip (bytes_eq verb (codes "open")) _ (skip (bytes_eq verb (codes "bytes")) _ (skip (bytes_eq verb (codes "end")) _
+    (skip (bytes_eq verb (codes "take")) _ (skip (bytes_eq verb (codes "lose")) _ (skip (bytes_eq verb (codes "spoil")) _ (ap (λ t. cond t (Some Image) None) other))))))))
+
+-- `image` alone
+pub image_alone : (verb : List ℕ) → verb ≡ codes "image" → Some Image ≡ asked_by (verb ∷ [])
+image_alone verb is = ap (λ v. asked_by (v ∷ [])) (sym is)
+
+image_more : (t : Bool) (ws : List (List ℕ)) → 0 < length ws → None ≡ cond t (image_of ws) None
+image_more true [] some = absurd (omega arith)
+image_more true (w ∷ ws) some = refl
+image_more false ws some = refl
+
+not_this : (t : Bool) (yes_ no_ result : Option Command) → false ≡ t → result ≡ no_ → result ≡ cond t yes_ no_
+not_this t yes_ no_ result off is = is ∙ ap (λ t. cond t yes_ no_) off
 
 -- another verb than these asks nothing
-pub verb_other : (verb : List ℕ) (ws : List (List ℕ)) → false ≡ bytes_eq verb (codes "grid") → false ≡ bytes_eq verb (codes "open") → false ≡ bytes_eq verb (codes "bytes")
-    → false ≡ bytes_eq verb (codes "end") → false ≡ bytes_eq verb (codes "take") → None ≡ asked_by (verb ∷ ws)
-verb_other verb ws grid open_ bytes end_ take_ =
-    ap (λ t. cond t (take_of ws) None) take_
-    ∙ ap (λ t. cond t (end_of ws) (cond (bytes_eq verb (codes "take")) (take_of ws) None)) end_
-    ∙ ap (λ t. cond t (bytes_of ws) (cond (bytes_eq verb (codes "end")) (end_of ws) (cond (bytes_eq verb (codes "take")) (take_of ws) None))) bytes
-    ∙ ap (λ t. cond t (open_of ws) (cond (bytes_eq verb (codes "bytes")) (bytes_of ws) (cond (bytes_eq verb (codes "end")) (end_of ws) (cond (bytes_eq verb (codes "take")) (take_of ws) None)))) open_
-    ∙ ap (λ t. cond t (grid_of ws) (cond (bytes_eq verb (codes "open")) (open_of ws) (cond (bytes_eq verb (codes "bytes")) (bytes_of ws) (cond (bytes_eq verb (codes "end")) (end_of ws) (cond (bytes_eq verb (codes "take")) (take_of ws) None))))) grid
+pub verb_other : (verb : List ℕ) (ws : List (List ℕ)) → 0 < length ws → false ≡ bytes_eq verb (codes "grid") → false ≡ bytes_eq verb (codes "restore") → false ≡ bytes_eq verb (codes "open")
+    → false ≡ bytes_eq verb (codes "bytes") → false ≡ bytes_eq verb (codes "end") → false ≡ bytes_eq verb (codes "take") → false ≡ bytes_eq verb (codes "lose") → false ≡ bytes_eq verb (codes "spoil")
+    → None ≡ asked_by (verb ∷ ws)
+verb_other verb ws some grid restore open_ bytes end_ take_ lose spoil =
+    not_this _ _ _ _ grid (not_this _ _ _ _ restore (not_this _ _ _ _ open_ (not_this _ _ _ _ bytes (not_this _ _ _ _ end_ (not_this _ _ _ _ take_ (not_this _ _ _ _ lose (not_this _ _ _ _ spoil
+    (image_more (bytes_eq verb (codes "image")) ws some))))))))

@@ -1,22 +1,27 @@
 -- How a run ends.
-use Rattle.std.proofs.Common.{◌≡◌, ◌≢◌, ℕ, ◌+◌, ◌-◌, ◌<◌, List, [], ◌∷◌, ◌++◌, length, take, drop, Bool, true, false, All, Option, Some, None, Result, Ok, Err, refl, sym, ap, subst, ◌∙◌, append_assoc, length-append, arith, eqb-true}
-use Rattle.std.specs.Prelude.{IfSome, OnSome, ◌==◌}
+use Rattle.std.proofs.Common.{◌≡◌, ◌≢◌, ℕ, ◌+◌, ◌-◌, ◌<◌, List, [], ◌∷◌, ◌++◌, length, take, drop, Bool, true, false, All, Option, Some, None, Result, Ok, Err, refl, sym, ap, subst, ◌∙◌, append_assoc, length-append, arith, eqb-true, inl, inr}
+use Rattle.std.specs.Prelude.{IfSome, OnSome, ◌==◌, ◌⊎◌}
 use Rattle.std.specs.Io.KnownBytes.{Consumes, Appends, IsAtEnd}
 use Rattle.std.proofs.KnownBytes.{Consumes-trans, Appends-trans}
 use Rattle.std.proofs.lemmas.Bool.Decides.{nat_tests}
 use Rattle.std.proofs.lemmas.List.{append-nil, take-append-drop}
 use Rattle.std.proofs.lemmas.List.Elements.{All-take}
 use Rattle.std.proofs.Math.Seq.{take-append_seam}
-use Rattle.gate_core.specs.Events.{Event}
+use Rattle.octets.specs.Written.{WritesBeginning}
 use Rattle.gate_core.specs.Held.{State}
-use Rattle.gate_main.specs.Lines.{LacksLf, Line, lines_of, piece_of}
+use Rattle.gate_main.specs.Command.{command_of}
+use Rattle.gate_main.specs.Lines.{LacksLf, Line, lines_of, piece_of, is_within}
 use Rattle.gate_main.specs.Reading.{IsTooLong, ReadsLine, LineReads}
-use Rattle.gate_main.specs.Script.{Run, Told, outcome, behind, told_with, told_at, told, written_by}
-use Rattle.gate_main.specs.Running.{GoesOn, LineRuns, IsOneLine, StopsBehind, Answers, WritesBeginning, RunEnds}
+use Rattle.gate_main.specs.Script.{Step, Run, Told, End, Ended, Unanswered, Stopped, allowed, ends_run, answer_text, after_text, stepped, asked_for, told_at, told, written_by}
+use Rattle.gate_main.specs.Replies.{IsTold}
+use Rattle.gate_main.specs.Running.{IsAt, IsStep, GoesOn, EndsAt, IsBad, WritesPart, LineRuns, IsOneLine, StopsAfter, Answers, AnswersSome, RunEnds}
+use Rattle.gate_main.specs.declared.command.Command.{Command}
+use Rattle.gate_main.specs.declared.command.Grid.{Grid}
+use Rattle.gate_main.specs.declared.reply.Reply.{Reply}
 use Rattle.gate_main.specs.declared.fault.ScriptFault.{ScriptFault}
 use Rattle.gate_main.specs.declared.fault.ScriptFault.TheVariants.{BadLine, ReadFailed, WriteFailed, NoMemory, TooLong}
 use Rattle.gate_main.proofs.LineLists.{lines_ended, lines_last, long_first}
-use Rattle.gate_main.proofs.Stands.{Stands, told_some}
+use Rattle.gate_main.proofs.Stands.{Stands, told_empty, told_some, told_step}
 
 -- ---- known bytes
 
@@ -45,17 +50,44 @@ at_end (Some x) (Some y) r2 done taken last = last
 -- ---- what is known at an end
 
 abbrev pub Both : Option (List ℕ) → Option (List ℕ) → Option (List ℕ) → Option (List ℕ) → Result (Unit {0}) ScriptFault → Type 0
-Both r0 r2 w0 w2 result = RunEnds r0 r2 w0 w2 result × IfSome r0 (λ script. WritesBeginning script w0 w2)
+Both r0 r2 w0 w2 result = RunEnds r0 r2 w0 w2 result × IfSome r0 (λ script. AnswersSome script w0 w2)
 
-answers : (x : List ℕ) (old new : Option (List ℕ)) (text : List ℕ) (fault : Option ScriptFault) → written_by x ≡ record { text = text; fault = fault } → Appends old new text → Answers x old new fault
-answers x old new text fault is written = record { ends = ap (λ t. t.fault) is; written = subst (Appends old new) (sym (ap (λ t. t.text) is)) written }
+answers : (x : List ℕ) (replies : List Reply) (old new : Option (List ℕ)) (text : List ℕ) (log : List Step) (end : End) → written_by x replies ≡ record { text = text; log = log; end = end } → IsTold log → Appends old new text → Answers x old new end
+answers x replies old new text log end is is_told written =
+    record { replies = replies; told = subst IsTold (sym (ap (λ t. t.log) is)) is_told; ends = ap (λ t. t.end) is; written = subst (Appends old new) (sym (ap (λ t. t.text) is)) written }
 
-beginning : (x : List ℕ) (old new : Option (List ℕ)) (fault : Option ScriptFault) → Answers x old new fault → WritesBeginning x old new
-beginning x old new fault a = record { beginning = (written_by x).text; rest = []; begins = sym (append-nil (written_by x).text); written = a.written }
+-- what was written is all of the answers
+whole : (x : List ℕ) (old new : Option (List ℕ)) (end : End) → Answers x old new end → AnswersSome x old new
+whole x old new end a =
+    let text = (written_by x a.replies).text in
+    record { replies = a.replies; told = a.told; written = record { beginning = text; rest = []; begins = sym (append-nil text); written = a.written } }
 
-told_text : (text : List ℕ) (next : Result (List Event) ScriptFault) (more : Run → Told) → (rest : List ℕ) × ((told_with text next more).text ≡ text ++ rest)
-told_text text (Err fault) more = ([], sym (append-nil text))
-told_text text (Ok events) more = ((more (Some events)).text, refl)
+-- what was written is a beginning of the answers
+part : (x : List ℕ) (replies : List Reply) (old new : Option (List ℕ)) (text rest : List ℕ) (log : List Step) (end : End) → written_by x replies ≡ record { text = text ++ rest; log = log; end = end } → IsTold log → Appends old new text
+    → AnswersSome x old new
+part x replies old new text rest log end is is_told written =
+    record {
+      replies = replies;
+      told = subst IsTold (sym (ap (λ t. t.log) is)) is_told;
+      written = record { beginning = text; rest = rest; begins = ap (λ t. t.text) is; written = written };
+    }
+
+-- without replies no step is added
+log_at : (within empty : Bool) (number : ℕ) (log : List Step) (line : List ℕ) (more : Run → Told) → (more (record { log = log; replies = [] })).log ≡ log
+    → (told_at within empty number (record { log = log; replies = [] }) line more).log ≡ log
+log_at false empty number log line more same = refl
+log_at true true number log line more same = same
+log_at true false number log line more same = log_asked (allowed log (command_of line))
+  where
+    log_asked : (asked : Option Command) → (asked_for number (record { log = log; replies = [] }) asked more).log ≡ log
+    log_asked None = refl
+    log_asked (Some asked) = refl
+
+log_same : (number size : ℕ) (log : List Step) (lines : List Line) → (told number size (record { log = log; replies = [] }) lines).log ≡ log
+log_same number size log [] = refl
+log_same number size log (line ∷ lines) =
+    log_at (is_within size line) (length line.bytes == 0) number log line.bytes (λ after. told (number + 1) (size + length (piece_of line)) after lines)
+    (log_same (number + 1) (size + length (piece_of line)) log lines)
 
 abbrev tail_lines : Bool → List ℕ → List Line
 tail_lines true z = lines_of z
@@ -74,39 +106,54 @@ one_line line true lacks =
     subst (λ l. All (λ b. b ≢ 10) l) (sym (ap (λ n. take n (line ++ 10 ∷ [])) size ∙ take-append_seam line (10 ∷ []))) lacks
 one_line line false lacks = All-take (λ b. b ≢ 10) (length (line ++ []) - 1) (line ++ []) (subst (λ l. All (λ b. b ≢ 10) l) (sym (append-nil line)) lacks)
 
-module _ (r0 r1 r2 w0 w1 : Option (List ℕ)) (gateway : Option State) (number size : ℕ) (s : Stands r0 r1 w0 w1 gateway number size) where
-  comes : (x y : List ℕ) → x ≡ s.done ++ y → written_by x ≡ behind s.text (told number size s.run (lines_of y))
-  comes x y is = ap written_by is ∙ s.goes y
+-- a step, and then what the lines after it come to without replies
+step_goes_at : (bad number size : ℕ) (log : List Step) (reply : Reply) (lines : List Line) (ends : Bool)
+    → (rest : List ℕ) × ((end : End) × (stepped ends bad reply (record { log = log; replies = [] }) (λ after. told number size after lines) ≡ record { text = answer_text reply ++ rest; log = log; end = end }))
+step_goes_at bad number size log reply lines true =
+    ([], (Stopped (BadLine bad), ap (λ l. record { text = l; log = log; end = Stopped (BadLine bad) }) (sym (append-nil (answer_text reply)))))
+step_goes_at bad number size log reply lines false =
+    let t = told number size (record { log = log; replies = [] }) lines in
+    (t.text, (t.end, ap (λ l. record { text = answer_text reply ++ t.text; log = l; end = t.end }) (log_same number size log lines)))
 
-  begun : IfSome r0 (λ script. WritesBeginning script w0 w1)
-  begun = with_done r0 r1 s.done (λ script. WritesBeginning script w0 w1) s.taken
-      (λ x y is. record { beginning = s.text; rest = (told number size s.run (lines_of y)).text; begins = ap (λ t. t.text) (comes x y is); written = s.written })
+module _ (r0 r1 r2 w0 w1 : Option (List ℕ)) (grid : Option Grid) (gateway : Option State) (number size : ℕ) (s : Stands r0 r1 w0 w1 grid gateway number size) where
+  comes : (x y : List ℕ) (more : List Reply) → x ≡ s.done ++ y → written_by x (s.replies ++ more) ≡ after_text s.text (told number size (record { log = s.log; replies = more }) (lines_of y))
+  comes x y more is = ap (λ x. written_by x (s.replies ++ more)) is ∙ s.goes y more
 
-  before_is : written_by s.done ≡ record { text = s.text; fault = None }
-  before_is = ap written_by (sym (append-nil s.done)) ∙ s.goes [] ∙ ap (λ l. record { text = l; fault = None }) (append-nil s.text)
+  begun : IfSome r0 (λ script. AnswersSome script w0 w1)
+  begun = with_done r0 r1 s.done (λ script. AnswersSome script w0 w1) s.taken
+      (λ x y is.
+      let t = told number size (record { log = s.log; replies = [] }) (lines_of y) in
+      part x (s.replies ++ []) w0 w1 s.text t.text s.log t.end
+      (comes x y [] is ∙ ap (λ l. record { text = s.text ++ t.text; log = l; end = t.end }) (log_same number size s.log (lines_of y))) s.told s.written)
+
+  before_is : written_by s.done (s.replies ++ []) ≡ record { text = s.text; log = s.log; end = Ended }
+  before_is = ap (λ d. written_by d (s.replies ++ [])) (sym (append-nil s.done)) ∙ s.goes [] [] ∙ ap (λ l. record { text = l; log = s.log; end = Ended }) (append-nil s.text)
 
   -- ---- a line was not read
 
-  stops : (w2 : Option (List ℕ)) (P : List ℕ → Type 0) (part : List ℕ) → Consumes r1 r2 part → P part → Appends w0 w2 s.text → StopsBehind P r0 r2 w0 w2
+  stops : (w2 : Option (List ℕ)) (P : List ℕ → Type 0) (part : List ℕ) → Consumes r1 r2 part → P part → Appends w0 w2 s.text → StopsAfter P r0 r2 w0 w2
   stops w2 P part taken stop written = record {
     before = s.done;
     part = part;
     taken = Consumes-trans r0 r1 r2 s.done part s.taken taken;
     whole = s.whole;
     stop = stop;
-    good = ap (λ t. t.fault) before_is;
+    replies = s.replies ++ [];
+    told = subst IsTold (sym (ap (λ t. t.log) before_is)) s.told;
+    good = ap (λ t. t.end) before_is;
     written = subst (Appends w0 w2) (sym (ap (λ t. t.text) before_is)) written;
   }
 
-  too_long : (x y : List ℕ) → x ≡ s.done ++ y → IsTooLong size [] y → Answers x w0 w1 (Some TooLong)
+  too_long : (x y : List ℕ) → x ≡ s.done ++ y → IsTooLong size [] y → Answers x w0 w1 (Stopped TooLong)
   too_long x y is long =
       let first = long_first size y long.part.bytes long.part.ended s.within long.begins long.over in
-      answers x w0 w1 s.text (Some TooLong)
-      (comes x y is
-      ∙ ap (λ ls. behind s.text (told number size s.run ls)) first.lines
-      ∙ ap (λ t. behind s.text (told_at t (length first.line.bytes == 0) (outcome number s.run first.line.bytes) s.run (λ after. told (number + 1) (size + length (piece_of first.line)) after first.more))) first.over
-      ∙ ap (λ l. record { text = l; fault = Some TooLong }) (append-nil s.text))
-      s.written
+      let run : Run = record { log = s.log; replies = [] } in
+      answers x (s.replies ++ []) w0 w1 s.text s.log (Stopped TooLong)
+      (comes x y [] is
+      ∙ ap (λ ls. after_text s.text (told number size run ls)) first.lines
+      ∙ ap (λ t. after_text s.text (told_at t (length first.line.bytes == 0) number run first.line.bytes (λ after. told (number + 1) (size + length (piece_of first.line)) after first.more))) first.over
+      ∙ ap (λ l. record { text = l; log = s.log; end = Stopped TooLong }) (append-nil s.text))
+      s.told s.written
 
   pub ends_unread : (fault : ScriptFault) (line : List ℕ) → LineReads size r1 r2 (Err fault) line → Both r0 r2 w0 w1 (Err fault)
   ends_unread (BadLine n) line reads = absurd reads
@@ -114,16 +161,17 @@ module _ (r0 r1 r2 w0 w1 : Option (List ℕ)) (gateway : Option State) (number s
   ends_unread WriteFailed line reads = absurd reads
   ends_unread NoMemory line reads = (stops w1 IsOneLine reads.part reads.taken (All-take (λ b. b ≢ 10) (length reads.part - 1) reads.part reads.lacks) s.written, begun)
   ends_unread TooLong line reads =
-      (with_next r0 r1 s.done (λ script. Answers script w0 w1 (Some TooLong)) (IsTooLong size []) s.taken reads too_long, begun)
+      (with_next r0 r1 s.done (λ script. Answers script w0 w1 (Stopped TooLong)) (IsTooLong size []) s.taken reads too_long, begun)
 
   -- ---- nothing is left
 
-  empty_end : (line x z : List ℕ) → (length line == 0) ≡ true → x ≡ s.done ++ ((line ++ []) ++ z) → z ≡ [] → Answers x w0 w1 None
+  empty_end : (line x z : List ℕ) → (length line == 0) ≡ true → x ≡ s.done ++ ((line ++ []) ++ z) → z ≡ [] → Answers x w0 w1 Ended
   empty_end line x z empty is last =
       let none : (line ++ []) ++ z ≡ [] = ap (λ r. (line ++ []) ++ r) last ∙ append-nil (line ++ []) ∙ append-nil line ∙ nothing line (eqb-true (length line) 0 empty) in
-      answers x w0 w1 s.text None
-      (comes x ((line ++ []) ++ z) is ∙ ap (λ y. behind s.text (told number size s.run (lines_of y))) none ∙ ap (λ l. record { text = l; fault = None }) (append-nil s.text))
-      s.written
+      answers x (s.replies ++ []) w0 w1 s.text s.log Ended
+      (comes x ((line ++ []) ++ z) [] is ∙ ap (λ y. after_text s.text (told number size (record { log = s.log; replies = [] }) (lines_of y))) none
+      ∙ ap (λ l. record { text = l; log = s.log; end = Ended }) (append-nil s.text))
+      s.told s.written
     where
       nothing : (line : List ℕ) → length line ≡ 0 → line ≡ []
       nothing [] none = refl
@@ -132,7 +180,7 @@ module _ (r0 r1 r2 w0 w1 : Option (List ℕ)) (gateway : Option State) (number s
   pub ends_empty : (line : List ℕ) → ReadsLine size r1 r2 (record { bytes = line; ended = false }) → (length line == 0) ≡ true → Both r0 r2 w0 w1 (Ok tt)
   ends_empty line reads empty = (
     (
-      with_line r0 r1 r2 s.done (record { bytes = line; ended = false }) (λ script. Answers script w0 w1 None) s.taken reads.taken reads.last
+      with_line r0 r1 r2 s.done (record { bytes = line; ended = false }) (λ script. Answers script w0 w1 Ended) s.taken reads.taken reads.last
           (λ x z is last. empty_end line x z empty is (last refl)),
       at_end r0 r1 r2 s.done s.taken (reads.last refl),
     ),
@@ -142,74 +190,96 @@ module _ (r0 r1 r2 w0 w1 : Option (List ℕ)) (gateway : Option State) (number s
   -- ---- a line was carried out
 
   module _ (w2 : Option (List ℕ)) (line : List ℕ) (ended : Bool) (reads : ReadsLine size r1 r2 (record { bytes = line; ended = ended })) (some : (length line == 0) ≡ false) where
-    line_comes : (x z : List ℕ) → x ≡ s.done ++ (piece_of (record { bytes = line; ended = ended }) ++ z) → (ended ≡ false → z ≡ [])
-        → written_by x
-        ≡ behind s.text (told_with (outcome number s.run line).text (outcome number s.run line).next
-        (λ after. told (number + 1) (size + length (piece_of (record { bytes = line; ended = ended }))) after (tail_lines ended z)))
-    line_comes x z is last =
-        comes x (piece_of (record { bytes = line; ended = ended }) ++ z) is
-        ∙ ap (λ ls. behind s.text (told number size s.run ls)) (lines_at line z ended reads.lacks (not_zero (length line) some) last)
-        ∙ ap (behind s.text) (told_some number size s.run (record { bytes = line; ended = ended }) (tail_lines ended z) reads.within some)
-
-    fault_comes : (fault : ScriptFault) → (outcome number s.run line).next ≡ Err fault → Appends w1 w2 (outcome number s.run line).text → (x z : List ℕ)
-        → x ≡ s.done ++ (piece_of (record { bytes = line; ended = ended }) ++ z) → (ended ≡ false → z ≡ []) → Answers x w0 w2 (Some fault)
-    fault_comes fault next written x z is last =
-        let o = outcome number s.run line in
-        answers x w0 w2 (s.text ++ o.text) (Some fault)
-        (line_comes x z is last
-        ∙ ap (λ n. behind s.text (told_with o.text n (λ after. told (number + 1) (size + length (piece_of (record { bytes = line; ended = ended }))) after (tail_lines ended z)))) next)
-        (Appends-trans w0 w1 w2 s.text o.text s.written written)
-
-    part_comes : (n : ℕ) → Appends w1 w2 (take n (outcome number s.run line).text) → (x z : List ℕ) → x ≡ s.done ++ (piece_of (record { bytes = line; ended = ended }) ++ z) → (ended ≡ false → z ≡ [])
-        → WritesBeginning x w0 w2
-    part_comes n written x z is last =
-        let o = outcome number s.run line in
-        let more = told_text o.text o.next (λ after. told (number + 1) (size + length (piece_of (record { bytes = line; ended = ended }))) after (tail_lines ended z)) in
-        record {
-          beginning = s.text ++ take n o.text;
-          rest = drop n o.text ++ more.0;
-          begins = ap (λ t. t.text) (line_comes x z is last)
-              ∙ ap (λ l. s.text ++ l) (more.1 ∙ ap (λ l. l ++ more.0) (sym (take-append-drop n o.text)) ∙ append_assoc (take n o.text) (drop n o.text) more.0)
-              ∙ sym (append_assoc s.text (take n o.text) (drop n o.text ++ more.0));
-          written = Appends-trans w0 w1 w2 s.text (take n o.text) s.written written;
-        }
+    -- what a script comes to that goes on with this line
+    line_comes : (x z : List ℕ) (more : List Reply) → x ≡ s.done ++ (piece_of (record { bytes = line; ended = ended }) ++ z) → (ended ≡ false → z ≡ [])
+        → written_by x (s.replies ++ more) ≡ after_text s.text (told number size (record { log = s.log; replies = more }) (record { bytes = line; ended = ended } ∷ tail_lines ended z))
+    line_comes x z more is last =
+        comes x (piece_of (record { bytes = line; ended = ended }) ++ z) more is
+        ∙ ap (λ ls. after_text s.text (told number size (record { log = s.log; replies = more }) ls)) (lines_at line z ended reads.lacks (not_zero (length line) some) last)
 
     whole_line : (P : List ℕ → Type 0) → ((x z : List ℕ) → x ≡ s.done ++ (piece_of (record { bytes = line; ended = ended }) ++ z) → (ended ≡ false → z ≡ []) → P x) → IfSome r0 P
     whole_line P k = with_line r0 r1 r2 s.done (record { bytes = line; ended = ended }) P s.taken reads.taken reads.last k
 
+    bad_comes : IsBad s.log line w1 w2 → (x z : List ℕ) → x ≡ s.done ++ (piece_of (record { bytes = line; ended = ended }) ++ z) → (ended ≡ false → z ≡ []) → Answers x w0 w2 (Stopped (BadLine number))
+    bad_comes bad x z is last =
+        answers x (s.replies ++ []) w0 w2 (s.text ++ []) s.log (Stopped (BadLine number))
+        (line_comes x z [] is last
+        ∙ ap (after_text s.text) (told_some number size (record { log = s.log; replies = [] }) (record { bytes = line; ended = ended }) (tail_lines ended z) None reads.within some bad.asked))
+        s.told (Appends-trans w0 w1 w2 s.text [] s.written bad.written)
+
+    ends_comes : EndsAt s.log line w1 w2 → (x z : List ℕ) → x ≡ s.done ++ (piece_of (record { bytes = line; ended = ended }) ++ z) → (ended ≡ false → z ≡ []) → Answers x w0 w2 (Stopped (BadLine number))
+    ends_comes e x z is last =
+        answers x (s.replies ++ e.step.reply ∷ []) w0 w2 (s.text ++ answer_text e.step.reply) (s.log ++ e.step ∷ []) (Stopped (BadLine number))
+        (line_comes x z (e.step.reply ∷ []) is last
+        ∙ ap (after_text s.text) (told_step number size s.log (record { bytes = line; ended = ended }) (tail_lines ended z) e.step [] true reads.within some e.is.asked e.ends))
+        e.is.told (Appends-trans w0 w1 w2 s.text (answer_text e.step.reply) s.written e.written)
+
+    part_comes : WritesPart s.log line w1 w2 → (x z : List ℕ) → x ≡ s.done ++ (piece_of (record { bytes = line; ended = ended }) ++ z) → (ended ≡ false → z ≡ []) → AnswersSome x w0 w2
+    part_comes p x z is last =
+        let text = answer_text p.step.reply in
+        let goes = step_told p.step x z is last p.is.asked in
+        part x (s.replies ++ p.step.reply ∷ []) w0 w2 (s.text ++ p.written.beginning) (p.written.rest ++ goes.0) (s.log ++ p.step ∷ []) goes.1.0
+        (goes.1.1
+        ∙ ap (λ l. record { text = l; log = s.log ++ p.step ∷ []; end = goes.1.0 })
+        (ap (λ l. s.text ++ (l ++ goes.0)) p.written.begins ∙ ap (λ l. s.text ++ l) (append_assoc p.written.beginning p.written.rest goes.0) ∙ sym (append_assoc s.text p.written.beginning (p.written.rest ++ goes.0))))
+        p.is.told (Appends-trans w0 w1 w2 s.text p.written.beginning s.written p.written.written)
+      where
+        step_told : (step : Step) (x z : List ℕ) → x ≡ s.done ++ (piece_of (record { bytes = line; ended = ended }) ++ z) → (ended ≡ false → z ≡ []) → allowed s.log (command_of line) ≡ Some step.command
+            → (rest : List ℕ) × ((end : End) × (written_by x (s.replies ++ step.reply ∷ []) ≡ record { text = s.text ++ (answer_text step.reply ++ rest); log = s.log ++ step ∷ []; end = end }))
+        step_told step x z is last asked =
+            let l : Line = record { bytes = line; ended = ended } in
+            let goes = step_goes_at number (number + 1) (size + length (piece_of l)) (s.log ++ step ∷ []) step.reply (tail_lines ended z) (ends_run step) in (
+              goes.0,
+              (
+                goes.1.0,
+                line_comes x z (step.reply ∷ []) is last
+                    ∙ ap (after_text s.text) (told_step number size s.log l (tail_lines ended z) step [] (ends_run step) reads.within some asked refl ∙ goes.1.1),
+              ),
+            )
+
     nothing_written : Appends w1 w2 [] → Appends w0 w2 s.text
     nothing_written none = subst (Appends w0 w2) (append-nil s.text) (Appends-trans w0 w1 w2 s.text [] s.written none)
 
-    pub ends_line : (after : Option State) (fault : ScriptFault) → LineRuns (outcome number s.run line) after w1 w2 (Err fault) → Both r0 r2 w0 w2 (Err fault)
-    ends_line after (BadLine n) runs =
-        let is = whole_line (λ script. Answers script w0 w2 (Some (BadLine n))) (fault_comes (BadLine n) runs.0 runs.1) in
-        (is, whole_line (λ script. WritesBeginning script w0 w2) (λ x z at last. beginning x w0 w2 (Some (BadLine n)) (fault_comes (BadLine n) runs.0 runs.1 x z at last)))
-    ends_line after ReadFailed runs = absurd runs
-    ends_line after WriteFailed runs = (tt, whole_line (λ script. WritesBeginning script w0 w2) (part_comes runs.0 runs.1))
-    ends_line after NoMemory runs = (
+    bad_or_ends : IsBad s.log line w1 w2 ⊎ EndsAt s.log line w1 w2 → (x z : List ℕ) → x ≡ s.done ++ (piece_of (record { bytes = line; ended = ended }) ++ z) → (ended ≡ false → z ≡ []) → Answers x w0 w2 (Stopped (BadLine number))
+    bad_or_ends (inl bad) = bad_comes bad
+    bad_or_ends (inr e) = ends_comes e
+
+    pub ends_line : (grid2 : Option Grid) (after : Option State) (fault : ScriptFault) → LineRuns s.log number line grid2 after w1 w2 (Err fault) → Both r0 r2 w0 w2 (Err fault)
+    ends_line grid2 after (BadLine n) runs =
+        subst (λ n. Both r0 r2 w0 w2 (Err (BadLine n))) (sym runs.0) (
+          whole_line (λ script. Answers script w0 w2 (Stopped (BadLine number))) (bad_or_ends runs.1),
+          whole_line (λ script. AnswersSome script w0 w2) (λ x z is last. whole x w0 w2 (Stopped (BadLine number)) (bad_or_ends runs.1 x z is last)),
+        )
+    ends_line grid2 after ReadFailed runs = absurd runs
+    ends_line grid2 after WriteFailed runs = (tt, whole_line (λ script. AnswersSome script w0 w2) (part_comes runs))
+    ends_line grid2 after NoMemory runs = (
       stops w2 IsOneLine (piece_of (record { bytes = line; ended = ended })) reads.taken (one_line line ended reads.lacks) (nothing_written runs),
-      whole_line (λ script. WritesBeginning script w0 w2) (part_comes 0 runs),
+      whole_line (λ script. AnswersSome script w0 w2) (λ x z is last.
+          let t = told number size (record { log = s.log; replies = [] }) (record { bytes = line; ended = ended } ∷ tail_lines ended z) in
+          part x (s.replies ++ []) w0 w2 s.text t.text s.log t.end
+          (line_comes x z [] is last ∙ ap (λ l. record { text = s.text ++ t.text; log = l; end = t.end }) (log_same number size s.log (record { bytes = line; ended = ended } ∷ tail_lines ended z)))
+          s.told (nothing_written runs)),
     )
-    ends_line after TooLong runs = absurd runs
+    ends_line grid2 after TooLong runs = absurd runs
 
   -- the last line was answered
-  last_comes : (w2 : Option (List ℕ)) (after : Option State) (line : List ℕ) (reads : ReadsLine size r1 r2 (record { bytes = line; ended = false })) (some : (length line == 0) ≡ false)
-      → GoesOn (outcome number s.run line) after w1 w2 → (x z : List ℕ) → x ≡ s.done ++ (piece_of (record { bytes = line; ended = false }) ++ z) → (false ≡ false → z ≡ []) → Answers x w0 w2 None
-  last_comes w2 after line reads some goes x z is last =
-      let o = outcome number s.run line in
-      answers x w0 w2 (s.text ++ o.text) None
-      (line_comes w2 line false reads some x z is last
-      ∙ ap (λ n. behind s.text (told_with o.text n (λ run. told (number + 1) (size + length (piece_of (record { bytes = line; ended = false }))) run []))) goes.next
-      ∙ ap (λ l. record { text = s.text ++ l; fault = None }) (append-nil o.text))
-      (Appends-trans w0 w1 w2 s.text o.text s.written goes.written)
+  last_comes : (w2 : Option (List ℕ)) (grid2 : Option Grid) (after : Option State) (line : List ℕ) (reads : ReadsLine size r1 r2 (record { bytes = line; ended = false })) (some : (length line == 0) ≡ false)
+      → GoesOn s.log line grid2 after w1 w2 → (x z : List ℕ) → x ≡ s.done ++ (piece_of (record { bytes = line; ended = false }) ++ z) → (false ≡ false → z ≡ []) → Answers x w0 w2 Ended
+  last_comes w2 grid2 after line reads some on x z is last =
+      let text = answer_text on.step.reply in
+      answers x (s.replies ++ on.step.reply ∷ []) w0 w2 (s.text ++ text) (s.log ++ on.step ∷ []) Ended
+      (line_comes w2 line false reads some x z (on.step.reply ∷ []) is last
+      ∙ ap (after_text s.text) (told_step number size s.log (record { bytes = line; ended = false }) [] on.step [] false reads.within some on.is.asked on.goes)
+      ∙ ap (λ l. record { text = s.text ++ l; log = s.log ++ on.step ∷ []; end = Ended }) (append-nil text))
+      on.is.told (Appends-trans w0 w1 w2 s.text text s.written on.written)
 
-  pub ends_last : (w2 : Option (List ℕ)) (after : Option State) (line : List ℕ) → ReadsLine size r1 r2 (record { bytes = line; ended = false }) → (length line == 0) ≡ false
-      → GoesOn (outcome number s.run line) after w1 w2 → Both r0 r2 w0 w2 (Ok tt)
-  ends_last w2 after line reads some goes = (
+  pub ends_last : (w2 : Option (List ℕ)) (grid2 : Option Grid) (after : Option State) (line : List ℕ) → ReadsLine size r1 r2 (record { bytes = line; ended = false }) → (length line == 0) ≡ false
+      → GoesOn s.log line grid2 after w1 w2 → Both r0 r2 w0 w2 (Ok tt)
+  ends_last w2 grid2 after line reads some on = (
     (
-      with_line r0 r1 r2 s.done (record { bytes = line; ended = false }) (λ script. Answers script w0 w2 None) s.taken reads.taken reads.last (last_comes w2 after line reads some goes),
+      with_line r0 r1 r2 s.done (record { bytes = line; ended = false }) (λ script. Answers script w0 w2 Ended) s.taken reads.taken reads.last (last_comes w2 grid2 after line reads some on),
       at_end r0 r1 r2 s.done s.taken (reads.last refl),
     ),
-    with_line r0 r1 r2 s.done (record { bytes = line; ended = false }) (λ script. WritesBeginning script w0 w2) s.taken reads.taken reads.last
-        (λ x z is last. beginning x w0 w2 None (last_comes w2 after line reads some goes x z is last)),
+    with_line r0 r1 r2 s.done (record { bytes = line; ended = false }) (λ script. AnswersSome script w0 w2) s.taken reads.taken reads.last
+        (λ x z is last. whole x w0 w2 Ended (last_comes w2 grid2 after line reads some on x z is last)),
   )

@@ -10,7 +10,7 @@ use Rattle.std.proofs.Math.Seq.{take-append_seam}
 use Rattle.std.proofs.lemmas.List.{append-nil}
 use mir.Val.{bool_byte}
 use Rattle.std.proofs.lemmas.List.Elements.{All-append}
-use Rattle.gate_main.specs.Cut.{IsCutAt}
+use Rattle.octets.specs.Cut.{IsCutAt}
 use Rattle.gate_main.specs.Lines.{LacksLf, Line, piece_of, fits}
 use Rattle.gate_main.specs.Reading.{IsPart, IsTooLong, LineReads, PartReads}
 use Rattle.gate_main.specs.declared.fault.ScriptFault.{ScriptFault}

@@ -4,8 +4,8 @@ use Rattle.std.proofs.lemmas.List.{append-nil}
 use Rattle.std.proofs.lemmas.List.Elements.{All-head, All-tail}
 use Rattle.std.proofs.lemmas.Bool.Decides.{nat_tests}
 use Rattle.std.specs.Option.{option_map}
-use Rattle.gate_main.specs.Cut.{IsCutAt, IsCutWhere}
-use Rattle.gate_main.specs.Text.{followed_by, unescaped, after_backslash, is_plain, escape_of, escaped}
+use Rattle.octets.specs.Cut.{IsCutAt}
+use Rattle.gate_main.specs.Text.{IsCutWhere, followed_by, unescaped, after_backslash, is_plain, escape_of, escaped}
 
 -- ---- a text that is read
 

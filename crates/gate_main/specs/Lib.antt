@@ -1,8 +1,10 @@
-pub mod Cut
-pub mod Decimal
 pub mod Text
 pub mod Command
 pub mod Lines
 pub mod Reading
 pub mod Script
+pub mod Stores
+pub mod Replies
 pub mod Running
+pub mod Arguments
+pub mod Status

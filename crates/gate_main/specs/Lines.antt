@@ -1,6 +1,13 @@
 -- The lines of a script.
 use Rattle.std.specs.Prelude.{◌≢◌, All, ℕ, ◌+◌, ◌&&◌, ◌==◌, nat_le, List, [], ◌∷◌, ◌++◌, length, Bool, true, false, if◌then◌else◌}
-use Rattle.gate_main.specs.declared.lines.TheConstants.{LINE_LIMIT, SCRIPT_LIMIT}
+
+-- how many bytes a line may have, without the LF that ends it
+abbrev pub line_limit : ℕ
+line_limit = 16777216
+
+-- how many bytes a script may have
+abbrev pub script_limit : ℕ
+script_limit = 268435456
 
 -- a line without the LF (10) that ends it, and whether one does
 pub record Line : Type 0 where
@@ -27,7 +34,7 @@ piece_of line = line.bytes ++ (if line.ended then 10 ∷ [] else [])
 
 -- a line of so many bytes is within its limit, and the script, of which so many were read before it, within its own
 abbrev pub fits : ℕ → ℕ → Bool → Bool
-fits read size ended = nat_le size LINE_LIMIT && nat_le (read + (size + (if ended then 1 else 0))) SCRIPT_LIMIT
+fits read size ended = nat_le size line_limit && nat_le (read + (size + (if ended then 1 else 0))) script_limit
 
 abbrev pub is_within : ℕ → Line → Bool
 is_within read line = fits read (length line.bytes) line.ended

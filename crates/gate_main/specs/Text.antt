@@ -1,5 +1,5 @@
 -- TEXT in a script: printable bytes stand for themselves, a backslash begins an escape.
-use Rattle.std.specs.Prelude.{ℕ, ◌+◌, ◌-◌, ◌*◌, ◌/◌, ◌%◌, List, [], ◌∷◌, Bool, ◌&&◌, ◌||◌, not, nat_le, nat_lt, ◌==◌, if◌then◌else◌, Option, Some, None}
+use Rattle.std.specs.Prelude.{◌≡◌, ℕ, ◌+◌, ◌-◌, ◌*◌, ◌/◌, ◌%◌, List, [], ◌∷◌, ◌++◌, Bool, true, false, ◌&&◌, ◌||◌, not, nat_le, nat_lt, ◌==◌, All, if◌then◌else◌, Option, Some, None}
 use Rattle.std.specs.Option.{option_map}
 use Rattle.std.specs.List.{flat_map}
 
@@ -24,7 +24,7 @@ abbrev mutual
   unescaped [] = Some []
   unescaped (byte ∷ text) = if byte == 92 then after_backslash text else followed_by byte (unescaped text)
 
-  -- behind a backslash: `r`, `n`, a backslash, or `x` and two digits
+  -- after a backslash: `r`, `n`, a backslash, or `x` and two digits
   pub after_backslash : List ℕ → Option (List ℕ)
   after_backslash [] = None
   after_backslash (kind ∷ text) =
@@ -54,3 +54,9 @@ escape_of byte =
 -- the text in which bytes are written
 abbrev pub escaped : List ℕ → List ℕ
 escaped bytes = flat_map escape_of bytes
+
+-- cut at the first byte that fails a test
+pub record IsCutWhere (test : ℕ → Bool) (whole front : List ℕ) (byte : ℕ) (back : List ℕ) : Type 0 where
+  pub parts : whole ≡ front ++ byte ∷ back
+  pub before : All (λ b. test b ≡ true) front
+  pub fails : test byte ≡ false

@@ -1,12 +1,10 @@
 //! A line of a script.
 ghost use Rattle.std.specs.Prelude.{◌≡◌, [], ◌∷◌, IfOk};
-ghost use Rattle.gate_main.specs.Command.{words, servers_of, secret_of, grid_of, open_of, bytes_of, end_of, take_of, command_of, short_number, long_number};
+ghost use Rattle.gate_main.specs.Command.{words, servers_of, secret_of, index_of, share_of, grid_of, restore_of, open_of, bytes_of, end_of, take_of, lose_of, spoil_of, command_of, asked_by, short_number};
 
-use crate::cut::split_at_byte;
-use crate::number::read_number;
-use crate::piece::Piece;
+use crate::spelling::read_spelled;
 use crate::text::unescape;
-use base32_text::{B32Fault, decode, reading_is_decided};
+use octets::{Bytes, read_number, split_at_byte};
 use std::alloc::{AllocError, Global};
 
 /// The parameters of a gateway.
@@ -21,7 +19,18 @@ pub struct Grid {
     /// How many bytes each server has room for.
     pub room: u64,
     /// The secret that makes keys.
-    pub secret: Piece,
+    pub secret: Bytes,
+}
+
+/// A share by where it is.
+#[derive(Clone, Copy, Debug)]
+pub struct Share {
+    /// The server's number, from 0 on.
+    pub server: u32,
+    /// The storage index.
+    pub index: [u8; 16],
+    /// The share's number.
+    pub number: u16,
 }
 
 /// What a line asks of the gateway.
@@ -29,14 +38,22 @@ pub struct Grid {
 pub enum Command {
     /// A gateway with these parameters.
     Grid(Grid),
+    /// That gateway, with the shares of this image.
+    Restore(Bytes),
     /// A connection with this id begins.
     Open(u64),
     /// The next bytes of a connection.
-    Bytes(u64, Piece),
+    Bytes(u64, Bytes),
     /// No more bytes come on a connection.
     End(u64),
     /// At most so many of the bytes that wait for a connection.
     Take(u64, u32),
+    /// A share is to be lost.
+    Lose(Share),
+    /// The lowest bit of the byte at this place of a share is to be changed.
+    Spoil(Share, u64),
+    /// The image of the shares.
+    Image,
 }
 
 /// What a line asks, or `None` where it is a bad line.
@@ -44,10 +61,13 @@ pub fn read_command(alloc: Global, line: &[u8]) -> Result<Option<Command>, Alloc
     ensures { IfOk result (λ command. command ≡ command_of line.now) }
 {
     let Some((verb, arguments)) = split_at_byte(line, b' ') else {
-        return Ok(None);
+        return Ok(read_verb(line));
     };
     if verb == b"grid".as_slice() {
         return read_grid(alloc, arguments);
+    }
+    if verb == b"restore".as_slice() {
+        return read_restore(alloc, arguments);
     }
     if verb == b"open".as_slice() {
         return Ok(read_open(arguments));
@@ -61,7 +81,24 @@ pub fn read_command(alloc: Global, line: &[u8]) -> Result<Option<Command>, Alloc
     if verb == b"take".as_slice() {
         return Ok(read_take(arguments));
     }
+    if verb == b"lose".as_slice() {
+        return read_lose(alloc, arguments);
+    }
+    if verb == b"spoil".as_slice() {
+        return read_spoil(alloc, arguments);
+    }
     Ok(None)
+}
+
+/// What a line without arguments asks.
+fn read_verb(line: &[u8]) -> Option<Command>
+    ensures { result ≡ asked_by (line.now ∷ []) }
+{
+    if line == b"image".as_slice() {
+        Some(Command::Image)
+    } else {
+        None
+    }
 }
 
 /// The arguments of `grid`: K, N, S, ROOM and SECRET.
@@ -143,22 +180,17 @@ fn read_servers(word: &[u8]) -> Option<u16>
 }
 
 /// A secret: `-` is the empty one, another is base32.
-fn read_secret(alloc: Global, word: &[u8]) -> Result<Option<Piece>, AllocError>
+fn read_secret(alloc: Global, word: &[u8]) -> Result<Option<Bytes>, AllocError>
     ensures { IfOk result (λ secret. secret ≡ secret_of word.now) }
 {
     if word == b"-".as_slice() {
-        return Ok(Some(Piece::new(Vec::new(alloc))));
+        return Ok(Some(Bytes::new(alloc)));
     }
     if word.is_empty() {
         return Ok(None);
     }
-    // What `decode` says of spelling is said of `reading` by this law.
-    reading_is_decided();
-    match decode(alloc, word) {
-        Ok(bytes) => Ok(Some(Piece::new(bytes))),
-        Err(B32Fault::NoMemory) => Err(AllocError),
-        Err(_) => Ok(None),
-    }
+    let secret = read_spelled(alloc, word)?;
+    Ok(secret)
 }
 
 /// The argument of `open`: ID.
@@ -201,4 +233,92 @@ fn read_take(arguments: &[u8]) -> Option<Command>
     let id = read_number(id, u64::MAX)?;
     let most = read_number(most, u32::MAX as u64)?;
     Some(Command::Take(id, most as u32))
+}
+
+/// The argument of `restore`: TEXT, which may hold spaces.
+fn read_restore(alloc: Global, arguments: &[u8]) -> Result<Option<Command>, AllocError>
+    ensures { IfOk result (λ command. command ≡ restore_of (words arguments.now)) }
+{
+    let Some(image) = unescape(alloc, arguments)? else {
+        return Ok(None);
+    };
+    Ok(Some(Command::Restore(image)))
+}
+
+/// The arguments of `lose`: SERVER, SI and NUMBER.
+fn read_lose(alloc: Global, arguments: &[u8]) -> Result<Option<Command>, AllocError>
+    ensures { IfOk result (λ command. command ≡ lose_of (words arguments.now)) }
+{
+    let Some((server, rest)) = split_at_byte(arguments, b' ') else {
+        return Ok(None);
+    };
+    let Some((index, number)) = split_at_byte(rest, b' ') else {
+        return Ok(None);
+    };
+    let Some(share) = read_share(alloc, server, index, number)? else {
+        return Ok(None);
+    };
+    Ok(Some(Command::Lose(share)))
+}
+
+/// The arguments of `spoil`: SERVER, SI, NUMBER and PLACE.
+fn read_spoil(alloc: Global, arguments: &[u8]) -> Result<Option<Command>, AllocError>
+    ensures { IfOk result (λ command. command ≡ spoil_of (words arguments.now)) }
+{
+    let Some((server, rest)) = split_at_byte(arguments, b' ') else {
+        return Ok(None);
+    };
+    let Some((index, rest)) = split_at_byte(rest, b' ') else {
+        return Ok(None);
+    };
+    let Some((number, place)) = split_at_byte(rest, b' ') else {
+        return Ok(None);
+    };
+    let Some(share) = read_share(alloc, server, index, number)? else {
+        return Ok(None);
+    };
+    let Some(place) = read_number(place, u64::MAX) else {
+        return Ok(None);
+    };
+    Ok(Some(Command::Spoil(share, place)))
+}
+
+/// The share that SERVER, SI and NUMBER name.
+fn read_share(
+    alloc: Global,
+    server: &[u8],
+    index: &[u8],
+    number: &[u8],
+) -> Result<Option<Share>, AllocError>
+    ensures { IfOk result (λ share. share ≡ share_of server.now index.now number.now) }
+{
+    let Some(server) = read_number(server, u64::from(u32::MAX)) else {
+        return Ok(None);
+    };
+    let Some(index) = read_index(alloc, index)? else {
+        return Ok(None);
+    };
+    let Some(number) = read_short(number) else {
+        return Ok(None);
+    };
+    Ok(Some(Share {
+        server: server as u32,
+        index,
+        number,
+    }))
+}
+
+/// A storage index: base32 of 16 bytes.
+fn read_index(alloc: Global, word: &[u8]) -> Result<Option<[u8; 16]>, AllocError>
+    ensures { IfOk result (λ index. index ≡ index_of word.now) }
+{
+    let Some(bytes) = read_spelled(alloc, word)? else {
+        return Ok(None);
+    };
+    if bytes.len() != 16 {
+        return Ok(None);
+    }
+    let mut index = [0u8; 16];
+    index.copy_from_slice(bytes.as_slice());
+    Ok(Some(index))
 }

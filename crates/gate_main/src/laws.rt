@@ -1,19 +1,12 @@
 //! What holds of the words in which scripts are defined.
-ghost use Rattle.std.specs.Prelude.{◌≡◌, ◌<◌, ◌≤◌, ◌^◌, ◌↔◌, ℕ, List, All, Some, decimal};
+ghost use Rattle.std.specs.Prelude.{◌≡◌, ◌<◌, ℕ, List, All, Some};
 ghost use Rattle.std.specs.List.{flat_map};
-ghost use Rattle.gate_main.specs.Decimal.{number_to};
 ghost use Rattle.gate_main.specs.Lines.{lines_of, piece_of};
 ghost use Rattle.gate_main.specs.Text.{unescaped, escaped};
 
 /// A text that is written is read as the bytes for which it was written.
 pub fn texts_are_read_back()
     ensures { (bytes : List ℕ) → All (λ byte. byte < 256) bytes → unescaped (escaped bytes) ≡ Some bytes }
-{}
-
-/// A number has one word: the decimal text that a program prints of it.
-pub fn numbers_have_one_word()
-    ensures { (most number : ℕ) (word : List ℕ) → most < 2 ^ 64
-        → ((number_to most word ≡ Some number) ↔ ((number ≤ most) × (word ≡ decimal number))) }
 {}
 
 /// The lines of a script, each with the LF that ends it, are the script.

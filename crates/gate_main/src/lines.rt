@@ -1,10 +1,10 @@
 //! The lines of a script, read one at a time.
 ghost use Rattle.std.specs.Prelude.{◌≡◌, ◌+◌, ◌≤◌, length, true, false};
-ghost use Rattle.gate_main.specs.Lines.{fits};
+ghost use Rattle.gate_main.specs.Lines.{fits, script_limit};
 ghost use Rattle.gate_main.specs.Reading.{LineReads, PartReads, IsPart};
 
-use crate::cut::split_at_byte;
 use crate::fault::ScriptFault;
+use octets::split_at_byte;
 use std::io::{BufRead, ErrorKind};
 
 /// How many bytes a line may have, without the LF that ends it.
@@ -32,16 +32,15 @@ pub fn read_line<R: BufRead>(
     read: usize,
     line: &mut Vec<u8>,
 ) -> Result<bool, ScriptFault>
-    requires { read ≤ SCRIPT_LIMIT }
+    requires { read ≤ script_limit }
     ensures { LineReads read (R.remaining reader.old) (R.remaining reader.new) result line.new.items }
 {
     line.clear();
     for _ in 0..u64::MAX {
-        match read_part(reader, read, line) {
-            Ok(Part::More) => {}
-            Ok(Part::Ended) => return Ok(true),
-            Ok(Part::AtEnd) => return Ok(false),
-            Err(fault) => return Err(fault),
+        match read_part(reader, read, line)? {
+            Part::More => {}
+            Part::Ended => return Ok(true),
+            Part::AtEnd => return Ok(false),
         }
     }
     Err(ScriptFault::ReadFailed)
@@ -58,13 +57,8 @@ fn read_part<R: BufRead>(
 {
     let shown = match reader.fill_buf() {
         Ok(shown) => shown,
-        Err(error) => {
-            return if error.kind() == ErrorKind::Interrupted {
-                Ok(Part::More)
-            } else {
-                Err(ScriptFault::ReadFailed)
-            };
-        }
+        Err(error) if error.kind() == ErrorKind::Interrupted => return Ok(Part::More),
+        Err(_) => return Err(ScriptFault::ReadFailed),
     };
     if shown.is_empty() {
         return Ok(Part::AtEnd);
@@ -73,9 +67,7 @@ fn read_part<R: BufRead>(
     if !is_within_limits(read, line.len(), part.len(), ended) {
         return Err(ScriptFault::TooLong);
     }
-    if line.extend_from_slice(part).is_err() {
-        return Err(ScriptFault::NoMemory);
-    }
+    line.extend_from_slice(part)?;
     let taken = part.len() + usize::from(ended);
     reader.consume(taken);
     if ended {

@@ -1,79 +1,134 @@
 //! The web gateway as a program. `gate_main replay` reads a script from standard input and writes its answers to
-//! standard output: a script says what comes on which connection, and what is taken from it.
+//! standard output: a script says what comes on which connection, and what is taken from it. `gate_main serve` listens
+//! on an address and serves connections one after the other, over stores in memory.
 #![tactic(auto)]
 
+/// The program's arguments.
+mod arguments;
+/// The calls of a gateway that commands ask for.
+mod calls;
+/// A line of a script.
 mod command;
-mod cut;
+/// Why a run ended before its end.
 mod fault;
-mod laws;
+/// What holds of the definitions.
+pub mod laws;
+/// The lines of a script, one at a time.
 mod lines;
-mod number;
-mod piece;
+/// What a line is answered.
 mod reply;
+/// The run of a script.
 mod script;
+/// Connections, served one after the other.
+mod serving;
+/// Base32.
+mod spelling;
+/// The status with which the program exits.
+mod status;
 #[cfg(test)]
 mod tests;
+/// The stores of a gateway.
+mod stores;
+/// Bytes as text.
 mod text;
-mod writing;
+/// One connection's turns.
+mod turns;
 
-pub use fault::ScriptFault;
-pub use laws::{lines_join_to_the_script, numbers_have_one_word, texts_are_read_back};
+pub use arguments::{Service, Task, read_task};
+pub use fault::{ProgramFault, ScriptFault, ServeFault, TurnFault};
+use gate_core::Gateway;
+use octets::Bytes;
 pub use script::run_script;
+pub use serving::serve_on;
+pub use status::exit_status;
 use std::io::{BufReader, BufWriter, ErrorKind};
+use std::net::{Net, TcpListener, TcpStream};
 use std::process::ExitCode;
 use std::rt::Env;
 use std::{env, io};
+use stores::make_stores;
+pub use turns::turns;
 
 /// How many bytes are read and written at a time.
 const BUFFER: usize = 65_536;
 
-const USAGE: &str = "usage: gate_main replay < SCRIPT";
+/// How many stores a server has, and for how many bytes each has room.
+const STORES: u16 = 5;
 
-/// Status 0 where the script was answered, 1 at a fault, 2 at wrong arguments.
+const ROOM: u64 = 1_073_741_824;
+
+/// Of how many shares that a server makes of a file how many give it back.
+const NEEDED: u16 = 3;
+
+const SHARES: u16 = 10;
+
+/// Does what the arguments ask for, tells the fault that ended it on standard error, and exits with its status.
 fn main(rt: HostRuntime) -> ExitCode {
-    match run(&rt) {
-        Ok(true) => ExitCode::SUCCESS,
-        Ok(false) => {
-            let _ = rt.eprintln(USAGE);
-            ExitCode::from(2)
-        }
-        Err(fault) => {
-            let _ = eprintln!(rt; "gate_main: {fault}");
-            ExitCode::from(1)
-        }
+    let outcome = run(&rt);
+    if let Err(fault) = &outcome {
+        let _ = eprintln!(rt; "gate_main: {fault}");
+    }
+    ExitCode::from(exit_status(&outcome))
+}
+
+/// Does what the arguments ask for.
+fn run<
+    R: Env + Input + Print + Eprint + AllocGlobal + Net<Listener = TcpListener, Stream = TcpStream>,
+>(rt: &R) -> Result<(), ProgramFault> {
+    let words = read_words(rt)?;
+    match read_task(rt.alloc(), &words)? {
+        Some(Task::Replay) => replay(rt),
+        Some(Task::Serve(service)) => serve(rt, &service),
+        None => Err(ProgramFault::Usage),
     }
 }
 
-/// Runs the script where the arguments ask for it; `false` where they are wrong.
-fn run(rt: &(impl Env + Input + Print + AllocGlobal)) -> Result<bool, ScriptFault> {
-    let asked = asks_replay(rt)?;
-    if asked {
-        replay(rt)?;
-    }
-    Ok(asked)
-}
-
-/// Whether the one argument is `replay`. An argument that is no text isn't; memory may be refused to read them.
-fn asks_replay(rt: &(impl Env + AllocGlobal)) -> Result<bool, ScriptFault> {
+/// The arguments after the program's name. One that is no text is a fault of usage.
+fn read_words(rt: &(impl Env + AllocGlobal)) -> Result<Vec<Bytes>, ProgramFault> {
     let arguments = match env::args(rt) {
         Ok(arguments) => arguments,
-        Err(error) if error.kind() == ErrorKind::OutOfMemory => return Err(ScriptFault::NoMemory),
-        Err(_) => return Ok(false),
+        Err(error) if error.kind() == ErrorKind::OutOfMemory => return Err(ProgramFault::NoMemory),
+        Err(_) => return Err(ProgramFault::Usage),
     };
-    let mut arguments = arguments.skip(1);
-    match (arguments.next(), arguments.next()) {
-        (Some(verb), None) => Ok(verb.as_str() == "replay"),
-        _ => Ok(false),
+    let mut words = Vec::new(rt.alloc());
+    for argument in arguments.skip(1) {
+        words.push(Bytes::from_vec(argument.into_bytes()))?;
     }
+    Ok(words)
 }
 
 /// Runs the script on standard input, and writes its answers to standard output.
-fn replay(rt: &(impl Input + Print + AllocGlobal)) -> Result<(), ScriptFault> {
+fn replay(rt: &(impl Input + Print + AllocGlobal)) -> Result<(), ProgramFault> {
     let Ok(mut reader) = BufReader::with_capacity(rt.alloc(), BUFFER, rt.reader()) else {
-        return Err(ScriptFault::NoMemory);
+        return Err(ProgramFault::NoMemory);
     };
     let Ok(mut writer) = BufWriter::with_capacity(rt.alloc(), BUFFER, io::writer(rt)) else {
-        return Err(ScriptFault::NoMemory);
+        return Err(ProgramFault::NoMemory);
     };
-    run_script(rt.alloc(), &mut reader, &mut writer)
+    run_script(rt.alloc(), &mut reader, &mut writer)?;
+    Ok(())
+}
+
+/// Serves connections on an address, over stores in memory.
+fn serve<R: Eprint + AllocGlobal + Net<Listener = TcpListener, Stream = TcpStream>>(
+    rt: &R,
+    service: &Service,
+) -> Result<(), ProgramFault> {
+    let stores = make_stores(rt.alloc(), STORES, ROOM)?;
+    let Ok(mut gateway) = Gateway::new(
+        rt.alloc(),
+        NEEDED,
+        SHARES,
+        stores,
+        service.secret.as_slice(),
+    ) else {
+        return Err(ProgramFault::NoMemory);
+    };
+    let Ok(listener) = TcpListener::bind(rt, service.address) else {
+        return Err(ProgramFault::BindFailed);
+    };
+    match serve_on(rt, &listener, service.connections, &mut gateway)? {
+        0 => Ok(()),
+        faults => Err(ProgramFault::Connections(faults)),
+    }
 }

@@ -1,21 +1,30 @@
 //! The run of a script: a line at a time.
-ghost use Rattle.std.specs.Prelude.{◌≡◌, ℕ, List, [], ◌++◌, IfOk, OnOk, IfSome, OnSome, Some, None, Err};
+ghost use Rattle.std.specs.Prelude.{◌≡◌, ℕ, List, IfOk, OnOk, IfSome, OnSome, Err, true};
 ghost use Rattle.std.specs.Io.KnownBytes.{IsAtEnd};
-ghost use Rattle.gate_core.specs.Events.{Event};
-ghost use Rattle.gate_core.specs.Held.{Came};
-ghost use Rattle.gate_main.specs.Script.{Run, reply_to, reply_after, run_after, events_by, outcome};
 ghost use Rattle.gate_main.specs.Lines.{LacksLf};
-ghost use Rattle.gate_main.specs.Running.{CameBy, LineRuns, StopsBehind, Answers, WritesBeginning, IsOneLine, RunEnds};
+ghost use Rattle.gate_main.specs.Script.{Step, Ended, Stopped, is_call};
+ghost use Rattle.gate_main.specs.Replies.{IsTold};
+ghost use Rattle.gate_main.specs.Running.{IsAt, Answered, LineRuns, StopsAfter, Answers, AnswersSome, IsOneLine, RunEnds};
 
-use crate::command::{Command, read_command};
+use crate::calls::{MemGateway, call};
+use crate::command::{Command, Grid, read_command};
 use crate::fault::ScriptFault;
 use crate::lines::read_line;
-use crate::piece::Piece;
 use crate::reply::Reply;
-use crate::writing::write_whole;
-use gate_core::{Gateway, GatewayFault, isolation};
+use crate::stores::make_stores;
+use gate_core::{Gateway, GatewayFault, RestoreFault};
+use octets::write_whole;
 use std::alloc::{AllocError, Global};
 use std::io::{BufRead, Write};
+
+/// How far a run came.
+#[derive(Drop)]
+struct Progress {
+    /// What `grid` asked for, while it is the last line that was answered.
+    grid: Option<Grid>,
+    /// The gateway that it asked for.
+    gateway: Option<MemGateway>,
+}
 
 /// Runs a script: reads its lines one by one, and writes the answer of each before it reads the next. The lines and
 /// their answers are those of docs/FORMATS.md. At the end the writer is flushed, also where a fault ended the run.
@@ -34,28 +43,32 @@ pub fn run_script<R: BufRead, W: Write>(
 ) -> Result<(), ScriptFault>
     // Where the reader tells its bytes, they are the script.
     ensures done { OnOk result (IfSome (R.remaining reader.old)
-        (λ script. Answers script (W.contents writer.old) (W.contents writer.new) None)) }
+        (λ script. Answers script (W.contents writer.old) (W.contents writer.new) Ended)) }
     ensures end { OnOk result (OnSome (R.remaining reader.old) (IsAtEnd (R.remaining reader.new))) }
 
     // Each fault of the script has its cause.
-    ensures bad_line { (number : ℕ) → result ≡ Err (ScriptFault.BadLine number) → IfSome (R.remaining reader.old)
-        (λ script. Answers script (W.contents writer.old) (W.contents writer.new) (Some (ScriptFault.BadLine number))) }
-    ensures too_long { result ≡ Err ScriptFault.TooLong → IfSome (R.remaining reader.old)
-        (λ script. Answers script (W.contents writer.old) (W.contents writer.new) (Some ScriptFault.TooLong)) }
+    ensures bad_line { (number : ℕ) → result ≡ Err (ScriptFault.BadLine number) →
+        IfSome (R.remaining reader.old) (λ script. Answers script
+        (W.contents writer.old) (W.contents writer.new) (Stopped (ScriptFault.BadLine number))) }
+    ensures too_long { result ≡ Err ScriptFault.TooLong →
+        IfSome (R.remaining reader.old) (λ script. Answers script
+        (W.contents writer.old) (W.contents writer.new) (Stopped ScriptFault.TooLong)) }
 
     // A run that stops on its way has answered the lines before.
-    ensures read_failed { result ≡ Err ScriptFault.ReadFailed
-        → StopsBehind LacksLf (R.remaining reader.old) (R.remaining reader.new) (W.contents writer.old) (W.contents writer.new) }
-    ensures no_memory { result ≡ Err ScriptFault.NoMemory
-        → StopsBehind IsOneLine (R.remaining reader.old) (R.remaining reader.new) (W.contents writer.old) (W.contents writer.new) }
+    ensures read_failed { result ≡ Err ScriptFault.ReadFailed →
+        StopsAfter LacksLf (R.remaining reader.old) (R.remaining reader.new)
+        (W.contents writer.old) (W.contents writer.new) }
+    ensures no_memory { result ≡ Err ScriptFault.NoMemory →
+        StopsAfter IsOneLine (R.remaining reader.old) (R.remaining reader.new)
+        (W.contents writer.old) (W.contents writer.new) }
     ensures beginning { IfSome (R.remaining reader.old)
-        (λ script. WritesBeginning script (W.contents writer.old) (W.contents writer.new)) }
+        (λ script. AnswersSome script (W.contents writer.old) (W.contents writer.new)) }
 {
     let outcome = run_lines(alloc, reader, writer);
-    if writer.flush().is_err() {
-        return Err(ScriptFault::WriteFailed);
+    match writer.flush() {
+        Ok(()) => outcome,
+        Err(_) => Err(ScriptFault::WriteFailed),
     }
-    outcome
 }
 
 /// Runs a script up to its end or to its first fault.
@@ -64,23 +77,21 @@ fn run_lines<R: BufRead, W: Write>(
     reader: &mut R,
     writer: &mut W,
 ) -> Result<(), ScriptFault>
-    ensures ends { RunEnds (R.remaining reader.old) (R.remaining reader.new) (W.contents writer.old) (W.contents writer.new) result }
+    ensures ends { RunEnds (R.remaining reader.old) (R.remaining reader.new)
+        (W.contents writer.old) (W.contents writer.new) result }
     ensures beginning { IfSome (R.remaining reader.old)
-        (λ script. WritesBeginning script (W.contents writer.old) (W.contents writer.new)) }
+        (λ script. AnswersSome script (W.contents writer.old) (W.contents writer.new)) }
 {
-    let mut gateway = None;
+    let mut progress = Progress {
+        grid: None,
+        gateway: None,
+    };
     let mut line = Vec::new(alloc);
     let mut read = 0;
     for number in 1..u64::MAX {
-        let ended = match read_line(reader, read, &mut line) {
-            Ok(ended) => ended,
-            Err(fault) => return Err(fault),
-        };
+        let ended = read_line(reader, read, &mut line)?;
         if !line.is_empty() {
-            match run_line(alloc, number, &line, &mut gateway, writer) {
-                Ok(()) => {}
-                Err(fault) => return Err(fault),
-            }
+            run_line(alloc, number, &line, &mut progress, writer)?;
         }
         if !ended {
             return Ok(());
@@ -96,101 +107,120 @@ fn run_line<W: Write>(
     alloc: Global,
     number: u64,
     line: &[u8],
-    gateway: &mut Option<Gateway>,
+    progress: &mut Progress,
     writer: &mut W,
 ) -> Result<(), ScriptFault>
-    ensures { (run : Run) → CameBy gateway.old run → LineRuns (outcome number run line.now) gateway.new (W.contents writer.old) (W.contents writer.new) result }
+    ensures { (log : List Step) → IsAt log progress.old.grid progress.old.gateway → IsTold log →
+        LineRuns log number line.now progress.new.grid progress.new.gateway
+        (W.contents writer.old) (W.contents writer.new) result }
 {
-    let Ok(command) = read_command(alloc, line) else {
-        return Err(ScriptFault::NoMemory);
-    };
-    let Some(command) = command else {
+    let Some(command) = read_command(alloc, line)? else {
         return Err(ScriptFault::BadLine(number));
     };
-    let Ok(reply) = serve(alloc, &command, gateway) else {
-        return Err(ScriptFault::NoMemory);
-    };
-    let Some(reply) = reply else {
+    let Some(reply) = answer(alloc, command, progress)? else {
         return Err(ScriptFault::BadLine(number));
     };
     let mut text = Vec::new(alloc);
-    let Ok(()) = reply.write_line(&mut text) else {
-        return Err(ScriptFault::NoMemory);
-    };
-    let Ok(()) = write_whole(writer, &text) else {
-        return Err(ScriptFault::WriteFailed);
-    };
-    if gateway.is_none() {
+    reply.write_line(&mut text)?;
+    let mut calls = u64::MAX;
+    write_whole(writer, &text, &mut calls)?;
+    if progress.gateway.is_none() {
         return Err(ScriptFault::BadLine(number));
     }
     Ok(())
 }
 
 /// Carries out a command, or answers nothing where it may not stand there.
-fn serve(
+fn answer(
     alloc: Global,
-    command: &Command,
-    gateway: &mut Option<Gateway>,
+    command: Command,
+    progress: &mut Progress,
 ) -> Result<Option<Reply>, AllocError>
-    ensures reply { IfOk result (λ reply. (run : Run) → CameBy gateway.old run → reply ≡ reply_to run command.now) }
-    ensures came { IfOk result (λ reply. IfSome reply (λ r. (run : Run) → CameBy gateway.old run → CameBy gateway.new (run_after run command.now r))) }
+    ensures { IfOk result (λ reply. (log : List Step) →
+        IsAt log progress.old.grid progress.old.gateway → IsTold log →
+        Answered log command reply progress.new.grid progress.new.gateway) }
 {
-    match gateway {
-        Some(gateway) => call(gateway, command),
-        None => begin(alloc, command, gateway),
+    match command {
+        Command::Grid(grid) => begin(alloc, grid, progress),
+        Command::Restore(image) => restore(alloc, image.as_slice(), progress),
+        command => go_on(alloc, &command, progress),
     }
 }
 
 /// Makes the gateway that the first command asks for.
-fn begin(
-    alloc: Global,
-    command: &Command,
-    gateway: &mut Option<Gateway>,
-) -> Result<Option<Reply>, AllocError>
-    requires { gateway.old ≡ None }
-    ensures reply { IfOk result (λ reply. reply ≡ reply_to None command.now) }
-    ensures came { IfOk result (λ reply. IfSome reply (λ r. CameBy gateway.new (run_after None command.now r))) }
+fn begin(alloc: Global, grid: Grid, progress: &mut Progress) -> Result<Option<Reply>, AllocError>
+    ensures { IfOk result (λ reply. (log : List Step) →
+        IsAt log progress.old.grid progress.old.gateway →
+        Answered log (Command.Grid grid) reply progress.new.grid progress.new.gateway) }
 {
-    let Command::Grid(grid) = command else {
+    if progress.gateway.is_some() {
         return Ok(None);
-    };
-    match Gateway::new(alloc, grid.k, grid.n, grid.servers, grid.secret.as_slice()) {
+    }
+    let stores = make_stores(alloc, grid.servers, grid.room)?;
+    match Gateway::new(alloc, grid.k, grid.n, stores, grid.secret.as_slice()) {
         Ok(made) => {
-            *gateway = Some(made);
+            progress.gateway = Some(made);
+            progress.grid = Some(grid);
             Ok(Some(Reply::Done))
         }
-        Err(fault) => Ok(Some(Reply::Refused(fault))),
+        Err(fault) => {
+            let reply = Reply::refused(fault)?;
+            Ok(Some(reply))
+        }
     }
 }
 
-/// Makes the call of the gateway that a command asks for.
-fn call(gateway: &mut Gateway, command: &Command) -> Result<Option<Reply>, AllocError>
-    ensures reply { IfOk result (λ reply. (events : List Event) → Came gateway.old events → reply ≡ reply_after events command.now) }
-    ensures came { IfOk result (λ reply. IfSome reply (λ r. (events : List Event) → Came gateway.old events → Came gateway.new (events ++ events_by command.now r))) }
+/// Makes that gateway anew, with the shares of an image. There is none where it is refused.
+fn restore(
+    alloc: Global,
+    image: &[u8],
+    progress: &mut Progress,
+) -> Result<Option<Reply>, AllocError>
+    ensures { IfOk result (λ reply. (log : List Step) →
+        IsAt log progress.old.grid progress.old.gateway → IsTold log →
+        Answered log (Command.Restore image.now) reply progress.new.grid progress.new.gateway) }
 {
-    // What was handed out and what waits are what the written answers say, by this law.
-    isolation();
-    match command {
-        Command::Grid(_) => Ok(None),
-        Command::Open(id) => match gateway.open(*id) {
-            Ok(()) => Ok(Some(Reply::Done)),
-            Err(GatewayFault::NoMemory) => Err(AllocError),
-            Err(fault) => Ok(Some(Reply::Refused(fault))),
-        },
-        Command::Bytes(id, piece) => match gateway.bytes(*id, piece.as_slice()) {
-            Ok(()) => Ok(Some(Reply::Done)),
-            Err(GatewayFault::NoMemory) => Err(AllocError),
-            Err(fault) => Ok(Some(Reply::Refused(fault))),
-        },
-        Command::End(id) => match gateway.end(*id) {
-            Ok(()) => Ok(Some(Reply::Done)),
-            Err(GatewayFault::NoMemory) => Err(AllocError),
-            Err(fault) => Ok(Some(Reply::Refused(fault))),
-        },
-        Command::Take(id, most) => match gateway.take(*id, *most as usize) {
-            Ok(given) => Ok(Some(Reply::Given(Piece::new(given)))),
-            Err(GatewayFault::NoMemory) => Err(AllocError),
-            Err(fault) => Ok(Some(Reply::Refused(fault))),
-        },
+    let Some(grid) = progress.grid.take() else {
+        return Ok(None);
+    };
+    let stores = make_stores(alloc, grid.servers, grid.room)?;
+    let mut reader = image;
+    progress.gateway = None;
+    match Gateway::restore(
+        alloc,
+        grid.k,
+        grid.n,
+        stores,
+        grid.secret.as_slice(),
+        &mut reader,
+    ) {
+        Ok(made) => {
+            progress.gateway = Some(made);
+            Ok(Some(Reply::Done))
+        }
+        Err(RestoreFault::BadParameters) => Ok(Some(Reply::Refused(GatewayFault::BadParameters))),
+        Err(RestoreFault::Grid(fault)) => {
+            let reply = Reply::grid_refused(fault)?;
+            Ok(Some(reply))
+        }
     }
+}
+
+/// Makes a call of the gateway, if there is one.
+fn go_on(
+    alloc: Global,
+    command: &Command,
+    progress: &mut Progress,
+) -> Result<Option<Reply>, AllocError>
+    requires { is_call command.now ≡ true }
+    ensures { IfOk result (λ reply. (log : List Step) →
+        IsAt log progress.old.grid progress.old.gateway → IsTold log →
+        Answered log command.now reply progress.new.grid progress.new.gateway) }
+{
+    let Some(gateway) = &mut progress.gateway else {
+        return Ok(None);
+    };
+    let reply = call(alloc, gateway, command)?;
+    progress.grid = None;
+    Ok(Some(reply))
 }

@@ -1,8 +1,14 @@
+//! Scripts, connections and arguments, by their answers.
 use super::*;
 use crate::text::escape;
 use std::alloc::{AllocError, Global};
-use std::io::{BufReader, ErrorKind, Read, Write};
+use std::io::{BufReader, Read, Write};
 use std::test::Fail;
+
+/// Arguments, statuses, words and peers.
+mod edges;
+/// Files on servers.
+mod rows;
 
 /// What a script is answered, and the fault that ended its run.
 fn ran(alloc: Global, script: &[u8]) -> (Vec<u8>, Option<ScriptFault>) {
@@ -246,7 +252,7 @@ bytes HTTP/1.1 200 OK\\r\\nContent-Type: application/octet-stream\\r\\nContent-L
 
 #[test]
 fn a_bad_line_ends_the_run_by_its_number(rt: HostRuntime) -> Result<(), Fail> {
-    // Each stands as the line behind `grid`, an empty line and `open 1`.
+    // Each stands as the line after `grid`, an empty line and `open 1`.
     for line in [
         b"shut 1".as_slice(),
         b"open".as_slice(),
@@ -270,9 +276,17 @@ fn a_bad_line_ends_the_run_by_its_number(rt: HostRuntime) -> Result<(), Fail> {
         b"take 1 00".as_slice(),
         b"take 1 1 1".as_slice(),
         b"grid 3 10 1 5 -".as_slice(),
-        b"lose 0 aaaaaaaaaaaaaaaaaaaaaaaaaa 0".as_slice(),
-        b"spoil 0 aaaaaaaaaaaaaaaaaaaaaaaaaa 0 0".as_slice(),
-        b"image".as_slice(),
+        b"lose 0 aaaaaaaaaaaaaaaaaaaaaaaaaa".as_slice(),
+        b"lose 0 aaaaaaaaaaaaaaaaaaaaaaaaa 0".as_slice(),
+        b"lose 0 aaaaaaaaaaaaaaaaaaaaaaaaaaaa 0".as_slice(),
+        b"lose 4294967296 aaaaaaaaaaaaaaaaaaaaaaaaaa 0".as_slice(),
+        b"lose 0 aaaaaaaaaaaaaaaaaaaaaaaaaa 65536".as_slice(),
+        b"lose 0 aaaaaaaaaaaaaaaaaaaaaaaaaa 0 0".as_slice(),
+        b"spoil 0 aaaaaaaaaaaaaaaaaaaaaaaaaa 0".as_slice(),
+        b"spoil 0 aaaaaaaaaaaaaaaaaaaaaaaaaa 0 0 0".as_slice(),
+        b"image ".as_slice(),
+        b"image x".as_slice(),
+        b"restore".as_slice(),
         b"restore ".as_slice(),
         b"open 2\r".as_slice(),
     ] {
@@ -421,12 +435,8 @@ fn a_reader_that_fails_leaves_the_answers_of_the_lines_before(rt: HostRuntime) -
         let mut reader = BufReader::with_capacity(rt.alloc(), 5, broken)?;
         let mut answers = Vec::new(rt.alloc());
         let outcome = run_script(rt.alloc(), &mut reader, &mut answers);
-        assert_eq!(rt;
-            outcome,
-            Err(ScriptFault::ReadFailed),
-            "behind {read} bytes"
-        );
-        assert_eq!(rt; answers.as_slice(), wanted, "behind {read} bytes");
+        assert_eq!(rt; outcome, Err(ScriptFault::ReadFailed), "after {read} bytes");
+        assert_eq!(rt; answers.as_slice(), wanted, "after {read} bytes");
     }
     Ok(())
 }
@@ -477,12 +487,5 @@ fn a_writer_that_fails_has_a_beginning_of_the_answers(rt: HostRuntime) -> Result
             "with room for {room} bytes"
         );
     }
-    Ok(())
-}
-
-#[test]
-fn faults_are_told_in_words(rt: HostRuntime) -> Result<(), Fail> {
-    let text = format!(in rt.alloc(); "{}", ScriptFault::BadLine(7))?;
-    assert_eq!(rt; text.as_str(), "line 7 is bad");
     Ok(())
 }

@@ -1,16 +1,14 @@
 //! TEXT in a script: bytes with escapes.
 ghost use Rattle.std.specs.Prelude.{◌≡◌, ◌++◌, IfOk, OnOk, MatchOption, IfSome, All, length, None, Some, true, false, ◌<◌};
 ghost use Rattle.std.specs.Option.{option_map};
-ghost use Rattle.gate_main.specs.Cut.{IsCutWhere};
-ghost use Rattle.gate_main.specs.Text.{unescaped, after_backslash, after_x, followed_by, is_hex, hex_value, hex_digit, is_plain, escape_of, escaped};
+ghost use Rattle.gate_main.specs.Text.{IsCutWhere, unescaped, after_backslash, after_x, followed_by, is_hex, hex_value, hex_digit, is_plain, escape_of, escaped};
 
-use crate::cut::split_at_byte;
-use crate::piece::Piece;
+use octets::{Bytes, split_at_byte};
 use std::alloc::{AllocError, Global};
 
 /// The bytes for which a text stands, or `None` where a backslash begins no escape: the escapes are `\r`, `\n`, `\\`
 /// and `\x` with two digits of base 16 in lower case.
-pub fn unescape(alloc: Global, text: &[u8]) -> Result<Option<Piece>, AllocError>
+pub fn unescape(alloc: Global, text: &[u8]) -> Result<Option<Bytes>, AllocError>
     ensures { IfOk result (λ piece. piece ≡ unescaped text.now) }
 {
     let mut bytes = Vec::with_capacity(alloc, text.len())?;
@@ -24,10 +22,10 @@ pub fn unescape(alloc: Global, text: &[u8]) -> Result<Option<Piece>, AllocError>
         rest = after;
     }
     bytes.extend_from_slice(rest)?;
-    Ok(Some(Piece::new(bytes)))
+    Ok(Some(Bytes::from_vec(bytes)))
 }
 
-/// The byte that the characters behind a backslash name, and the text after them.
+/// The byte that the characters after a backslash name, and the text after them.
 fn read_escape(text: &[u8]) -> Option<(u8, &[u8])>
     ensures read { MatchOption result (after_backslash text.now ≡ None) (λ read. after_backslash text.now ≡ followed_by read.0 (unescaped read.1.now)) }
     ensures shorter { IfSome result (λ read. length read.1.now < length text.now) }
@@ -64,7 +62,7 @@ fn hex_digit_value(digit: u8) -> Option<u8>
     }
 }
 
-/// Writes bytes as a text behind what stands there. Where memory is refused, a beginning of it may stand there.
+/// Writes bytes as a text after what stands there. Where memory is refused, a beginning of it may stand there.
 pub fn escape(bytes: &[u8], text: &mut Vec<u8>) -> Result<(), AllocError>
     ensures { OnOk result (text.new.items ≡ text.old.items ++ escaped bytes.now) }
 {
@@ -79,7 +77,7 @@ pub fn escape(bytes: &[u8], text: &mut Vec<u8>) -> Result<(), AllocError>
     Ok(())
 }
 
-/// What stands before the first byte that needs an escape, that byte, and what stands behind it.
+/// What stands before the first byte that needs an escape, that byte, and what stands after it.
 fn split_at_special(bytes: &[u8]) -> Option<(&[u8], u8, &[u8])>
     ensures { MatchOption result (All (λ b. is_plain b ≡ true) bytes.now) (λ parts. IsCutWhere is_plain bytes.now parts.0.now parts.1 parts.2.now) }
 {

@@ -1,4 +1,5 @@
 pub mod Bits
 pub mod Field
+pub mod LaneSteps
 pub mod Powers
 pub mod Steps

@@ -3,7 +3,7 @@ ghost use Rattle.std.specs.Prelude.{◌≡◌, ◌↔◌, IsNone, IfSome};
 ghost use Rattle.gf_field.specs.Field.{mul_of, power_of, inverse_of};
 
 /// What x^8 leaves by the modulus: x^4 + x^3 + x^2 + 1.
-const REDUCTION: u8 = 0x1d;
+pub(crate) const REDUCTION: u8 = 0x1d;
 
 /// Twice `a` in the field: `a` by x.
 fn double(a: u8) -> u8

@@ -3,11 +3,15 @@
 //! Two bytes are added by `^`. No call here takes memory.
 #![tactic(auto)]
 
+// Products, inverses and powers of two.
 mod arithmetic;
-mod laws;
+// Products of one element with 32 at once.
+mod lanes;
+// What holds in the field, whatever the elements.
+pub mod laws;
 
 pub use arithmetic::{exp, inv, mul};
-pub use laws::{is_a_field, two_generates};
+pub use lanes::mul_lanes;
 
 #[cfg(test)]
 mod tests;

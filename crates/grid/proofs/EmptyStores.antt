@@ -1,13 +1,17 @@
 -- Stores that hold nothing.
-use Rattle.std.proofs.Common.{◌≡◌, ◌⊎◌, inl, inr, ◌<◌, ◌≤◌, ℕ, zero, suc, List, [], ◌∷◌, ◌++◌, length, map, All, Some, None, slice_get, get_or, refl, ap, subst, ◌∙◌, arith}
+use Rattle.std.proofs.Common.{◌≡◌, ◌⊎◌, inl, inr, ◌<◌, ◌≤◌, ℕ, zero, suc, List, Bool, IsTrue, [], ◌∷◌, ◌++◌, length, map, All, Some, None, slice_get, get_or, refl, ap, subst, ◌∙◌, arith}
 use Rattle.std.proofs.lemmas.Option.{slice_get-map, slice_get_cases}
 use Rattle.std.specs.Option.{option_map, option_map_or}
 use Rattle.std.specs.FinMap.{entries}
 use Rattle.share_store.specs.Shares.{Shares, Entry, bytes_of}
 use Rattle.grid.specs.Found.{entries_at}
-use Rattle.grid.specs.Standing.{at_server}
+use Rattle.std.proofs.lemmas.List.Elements.{All-nil, All-cons, All-head, All-tail}
+use Rattle.grid.specs.GridState.{StoreState, states, maps_of, IsHonest}
 use Rattle.grid.specs.Rows.{rows_below, rows_of}
-use Rattle.grid.proofs.Gather.{entries_here, length_le_bytes}
+use Rattle.grid.proofs.Calls.{length_le_bytes}
+
+entries_here : {S : Type 0} (shares : S → Shares) (stores : List S) (i : ℕ) (store : S) → slice_get stores i ≡ Some store → entries_at (map shares stores) i ≡ entries (shares store)
+entries_here shares stores i store at = ap (λ o. option_map_or entries o []) (slice_get-map shares stores i ∙ ap (option_map shares) at)
 
 no_entries : (es : List Entry) → length es ≤ 0 → es ≡ []
 no_entries [] le = refl
@@ -32,10 +36,20 @@ module _ {S : Type 0} (honest : S → Type 0) (shares : S → Shares) (held : S 
   pub no_rows : rows_of (map shares stores) ≡ []
   no_rows = none_below (length (map shares stores))
 
--- such a store's room is all that it has
-pub held_none : {S : Type 0} (held : S → ℕ) (stores : List S) → All (λ store. held store ≡ 0) stores → (s : ℕ) → at_server held stores s ≡ 0
-held_none {S} held stores empty s = by_case (slice_get_cases stores s).1
-  where
-    by_case : ((x : S) × (s < length stores) × (slice_get stores s ≡ Some x) × (get_or stores s x ≡ x)) ⊎ ((length stores ≤ s) × (slice_get stores s ≡ None)) → at_server held stores s ≡ 0
-    by_case (inl (x, lt, at, read)) = ap (λ o. option_map_or held o 0) at ∙ subst (λ y. held y ≡ 0) read (empty s x lt)
-    by_case (inr h) = ap (λ o. option_map_or held o 0) h.1
+module _ {S : Type 0} (shares : S → Shares) (room held failures : S → ℕ) (honest : S → Bool) where
+  maps_are : (stores : List S) → maps_of (states shares room held failures honest stores) ≡ map shares stores
+  maps_are [] = refl
+  maps_are (x ∷ stores) = ap (λ l. shares x ∷ l) (maps_are stores)
+
+  all_honest : (stores : List S) → IsHonest (states shares room held failures honest stores) → All (λ x. IsTrue (honest x)) stores
+  all_honest [] all = All-nil (λ (x : S). IsTrue (honest x))
+  all_honest (x ∷ stores) all =
+      let t : StoreState = record { shares = shares x; room = room x; held = held x; failures = failures x; honest = honest x } in
+      All-cons (λ (y : S). IsTrue (honest y)) x stores (All-head (λ (u : StoreState). IsTrue u.honest) t (states shares room held failures honest stores) all)
+      (all_honest stores (All-tail (λ (u : StoreState). IsTrue u.honest) t (states shares room held failures honest stores) all))
+
+  -- a grid of honest stores that hold nothing has no rows
+  pub no_rows_there : ((x : S) → IsTrue (honest x) → held x ≡ bytes_of (shares x)) → ((x : S) → IsTrue (honest x) → All (λ e. 0 < length e.1) (entries (shares x))) →
+      (stores : List S) → All (λ x. held x ≡ 0) stores → IsHonest (states shares room held failures honest stores) → rows_of (maps_of (states shares room held failures honest stores)) ≡ []
+  no_rows_there held_is some stores empty all =
+      ap rows_of (maps_are stores) ∙ no_rows (λ x. IsTrue (honest x)) shares held held_is some stores (all_honest stores all) empty

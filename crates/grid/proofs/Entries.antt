@@ -15,7 +15,7 @@ use Rattle.share_store.specs.Stored.{entry_of}
 use Rattle.share_store.specs.declared.share.Share.{Share}
 use Rattle.grid.specs.Standing.{standing}
 use Rattle.grid.specs.Found.{entries_at}
-use Rattle.grid.proofs.Standing.{key_cmp_total}
+use Rattle.share_store.specs.MapLaws.{key_cmp_total}
 
 pub left : (a b : Bool) → a && b ≡ true → a ≡ true
 left true b h = refl

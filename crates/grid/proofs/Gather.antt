@@ -1,66 +1,88 @@
--- What a walk over a store's shares finds.
-use Rattle.std.proofs.Common.{◌≡◌, ◌⊎◌, ◌^◌, inl, inr, ℕ, zero, suc, ◌<◌, ◌≤◌, Bool, true, false, cond, List, [], ◌∷◌, ◌++◌, length, map, take, Some, None, slice_get, get_or, All, refl, sym, ap, subst, ◌∙◌, arith, nat_eq}
-use Rattle.std.proofs.lemmas.List.{take_all}
-use Rattle.std.proofs.lemmas.Option.{slice_get-map, slice_get_cases}
-use Rattle.std.proofs.lemmas.List.Elements.{All-tail}
-use Rattle.std.proofs.lemmas.List.Sums.{sum_by-cons}
-use Rattle.std.specs.Option.{option_map, option_map_or}
+-- What is gathered of a server's store.
+use Rattle.std.proofs.Common.{◌≡◌, ◌⊎◌, inl, inr, ◌<◌, ◌≤◌, ◌+◌, ℕ, zero, suc, Bool, true, false, cond, List, [], ◌∷◌, ◌++◌, length, map, take, Some, None, slice_get, get_or, All, nat_eq, refl, sym, ap, subst, ◌∙◌, arith}
+use Rattle.std.proofs.lemmas.Option.{slice_get_read}
+use Rattle.std.proofs.lemmas.List.{map-append}
+use Rattle.std.proofs.lemmas.List.Elements.{All-map, All-append, All-nil}
 use Rattle.std.specs.Cmp.Lexicographic.{pointwise}
-use Rattle.std.specs.FinMap.{entries}
-use Rattle.share_store.specs.Shares.{Shares, Entry, bytes_in, bytes_of}
+use Rattle.share_store.specs.Shares.{Shares, Entry}
 use Rattle.share_store.specs.Numbers.{of_index}
-use Rattle.grid.specs.Found.{entries_at, found_in}
+use Rattle.grid.specs.Standing.{standing}
+use Rattle.grid.specs.Found.{entries_at, found_in, found_below, AllBut}
+use Rattle.grid.proofs.Entries.{entry_stands, same_bytes}
+use Rattle.grid.proofs.Standing.{take_more}
 
-pub entries_here : {S : Type 0} (shares : S → Shares) (stores : List S) (i : ℕ) (store : S) → slice_get stores i ≡ Some store → entries_at (map shares stores) i ≡ entries (shares store)
-entries_here shares stores i store at = ap (λ o. option_map_or entries o []) (slice_get-map shares stores i ∙ ap (option_map shares) at)
+-- a share of one index is one of the store, under that index
+pub record IsOfIndex (index : List ℕ) (es : List Entry) (e : Entry) : Type 0 where
+  pub place : ℕ
+  pub at : slice_get es place ≡ Some e
+  pub under : e.0.0 ≡ index
 
--- there are no more shares than bytes
-pub length_le_bytes : (es : List Entry) → All (λ e. 0 < length e.1) es → length es ≤ bytes_in es
-length_le_bytes [] all = omega arith
-length_le_bytes (e ∷ es) all = omega (arith, length_le_bytes es (All-tail (λ e. 0 < length e.1) e es all), all zero e (omega arith), sum_by-cons (λ (f : Entry). length f.1) e es)
+later : (index : List ℕ) (x : Entry) (es : List Entry) (e : Entry) → IsOfIndex index es e → IsOfIndex index (x ∷ es) e
+later index x es e h = record { place = suc h.place; at = h.at; under = h.under }
 
-abbrev row : ℕ → Entry → ℕ × ℕ × List ℕ
+pub of_index_at : (index : List ℕ) (es : List Entry) (i : ℕ) (e : Entry) → slice_get (of_index index es) i ≡ Some e → IsOfIndex index es e
+of_index_at index [] i e at = cc
+of_index_at index (x ∷ es) i e at = by_case (pointwise nat_eq x.0.0 index) refl i at (λ k there. later index x es e (of_index_at index es k e there))
+  where
+    by_case : (b : Bool) → pointwise nat_eq x.0.0 index ≡ b → (i : ℕ) → slice_get (cond b (x ∷ of_index index es) (of_index index es)) i ≡ Some e → ((k : ℕ) → slice_get (of_index index es) k ≡ Some e → IsOfIndex index (x ∷ es) e) → IsOfIndex index (x ∷ es) e
+    by_case true is zero h more = let same : x ≡ e = cc in record { place = 0; at = ap Some same; under = ap (λ (y : Entry). y.0.0) (sym same) ∙ same_bytes x.0.0 index is }
+    by_case true is (suc i) h more = more i h
+    by_case false is i h more = more i h
+
+-- it stands there
+pub stands_at : (maps : List Shares) (server : ℕ) (index : List ℕ) (i : ℕ) (e : Entry) → slice_get (of_index index (entries_at maps server)) i ≡ Some e → standing maps server (index, e.0.1) ≡ Some e.1
+stands_at maps server index i e at =
+    let of_it = of_index_at index (entries_at maps server) i e at in
+    subst (λ (k : List ℕ). standing maps server (k, e.0.1) ≡ Some e.1) of_it.under (entry_stands maps server of_it.place e.0 e.1 of_it.at)
+
+abbrev pub row : ℕ → Entry → ℕ × ℕ × List ℕ
 row server e = (server, e.0.1, e.1)
 
--- one more share was looked at
-pub found_more : (server : ℕ) (index : List ℕ) (es : List Entry) (i : ℕ) (e : Entry) (b : Bool) → slice_get es i ≡ Some e → pointwise nat_eq e.0.0 index ≡ b →
-    found_in server index (take (suc i) es) ≡ found_in server index (take i es) ++ cond b ((server, e.0.1, e.1) ∷ []) []
-found_more server index [] i e b at is = cc
-found_more server index (x ∷ es) zero e b at is =
-    let same : x ≡ e = cc in
-    subst (λ (y : Entry). found_in server index (y ∷ []) ≡ cond b ((server, e.0.1, e.1) ∷ []) []) (sym same)
-    (ap (λ c. map (row server) (cond c (e ∷ []) [])) is ∙ by_case b)
-  where
-    by_case : (c : Bool) → map (row server) (cond c (e ∷ []) []) ≡ cond c ((server, e.0.1, e.1) ∷ []) []
-    by_case true = refl
-    by_case false = refl
-found_more server index (x ∷ es) (suc i) e b at is = by_case (pointwise nat_eq x.0.0 index) (found_more server index es i e b at is)
-  where
-    by_case : (c : Bool) → found_in server index (take (suc i) es) ≡ found_in server index (take i es) ++ cond b ((server, e.0.1, e.1) ∷ []) [] →
-        map (row server) (cond c (x ∷ of_index index (take (suc i) es)) (of_index index (take (suc i) es)))
-        ≡ map (row server) (cond c (x ∷ of_index index (take i es)) (of_index index (take i es))) ++ cond b ((server, e.0.1, e.1) ∷ []) []
-    by_case true rest = ap (λ fs. (server, x.0.1, x.1) ∷ fs) rest
-    by_case false rest = rest
+same_default : (es : List Entry) (i : ℕ) (d : Entry) → i < length es → get_or es i d ≡ get_or es i (get_or es i d)
+same_default [] i d lt = absurd (omega arith)
+same_default (x ∷ es) zero d lt = refl
+same_default (x ∷ es) (suc i) d lt = same_default es i d (omega arith)
 
--- past the last share nothing more is found
-pub found_all : (server : ℕ) (index : List ℕ) (es : List Entry) (i : ℕ) → length es ≤ i → found_in server index (take i es) ≡ found_in server index es
-found_all server index es i past = ap (found_in server index) (take_all i es past)
+all_stand_in : (maps : List Shares) (server : ℕ) (index : List ℕ) → All (λ f. standing maps f.0 (index, f.1) ≡ Some f.2) (found_in server index (entries_at maps server))
+all_stand_in maps server index =
+    let es = of_index index (entries_at maps server) in
+    All-map (λ f. standing maps f.0 (index, f.1) ≡ Some f.2) (row server) es
+    (λ i d lt. stands_at maps server index i (get_or es i d) (slice_get_read es (length es) i (get_or es i d) refl lt (same_default es i d lt)))
+
+-- all that is found stands
+pub all_stand : (maps : List Shares) (index : List ℕ) (n : ℕ) → All (λ f. standing maps f.0 (index, f.1) ≡ Some f.2) (found_below maps index n)
+all_stand maps index zero = All-nil (λ f. standing maps f.0 (index, f.1) ≡ Some f.2)
+all_stand maps index (suc n) = All-append (λ f. standing maps f.0 (index, f.1) ≡ Some f.2) (found_below maps index n) (found_in n index (entries_at maps n)) (all_stand maps index n) (all_stand_in maps n index)
+
+-- one more share was looked at
+pub rows_more : (server : ℕ) (es : List Entry) (i : ℕ) (e : Entry) → slice_get es i ≡ Some e → map (row server) (take (i + 1) es) ≡ map (row server) (take i es) ++ row server e ∷ []
+rows_more server es i e at = ap (map (row server)) (take_more es i e at) ∙ map-append (row server) (take i es) (e ∷ [])
+
+-- the entry of a number
+pub entry_of_number : (es : List Entry) (i n : ℕ) → slice_get (map (λ (e : Entry). e.0.1) es) i ≡ Some n → (e : Entry) × (slice_get es i ≡ Some e) × (e.0.1 ≡ n)
+entry_of_number [] i n at = cc
+entry_of_number (x ∷ es) zero n at = (x, refl, cc)
+entry_of_number (x ∷ es) (suc i) n at = entry_of_number es i n at
+
+pub rows_missing : (P : ℕ × ℕ × List ℕ → Type 0) (server : ℕ) (es : List Entry) → ((e : Entry) → P (row server e)) → AllBut P (map (row server) es) []
+rows_missing P server [] f = refl
+rows_missing P server (e ∷ es) f = inl (f e, rows_missing P server es f)
+
+-- a count that doesn't fall stays or rises
+pub by_calm : (a b : ℕ) → a ≤ b → (a < b → ⊥) → b ≡ a
+by_calm a b le never = grind arith
+
+pub by_rise : (a b : ℕ) → a ≤ b → (b ≡ a → ⊥) → a < b
+by_rise a b le never = grind arith
+
+pub rises_or_stays : (a b : ℕ) → a ≤ b → (Q : Type 0) → (a < b → Q) → (b ≡ a → Q) → Q
+rises_or_stays a b le Q rose calm = by_case (grind arith)
+  where
+    by_case : (b ≡ a) ⊎ (a < b) → Q
+    by_case (inl e) = calm e
+    by_case (inr lt) = rose lt
 
 pub past_end : (es : List Entry) (i : ℕ) → None ≡ slice_get es i → length es ≤ i
-past_end es i none = by_case (slice_get_cases es i).1
-  where
-    by_case : ((x : Entry) × (i < length es) × (slice_get es i ≡ Some x) × (get_or es i x ≡ x)) ⊎ ((length es ≤ i) × (slice_get es i ≡ None)) → length es ≤ i
-    by_case (inl (x, lt, at, read)) = let no = none ∙ at in cc
-    by_case (inr h) = h.0
-
--- an honest store has fewer shares than a 64-bit number says
-pub few_at : {S : Type 0} (honest : S → Type 0) (shares : S → Shares) (held : S → ℕ) →
-    ((store : S) → honest store → held store ≡ bytes_of (shares store)) → ((store : S) → honest store → held store < 2 ^ 64) → ((store : S) → honest store → All (λ e. 0 < length e.1) (entries (shares store))) →
-    (stores : List S) (i : ℕ) → All honest stores → length (entries_at (map shares stores) i) < 2 ^ 64
-few_at {S} honest shares held held_is fits none_empty stores i all = by_case (slice_get_cases stores i).1
-  where
-    by_case : ((x : S) × (i < length stores) × (slice_get stores i ≡ Some x) × (get_or stores i x ≡ x)) ⊎ ((length stores ≤ i) × (slice_get stores i ≡ None)) → length (entries_at (map shares stores) i) < 2 ^ 64
-    by_case (inl (x, lt, at, read)) =
-        let good : honest x = subst honest read (all i x lt) in
-        omega (arith, ap length (entries_here shares stores i x at), length_le_bytes (entries (shares x)) (none_empty x good), held_is x good, fits x good)
-    by_case (inr h) = omega (arith, ap (λ o. length (option_map_or entries o [])) (slice_get-map shares stores i ∙ ap (option_map shares) h.1))
+past_end [] i none = omega arith
+past_end (e ∷ es) zero none = cc
+past_end (e ∷ es) (suc i) none = omega (arith, past_end es i none)

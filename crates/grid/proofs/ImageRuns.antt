@@ -1,5 +1,5 @@
 -- A reading of an image, row by row.
-use Rattle.std.proofs.Common.{◌≡◌, ◌<◌, ◌+◌, ℕ, suc, List, [], ◌∷◌, ◌++◌, length, take, drop, Option, Some, None, IfSome, slice_get, Result, Ok, Err, IsErrOf, IsErrAnd, true, refl, sym, ap, subst, ◌∙◌, arith, append_assoc, append-nil}
+use Rattle.std.proofs.Common.{◌≡◌, ◌<◌, ◌+◌, ℕ, suc, List, [], ◌∷◌, ◌++◌, length, take, drop, Option, Some, None, IfSome, slice_get, Result, Ok, Err, IsErrAnd, true, refl, sym, ap, subst, ◌∙◌, arith, append_assoc, append-nil}
 use Rattle.std.specs.Ordering.{is_lt}
 use Rattle.std.specs.declared.cmp.Ordering.{Ordering}
 use Rattle.std.specs.declared.cmp.Ordering.TheVariants.{Less, Equal, Greater}
@@ -10,13 +10,11 @@ use Rattle.grid.specs.ImageHeads.{head_key, shares_said}
 use Rattle.grid.specs.ImageReading.{Reading, rows_said, image_said, from_said, stopped, preceded, said_row}
 use Rattle.grid.specs.ImageSteps.{SaysRow, Reads}
 use Rattle.std.specs.Io.KnownBytes.{IsAtEnd}
-use Rattle.grid.specs.Counts.{Counts}
-use Rattle.grid.specs.Standing.{at_server}
 use Rattle.grid.specs.Refusals.{IsPartRefusal, IsPutRefusal, IsReaderRefusal}
 use Rattle.grid.specs.declared.image_fields.RowHead.{RowHead}
-use Rattle.grid.specs.declared.error.GridError.{GridError}
-use Rattle.grid.specs.declared.error.GridError.TheVariants.{Full, Down, BadImage}
-use Rattle.grid.proofs.Standing.{key_cmp_total}
+use Rattle.grid.specs.declared.fault.GridFault.{GridFault}
+use Rattle.grid.specs.declared.fault.GridFault.TheVariants.{Full, BadImage}
+use Rattle.share_store.specs.MapLaws.{key_cmp_total}
 use Rattle.grid.proofs.RowPuts.{before_both}
 
 pub row_cmp_total : IsTotalOrder row_cmp
@@ -89,7 +87,7 @@ module _ (all : List ℕ → Reading) (servers : ℕ) (good : Type 0) where
       says_more (Some now) r2 (all bytes) n m place next last held new head own same stands after put s now refl row
 
   -- a row could not be read
-  pub stops_reading : (r0 r1 r2 : Option (List ℕ)) (n m place : ℕ) (last : Option RowKey) (held : List Row) (room : ℕ → ℕ) (error : GridError) → n ≡ suc m → IsPartRefusal error
+  pub stops_reading : (r0 r1 r2 : Option (List ℕ)) (n m place : ℕ) (last : Option RowKey) (held : List Row) (room : ℕ → ℕ) (error : GridFault) → n ≡ suc m → IsPartRefusal error
       → ((p : ℕ) → error ≡ BadImage p → IfSome r1 (λ bytes. (k : ℕ) → rows_said (suc k) servers last place bytes ≡ stopped p))
       → IfSome r0 (λ bytes. SoFar (all bytes) n servers last place r1 good held) → IfSome r0 (λ bytes. Reads (all bytes) (Err error) room good held r2)
   stops_reading None r1 r2 n m place last held room error same part bad s = tt
@@ -103,10 +101,12 @@ module _ (all : List ℕ → Reading) (servers : ℕ) (good : Type 0) where
         rows = λ g. tt;
         bad_image = λ p named.
             let cause : error ≡ BadImage p = cc in
-            ap (λ (r : Reading). r.fault) s.says
-            ∙ ap (λ b. (rows_said n servers last place b).fault) is
-            ∙ ap (λ k. (rows_said k servers last place now).fault) same
-            ∙ ap (λ (r : Reading). r.fault) (bad p cause m);
+            let stops : all bytes ≡ preceded s.first (stopped p) =
+            s.says
+            ∙ ap (λ b. preceded s.first (rows_said n servers last place b)) is
+            ∙ ap (λ k. preceded s.first (rows_said k servers last place now)) same
+            ∙ ap (preceded s.first) (bad p cause m) in
+            (ap (λ (r : Reading). r.fault) stops, λ g. s.stand g ∙ sym (append-nil s.first) ∙ ap (λ (r : Reading). r.rows) (sym stops));
         full = λ server named. let cause : error ≡ Full server = cc in absurd (subst IsPartRefusal cause part);
         err = λ g. record {
           others = (rows_said n servers last place s.bytes).rows;
@@ -114,12 +114,16 @@ module _ (all : List ℕ → Reading) (servers : ℕ) (good : Type 0) where
         };
       }
 
+  take-append : (xs ys : List Row) → take (length xs) (xs ++ ys) ≡ xs
+  take-append [] ys = refl
+  take-append (x ∷ xs) ys = ap (λ l. x ∷ l) (take-append xs ys)
+
   at_behind : (xs ys : List Row) (x : Row) → slice_get (xs ++ x ∷ ys) (length xs) ≡ Some x
   at_behind [] ys x = refl
   at_behind (z ∷ xs) ys x = at_behind xs ys x
 
   -- a row could not be put
-  pub stops_putting : (r0 r1 r2 : Option (List ℕ)) (n m place : ℕ) (last : Option RowKey) (held new : List Row) (head : RowHead) (own : List ℕ) (room : ℕ → ℕ) (error : GridError) → n ≡ suc m
+  pub stops_putting : (r0 r1 r2 : Option (List ℕ)) (n m place : ℕ) (last : Option RowKey) (held new : List Row) (head : RowHead) (own : List ℕ) (room : ℕ → ℕ) (error : GridFault) → n ≡ suc m
       → IsPutRefusal error → ((server : ℕ) → error ≡ Full server → (server ≡ head.server) × (room server < length own)) → (good → new ≡ held)
       → IfSome r0 (λ bytes. SoFar (all bytes) n servers last place r1 good held) → IfSome r1 (λ bytes. SaysRow servers last place bytes r2 head own)
       → IfSome r0 (λ bytes. Reads (all bytes) (Err error) room good new r2)
@@ -147,6 +151,7 @@ module _ (all : List ℕ → Reading) (servers : ℕ) (good : Type 0) where
               at = ap (λ l. slice_get l (length s.first)) joined ∙ at_behind s.first rest (said_row head own);
               here = sym (full server cause).0;
               longer = (full server cause).1;
+              before = λ g. kept g ∙ s.stand g ∙ sym (ap (take (length s.first)) joined ∙ take-append s.first (said_row head own ∷ rest));
             };
         err = λ g. record {
           others = said_row head own ∷ rest;
@@ -155,7 +160,7 @@ module _ (all : List ℕ → Reading) (servers : ℕ) (good : Type 0) where
       }
 
   -- the image doesn't end behind its last row
-  pub stops_at_end : (r0 r1 r2 : Option (List ℕ)) (n place : ℕ) (last : Option RowKey) (held : List Row) (room : ℕ → ℕ) (error : GridError) → n ≡ 0 → IsPartRefusal error
+  pub stops_at_end : (r0 r1 r2 : Option (List ℕ)) (n place : ℕ) (last : Option RowKey) (held : List Row) (room : ℕ → ℕ) (error : GridFault) → n ≡ 0 → IsPartRefusal error
       → ((p : ℕ) → error ≡ BadImage p → (p ≡ place) × IfSome r1 (λ bytes. 0 < length bytes))
       → IfSome r0 (λ bytes. SoFar (all bytes) n servers last place r1 good held) → IfSome r0 (λ bytes. Reads (all bytes) (Err error) room good held r2)
   stops_at_end None r1 r2 n place last held room error none part bad s = tt
@@ -170,11 +175,12 @@ module _ (all : List ℕ → Reading) (servers : ℕ) (good : Type 0) where
         bad_image = λ p named.
             let cause : error ≡ BadImage p = cc in
             let more = bad p cause in
-            ap (λ (r : Reading). r.fault) s.says
-            ∙ ap (λ b. (rows_said n servers last place b).fault) is
-            ∙ ap (λ k. (rows_said k servers last place now).fault) none
-            ∙ too_many now more.1
-            ∙ ap Some (sym more.0);
+            let stops : all bytes ≡ preceded s.first (stopped place) =
+            s.says
+            ∙ ap (λ b. preceded s.first (rows_said n servers last place b)) is
+            ∙ ap (λ k. preceded s.first (rows_said k servers last place now)) none
+            ∙ ap (preceded s.first) (too_many now more.1) in
+            (ap (λ (r : Reading). r.fault) stops ∙ ap Some (sym more.0), λ g. s.stand g ∙ sym (append-nil s.first) ∙ ap (λ (r : Reading). r.rows) (sym stops));
         full = λ server named. let cause : error ≡ Full server = cc in absurd (subst IsPartRefusal cause part);
         err = λ g. record {
           others = (rows_said n servers last place s.bytes).rows;
@@ -182,7 +188,7 @@ module _ (all : List ℕ → Reading) (servers : ℕ) (good : Type 0) where
         };
       }
     where
-      too_many : (l : List ℕ) → 0 < length l → (rows_said 0 servers last place l).fault ≡ Some place
+      too_many : (l : List ℕ) → 0 < length l → rows_said 0 servers last place l ≡ stopped place
       too_many [] lt = absurd (omega arith)
       too_many (b ∷ l) lt = refl
 
@@ -208,7 +214,7 @@ module _ (all : List ℕ → Reading) (servers : ℕ) (good : Type 0) where
       }
 
 -- an error that `?` passed on
-pub reads_passed : (r0 r2 : Option (List ℕ)) (all : List ℕ → Reading) (room : ℕ → ℕ) (good : Type 0) (held : List Row) (result : Result (Unit {0}) GridError) (error : GridError) → IsErrAnd result (λ e. e ≡ error)
+pub reads_passed : (r0 r2 : Option (List ℕ)) (all : List ℕ → Reading) (room : ℕ → ℕ) (good : Type 0) (held : List Row) (result : Result (Unit {0}) GridFault) (error : GridFault) → IsErrAnd result (λ e. e ≡ error)
     → IfSome r0 (λ bytes. Reads (all bytes) (Err error) room good held r2) → IfSome r0 (λ bytes. Reads (all bytes) result room good held r2)
 reads_passed r0 r2 all room good held (Ok x) error same reads = absurd same
 reads_passed r0 r2 all room good held (Err e) error same reads = subst (λ f. IfSome r0 (λ bytes. Reads (all bytes) (Err f) room good held r2)) (sym same) reads
@@ -241,13 +247,13 @@ bad_front (Some bytes) r1 r2 servers front place room good held none came said =
       no_fault = tt;
       end = tt;
       rows = λ g. tt;
-      bad_image = λ p named. ap (λ (r : Reading). r.fault) is ∙ (let same : place ≡ p = cc in ap Some same);
+      bad_image = λ p named. (ap (λ (r : Reading). r.fault) is ∙ (let same : place ≡ p = cc in ap Some same), λ g. none g ∙ ap (λ (r : Reading). r.rows) (sym is));
       full = λ server named. cc;
       err = λ g. record { others = []; joined = ap (λ (r : Reading). r.rows) is ∙ sym (append-nil []) ∙ ap (λ l. l ++ []) (sym (none g)) };
     }
 
 -- the first bytes could not be read
-pub no_front : (r0 r2 : Option (List ℕ)) (all : List ℕ → Reading) (error : GridError) (room : ℕ → ℕ) (good : Type 0) (held : List Row) → (good → held ≡ []) → IsReaderRefusal error
+pub no_front : (r0 r2 : Option (List ℕ)) (all : List ℕ → Reading) (error : GridFault) (room : ℕ → ℕ) (good : Type 0) (held : List Row) → (good → held ≡ []) → IsReaderRefusal error
     → IfSome r0 (λ bytes. Reads (all bytes) (Err error) room good held r2)
 no_front None r2 all error room good held none part = tt
 no_front (Some bytes) r2 all error room good held none part = record {
@@ -259,14 +265,20 @@ no_front (Some bytes) r2 all error room good held none part = record {
   err = λ g. record { others = (all bytes).rows; joined = ap (λ l. l ++ (all bytes).rows) (sym (none g)) };
 }
 
--- no count rose where no store was called
-pub counts_still : {S T : Type 0} (f : S → ℕ) (old new : List S) (result : Result T GridError) → ((s : ℕ) → at_server f new s ≡ at_server f old s) → ((s : ℕ) → IsErrOf result (Down s) → ⊥) → Counts f old new result
-counts_still f old new result calm not_down = record {
-  rises = λ s. omega (arith, calm s);
-  down = λ s. (λ is. absurd (not_down s is), λ rose. absurd (omega (arith, calm s)));
-}
-
 -- what follows from what is known of the reader's bytes
 pub told_too : (o : Option (List ℕ)) (P Q : List ℕ → Type 0) → IfSome o P → ((bytes : List ℕ) → P bytes → Q bytes) → IfSome o Q
 told_too None P Q h f = tt
 told_too (Some bytes) P Q h f = f bytes h
+
+-- the same under a stronger premise
+pub reads_under : {said : Reading} {result : Result (Unit {0}) GridFault} {room : ℕ → ℕ} (good better : Type 0) {held : List Row} {after : Option (List ℕ)} → (better → good) → Reads said result room good held after → Reads said result room better held after
+reads_under good better f reads = record {
+  no_fault = reads.no_fault;
+  end = reads.end;
+  rows = λ b. reads.rows (f b);
+  bad_image = λ place is. ((reads.bad_image place is).0, λ b. (reads.bad_image place is).1 (f b));
+  full = λ server is.
+      let row = reads.full server is in
+      record { place = row.place; row = row.row; at = row.at; here = row.here; longer = row.longer; before = λ b. row.before (f b) };
+  err = λ b. reads.err (f b);
+}

@@ -1,33 +1,14 @@
 -- Bytes that are written in parts, some of them not at all.
-use Rattle.std.proofs.Common.{◌≡◌, ◌⊎◌, inl, inr, get_or, ◌<◌, ◌≤◌, ◌+◌, ◌-◌, ℕ, zero, suc, List, [], ◌∷◌, ◌++◌, length, take, drop, map, Option, Some, slice_get, Result, Ok, Err, OnErr, OnOk, IsErrOf, IsErrAnd, ◌^◌, nat_lt, true, if◌then◌else◌, refl, sym, ap, subst, ◌∙◌, arith, add-one, append_assoc, take-append-drop}
+use Rattle.std.proofs.Common.{◌≡◌, ◌⊎◌, inl, inr, get_or, ◌<◌, ◌+◌, ℕ, zero, suc, List, [], ◌∷◌, ◌++◌, length, take, drop, map, Option, Some, slice_get, Result, Ok, Err, OnErr, OnOk, IsErrOf, IsErrAnd, ◌^◌, nat_lt, true, if◌then◌else◌, refl, sym, ap, subst, ◌∙◌, arith, add-one, append_assoc}
 use Rattle.std.specs.List.{flat_map}
 use Rattle.std.specs.Option.{option_map}
 use Rattle.std.specs.Io.KnownBytes.{Appends}
 use Rattle.std.proofs.KnownBytes.{Appends-trans}
-use Rattle.std.proofs.Math.Seq.{take-add}
 use Rattle.std.proofs.lemmas.Bool.{lt-ltb}
-use Rattle.std.proofs.lemmas.List.{length-drop, take_all}
 use Rattle.std.proofs.lemmas.Option.{slice_get-map, get_or_from_slice_get}
 use Rattle.grid.specs.Rows.{Row}
 use Rattle.grid.specs.Image.{refused_field, refused_place}
 use Rattle.grid.specs.Written.{WritesBeginning}
-
-rest_of : (bytes : List ℕ) (written : ℕ) → take (length bytes - written) (drop written bytes) ≡ drop written bytes
-rest_of bytes written = take_all (length bytes - written) (drop written bytes) (omega (arith, length-drop written bytes))
-
--- one more part was written
-pub write_more : (a b c : Option (List ℕ)) (bytes : List ℕ) (written count : ℕ) → Appends a b (take written bytes) → Appends b c (take count (take (length bytes - written) (drop written bytes)))
-    → Appends a c (take (written + count) bytes)
-write_more a b c bytes written count before now =
-    subst (Appends a c) (ap (λ l. take written bytes ++ take count l) (rest_of bytes written) ∙ sym (take-add written count bytes))
-    (Appends-trans a b c (take written bytes) (take count (take (length bytes - written) (drop written bytes))) before now)
-
-pub within_more : (bytes : List ℕ) (written count : ℕ) → written ≤ length bytes → count ≤ length (take (length bytes - written) (drop written bytes)) → written + count ≤ length bytes
-within_more bytes written count within bound = omega (arith, ap length (rest_of bytes written), length-drop written bytes)
-
--- so many bytes were written
-pub stopped_at : (a b : Option (List ℕ)) (bytes : List ℕ) (n : ℕ) → Appends a b (take n bytes) → WritesBeginning bytes a b
-stopped_at a b bytes n done = record { beginning = take n bytes; rest = drop n bytes; begins = sym (take-append-drop n bytes); written = done }
 
 -- a beginning of what stands first
 pub stopped_before : (a b : Option (List ℕ)) (front back : List ℕ) → WritesBeginning front a b → WritesBeginning (front ++ back) a b
@@ -120,3 +101,12 @@ one_more P xs i x at before here k d lt = by_case (grind arith)
 pub ok_both : {T E : Type 0} (result : Result T E) (P Q R : Type 0) → OnOk result P → OnOk result Q → (P → Q → R) → OnOk result R
 ok_both (Ok x) P Q R p q f = f p q
 ok_both (Err e) P Q R p q f = tt
+
+-- what follows of an answer's clause
+pub ok_then : {T E : Type 0} (r : Result T E) (P Q : Type 0) → (P → Q) → OnOk r P → OnOk r Q
+ok_then (Ok x) P Q f p = f p
+ok_then (Err e) P Q f p = tt
+
+pub err_then : {T E : Type 0} (r : Result T E) (P Q : Type 0) → (P → Q) → OnErr r P → OnErr r Q
+err_then (Ok x) P Q f p = tt
+err_then (Err e) P Q f p = f p

@@ -1,10 +1,15 @@
+pub mod Calls
 pub mod EmptyStores
 pub mod Entries
+pub mod FaultReads
+pub mod FoundAll
 pub mod Gather
 pub mod ImageReads
 pub mod ImageRuns
 pub mod ImageSteps
 pub mod ImageWrites
+pub mod Missing
+pub mod Puts
 pub mod ReadBack
 pub mod ReadExact
 pub mod RowFacts

@@ -18,20 +18,20 @@ use Rattle.grid.specs.declared.image_fields.RowHead.{RowHead}
 use Rattle.grid.proofs.Entries.{same_bytes}
 use Rattle.grid.proofs.RowFacts.{AllRows, all_from}
 
-abbrev Low : List ℕ → Type 0
+abbrev pub Low : List ℕ → Type 0
 Low [] = Unit {0}
 Low (b ∷ bytes) = (b < 256) × Low bytes
 
-low_from : (bytes : List ℕ) → All (λ b. b < 256) bytes → Low bytes
+pub low_from : (bytes : List ℕ) → All (λ b. b < 256) bytes → Low bytes
 low_from [] all = tt
 low_from (b ∷ bytes) all = (all zero b (omega arith), low_from bytes (λ k d lt. all (suc k) d (omega arith)))
 
-low_drop : (n : ℕ) (bytes : List ℕ) → Low bytes → Low (drop n bytes)
+pub low_drop : (n : ℕ) (bytes : List ℕ) → Low bytes → Low (drop n bytes)
 low_drop zero bytes low = low
 low_drop (suc n) [] low = tt
 low_drop (suc n) (b ∷ bytes) low = low_drop n bytes low.1
 
-low_take : (n : ℕ) (bytes : List ℕ) → Low bytes → Low (take n bytes)
+pub low_take : (n : ℕ) (bytes : List ℕ) → Low bytes → Low (take n bytes)
 low_take zero bytes low = tt
 low_take (suc n) [] low = tt
 low_take (suc n) (b ∷ bytes) low = (low.0, low_take n bytes low.1)
@@ -59,18 +59,18 @@ module _ {T : Type 0} where
   only true e r x h = (refl, h)
   only false e r x h = cc
 
-record GoodHead (servers : ℕ) (last : Option RowKey) (bytes : List ℕ) (head : RowHead) : Type 0 where
-  long : 28 ≤ length bytes
-  server : head.server ≡ number_at bytes 0
-  index : head.index ≡ take 16 (drop 4 bytes)
-  number : head.number ≡ number_at bytes 20
-  size : head.length ≡ number_at bytes 24
-  in_range : head.server < servers
-  after : comes_after last (head_key head) ≡ true
-  small : head.number < 256
-  some : 0 < head.length
+pub record GoodHead (servers : ℕ) (last : Option RowKey) (bytes : List ℕ) (head : RowHead) : Type 0 where
+  pub long : 28 ≤ length bytes
+  pub server : head.server ≡ number_at bytes 0
+  pub index : head.index ≡ take 16 (drop 4 bytes)
+  pub number : head.number ≡ number_at bytes 20
+  pub size : head.length ≡ number_at bytes 24
+  pub in_range : head.server < servers
+  pub after : comes_after last (head_key head) ≡ true
+  pub small : head.number < 256
+  pub some : 0 < head.length
 
-good_head : (servers : ℕ) (last : Option RowKey) (bytes : List ℕ) (head : RowHead) → head_said servers last bytes ≡ Ok head → GoodHead servers last bytes head
+pub good_head : (servers : ℕ) (last : Option RowKey) (bytes : List ℕ) (head : RowHead) → head_said servers last bytes ≡ Ok head → GoodHead servers last bytes head
 good_head servers last bytes head said =
     let t0 = unless (nat_lt (length bytes) 4) 0 _ head said in
     let t1 = only (nat_lt (number_at bytes 0) servers) 0 _ head t0.1 in
@@ -106,7 +106,7 @@ by_fields front long =
     ∙ ap (λ l. l ++ drop 24 front) (take-add 20 4 front ∙ ap (λ l. l ++ take 4 (drop 20 front)) (take-add 4 16 front))
     ∙ ap (λ l. ((take 4 front ++ take 16 (drop 4 front)) ++ take 4 (drop 20 front)) ++ l) (sym rest)
 
-head_joined : (servers : ℕ) (last : Option RowKey) (front own : List ℕ) (head : RowHead) → Low front → length front ≡ 28 → GoodHead servers last front head → length own ≡ head.length
+pub head_joined : (servers : ℕ) (last : Option RowKey) (front own : List ℕ) (head : RowHead) → Low front → length front ≡ 28 → GoodHead servers last front head → length own ≡ head.length
     → front ≡ row_head (said_row head own)
 head_joined servers last front own head low long good size =
     by_fields front long
@@ -130,8 +130,20 @@ number_fits bytes at low =
     let each : (i : ℕ) → get_or four i 0 < 256 = low_at four (low_take 4 (drop at bytes) (low_drop at bytes low)) in
     omega (arith, each 0, each 1, each 2, each 3)
 
-both : (a b : Bool) → a ≡ true → b ≡ true → a && b ≡ true
+pub both : (a b : Bool) → a ≡ true → b ≡ true → a && b ≡ true
 both a b p q = rw (p, q) refl
+
+-- a row with a good head is in range
+pub head_in_range : (servers : ℕ) (last : Option RowKey) (front own : List ℕ) (head : RowHead) → Low front → length front ≡ 28 → GoodHead servers last front head → length own ≡ head.length
+    → IsInRange servers (said_row head own)
+head_in_range servers last front own head low long good size =
+    record {
+      server = good.in_range;
+      index = ap length good.index ∙ length-take-le 16 (drop 4 front) (omega (arith, length-drop 4 front));
+      number = good.small;
+      some = omega (arith, good.some);
+      short = omega (arith, number_fits front 24 low, good.size);
+    }
 
 -- a row whose head is good and whose own bytes are there
 row_joined : (n servers : ℕ) (last : Option RowKey) (bytes : List ℕ) (head : RowHead) (rows : List Row) → Low bytes → head_said servers last (take 28 bytes) ≡ Ok head → head.length ≤ length (drop 28 bytes)
@@ -151,16 +163,7 @@ row_joined n servers last bytes head rows low said enough more =
           ∙ ap (λ l. row_head row ++ l) (sym (take-append-drop head.length body) ∙ ap (λ l. own ++ l) more.joined)
           ∙ sym (append_assoc (row_head row) own (flat_map row_bytes rows));
       counted = omega (arith, more.counted);
-      ranged = (
-        record {
-          server = good.in_range;
-          index = ap length good.index ∙ length-take-le 16 (drop 4 front) (omega (arith, length-drop 4 front));
-          number = good.small;
-          some = omega (arith, good.some);
-          short = omega (arith, number_fits front 24 low_front, good.size);
-        },
-        more.ranged,
-      );
+      ranged = (head_in_range servers last front own head low_front long good size, more.ranged);
       ordered = both (comes_after last (row_key row)) (in_order (Some (row_key row)) rows) good.after more.ordered;
     }
 
@@ -184,13 +187,13 @@ rows_exactly (suc n) servers last place bytes low none =
 
 -- ---- the whole image
 
-record GoodFront (servers : ℕ) (bytes : List ℕ) (count : ℕ) : Type 0 where
-  long : 16 ≤ length bytes
-  name : take 8 bytes ≡ codes "TGRIDIM1"
-  said : number_at bytes 8 ≡ servers
-  counted : number_at bytes 12 ≡ count
+pub record GoodFront (servers : ℕ) (bytes : List ℕ) (count : ℕ) : Type 0 where
+  pub long : 16 ≤ length bytes
+  pub name : take 8 bytes ≡ codes "TGRIDIM1"
+  pub said : number_at bytes 8 ≡ servers
+  pub counted : number_at bytes 12 ≡ count
 
-good_front : (servers : ℕ) (bytes : List ℕ) (count : ℕ) → shares_said servers bytes ≡ Ok count → GoodFront servers bytes count
+pub good_front : (servers : ℕ) (bytes : List ℕ) (count : ℕ) → shares_said servers bytes ≡ Ok count → GoodFront servers bytes count
 good_front servers bytes count said =
     let t0 = only (pointwise nat_eq (take 8 bytes) (codes "TGRIDIM1")) 0 _ count said in
     let t1 = unless (nat_lt (length bytes) 12) 8 _ count t0.1 in
@@ -204,7 +207,7 @@ good_front servers bytes count said =
       counted = cc;
     }
 
-front_joined : (servers : ℕ) (front : List ℕ) (count : ℕ) → Low front → length front ≡ 16 → GoodFront servers front count → front ≡ image_head servers count
+pub front_joined : (servers : ℕ) (front : List ℕ) (count : ℕ) → Low front → length front ≡ 16 → GoodFront servers front count → front ≡ image_head servers count
 front_joined servers front count low long good =
     let rest : take 4 (drop 12 front) ≡ drop 12 front = take_all 4 (drop 12 front) (omega (arith, length-drop 12 front)) in
     sym (take-append-drop 12 front)

@@ -1,9 +1,8 @@
 -- What holds of the rows of maps.
-use Rattle.std.proofs.Common.{◌≡◌, ◌⊎◌, inl, inr, ◌<◌, ◌≤◌, ◌+◌, ◌^◌, ℕ, zero, suc, List, [], ◌∷◌, ◌++◌, length, map, All, Option, Some, None, Bool, true, false, ◌&&◌, ◌==◌, nat_lt, if◌then◌else◌, slice_get, get_or, refl, sym, ap, subst, ◌∙◌, arith, append-nil}
+use Rattle.std.proofs.Common.{◌≡◌, ◌⊎◌, inl, inr, ◌<◌, ◌≤◌, ◌+◌, ◌^◌, ℕ, zero, suc, List, [], ◌∷◌, ◌++◌, length, map, All, Option, Some, None, Bool, true, false, ◌&&◌, ◌==◌, nat_lt, if◌then◌else◌, slice_get, refl, sym, ap, subst, ◌∙◌, arith, append-nil}
 use Rattle.std.proofs.lemmas.Bool.{lt-ltb, le-ltb}
 use Rattle.std.proofs.lemmas.Bool.Decides.{nat_tests}
-use Rattle.std.proofs.lemmas.Option.{slice_get-map, slice_get_cases}
-use Rattle.std.specs.Option.{option_map, option_map_or}
+use Rattle.std.specs.Option.{option_map_or}
 use Rattle.std.specs.declared.cmp.Ordering.{Ordering}
 use Rattle.std.specs.declared.cmp.Ordering.TheVariants.{Less, Equal}
 use Rattle.std.specs.Ordering.{is_lt, ordering_then, nat_cmp}
@@ -175,15 +174,6 @@ can_be_written maps servers same fits none sized some =
           (joined_facts servers (rows_of maps) placed (fields_fit 16 (rows_of maps) counted.1) (rows_from (λ row. length row.1.0.0 ≡ 16) (rows_of maps) sized));
       ordered = rows_ordered maps;
     }
-
--- the shares of honest stores aren't empty
-pub none_empty_at : {S : Type 0} (honest : S → Type 0) (shares : S → Shares) → ((store : S) → honest store → All (λ e. 0 < length e.1) (entries (shares store))) →
-    (stores : List S) → All honest stores → (i : ℕ) → All (λ e. 0 < length e.1) (entries_at (map shares stores) i)
-none_empty_at {S} honest shares none_empty stores all i = by_case (slice_get_cases stores i).1
-  where
-    by_case : ((x : S) × (i < length stores) × (slice_get stores i ≡ Some x) × (get_or stores i x ≡ x)) ⊎ ((length stores ≤ i) × (slice_get stores i ≡ None)) → All (λ e. 0 < length e.1) (entries_at (map shares stores) i)
-    by_case (inl (x, lt, at, read)) = subst (All (λ e. 0 < length e.1)) (sym (ap (λ o. option_map_or entries o []) (slice_get-map shares stores i ∙ ap (option_map shares) at))) (none_empty x (subst honest read (all i x lt)))
-    by_case (inr h) = subst (All (λ e. 0 < length e.1)) (sym (ap (λ o. option_map_or entries o []) (slice_get-map shares stores i ∙ ap (option_map shares) h.1))) (λ k d lt. absurd (omega arith))
 
 -- ---- maps by their rows
 

@@ -1,13 +1,5 @@
 -- Rows that are gathered one by one.
-use Rattle.std.proofs.Common.{◌≡◌, ◌<◌, ◌+◌, ℕ, zero, suc, List, [], ◌∷◌, ◌++◌, map, take, Some, slice_get, Ok, ap, ◌∙◌, arith, add-one}
-use Rattle.grid.specs.Standing.{at_server}
-use Rattle.grid.specs.Counts.{Counts}
-
--- no count rose in a call that was not refused
-pub calm_after : {S T : Type 0} (f : S → ℕ) (old new : List S) (x : T) → Counts f old new (Ok x) → (s : ℕ) → at_server f new s ≡ at_server f old s
-calm_after f old new x counts s =
-    let not_risen : at_server f old s < at_server f new s → ⊥ = λ rose. (let is = (counts.down s).1 rose in cc) in
-    grind (arith, counts.rises s)
+use Rattle.std.proofs.Common.{◌≡◌, ◌+◌, ℕ, zero, suc, List, [], ◌∷◌, ◌++◌, map, take, Some, slice_get, ap, ◌∙◌, add-one}
 
 -- one more of the mapped elements
 more_mapped : {A B : Type 0} (f : A → B) (xs : List A) (i : ℕ) (x : A) → slice_get xs i ≡ Some x → map f (take (suc i) xs) ≡ map f (take i xs) ++ f x ∷ []

@@ -1,10 +1,9 @@
 -- A row that is put behind all others.
-use Rattle.std.proofs.Common.{◌≡◌, ◌⊎◌, inl, inr, ◌<◌, ◌≤◌, ◌+◌, ℕ, zero, suc, cond, ◌==◌, List, [], ◌∷◌, ◌++◌, length, map, Some, None, slice_get, slice_set, is_some, if◌then◌else◌, refl, sym, ap, subst, ◌∙◌, arith, append_assoc, append-nil, length-set, get_or}
-use Rattle.std.proofs.Math.Seq.{map-set_same}
+use Rattle.std.proofs.Common.{◌≡◌, ◌⊎◌, inl, inr, ◌<◌, ◌≤◌, ℕ, zero, suc, cond, ◌==◌, List, [], ◌∷◌, ◌++◌, length, map, Some, None, slice_get, slice_set, is_some, if◌then◌else◌, refl, sym, ap, subst, ◌∙◌, arith, append_assoc, append-nil, length-set, get_or}
 use Rattle.std.proofs.lemmas.Bool.Decides.{nat_tests}
-use Rattle.std.proofs.lemmas.List.{length-map, map-append, map-set}
-use Rattle.std.proofs.lemmas.Option.{slice_get-map}
-use Rattle.std.specs.Option.{option_map, option_map_or}
+use Rattle.std.proofs.lemmas.List.{map-append}
+use Rattle.std.proofs.lemmas.Option.{slice_get_cases}
+use Rattle.std.specs.Option.{option_map_or}
 use Rattle.std.specs.declared.cmp.Ordering.{Ordering}
 use Rattle.std.specs.declared.cmp.Ordering.TheVariants.{Less, Equal, Greater}
 use Rattle.std.specs.Ordering.{is_eq, ordering_then, ordering_reverse, nat_cmp}
@@ -14,10 +13,11 @@ use Rattle.std.specs.FinMap.Entries.{put, by_order}
 use Rattle.share_store.specs.Shares.{Shares, ShareKey, Entry, key_cmp}
 use Rattle.share_store.specs.Put.{put_once}
 use Rattle.grid.specs.Found.{entries_at}
-use Rattle.grid.specs.Standing.{at_server}
 use Rattle.grid.specs.Rows.{Row, rows_below, rows_of}
 use Rattle.grid.specs.RowOrder.{RowKey, AllBefore}
-use Rattle.grid.proofs.Standing.{key_cmp_total, get-set, at_server-set, at_server-get}
+use Rattle.share_store.specs.MapLaws.{key_cmp_total}
+use Rattle.grid.specs.OneStore.{with_changed}
+use Rattle.grid.proofs.Standing.{get-set}
 
 -- ---- in one store
 
@@ -130,21 +130,12 @@ module _ (maps : List Shares) (s : ℕ) (m : Shares) (key : ShareKey) (bytes : L
   pub put_behind : AllBefore (rows_of maps) (s, key) → rows_of after ≡ rows_of maps ++ row ∷ []
   put_behind before = ap (rows_below after) (length-set maps s (put_once m key bytes)) ∙ from_it (length maps) in_range before
 
--- the rows of the stores, after a share was put at one of them
-pub rows_put : {S : Type 0} (shares : S → Shares) (stores : List S) (i : ℕ) (old new : S) (key : ShareKey) (bytes : List ℕ) → i < length stores → slice_get stores i ≡ Some old
-    → shares new ≡ put_once (shares old) key bytes → AllBefore (rows_of (map shares stores)) (i, key)
-    → rows_of (map shares (slice_set stores i new)) ≡ rows_of (map shares stores) ++ (i, (key, bytes)) ∷ []
-rows_put shares stores i old new key bytes in_range at put before =
-    ap rows_of (map-set shares stores i new ∙ ap (slice_set (map shares stores) i) put)
-    ∙ put_behind (map shares stores) i (shares old) key bytes (omega (arith, length-map stores shares)) (slice_get-map shares stores i ∙ ap (option_map shares) at) before
-
--- a store that stands as it stood leaves the rows
-pub rows_kept : {S : Type 0} (shares : S → Shares) (stores : List S) (i : ℕ) (old new : S) → old ≡ get_or stores i old → shares new ≡ shares old
-    → rows_of (map shares (slice_set stores i new)) ≡ rows_of (map shares stores)
-rows_kept shares stores i old new read same = ap rows_of (map-set_same shares stores i new old (same ∙ ap shares read))
-
--- room and bytes held, after a change of one store that keeps their sum
-pub room_kept : {S : Type 0} (room held : S → ℕ) (stores : List S) (i : ℕ) (old new : S) → i < length stores → slice_get stores i ≡ Some old → room new + held new ≡ room old + held old → (s : ℕ) →
-    at_server room (slice_set stores i new) s + at_server held (slice_set stores i new) s ≡ at_server room stores s + at_server held stores s
-room_kept room held stores i old new in_range at same s =
-    grind (arith, nat_tests, at_server-set room stores i new in_range s, at_server-set held stores i new in_range s, at_server-get room stores i old at, at_server-get held stores i old at)
+-- the rows of a grid, after a share was put at one server
+pub rows_put : (maps after : List Shares) (s : ℕ) (key : ShareKey) (bytes : List ℕ) → s < length maps → after ≡ with_changed s (λ m. put_once m key bytes) maps → AllBefore (rows_of maps) (s, key)
+    → rows_of after ≡ rows_of maps ++ (s, (key, bytes)) ∷ []
+rows_put maps after s key bytes in_range is before = by_case (slice_get_cases maps s).1
+  where
+    by_case : ((m : Shares) × (s < length maps) × (slice_get maps s ≡ Some m) × (get_or maps s m ≡ m)) ⊎ ((length maps ≤ s) × (slice_get maps s ≡ None)) → rows_of after ≡ rows_of maps ++ (s, (key, bytes)) ∷ []
+    by_case (inl (m, lt, at, read)) =
+        ap rows_of (is ∙ ap (λ o. option_map_or (λ n. slice_set maps s (put_once n key bytes)) o maps) at) ∙ put_behind maps s m key bytes in_range at before
+    by_case (inr h) = absurd (omega arith)

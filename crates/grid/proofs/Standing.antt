@@ -1,9 +1,7 @@
 -- What one store's call does to what stands in a grid.
-use Rattle.std.proofs.Common.{◌≡◌, ◌⊎◌, inl, inr, ℕ, zero, suc, ◌<◌, ◌≤◌, ◌+◌, ◌↔◌, Bool, true, false, cond, ◌==◌, List, [], ◌∷◌, length, Option, Some, None, slice_get, slice_set, Result, Ok, Err, IsErrOf, IsErrAnd, IfErr, if◌then◌else◌, refl, sym, ap, subst, ◌∙◌, arith, unwrap_or, ◌&&◌, option_and_then, is_some, nat_lt, nat_cmp, All, get_or, ◌++◌, take, map, add-one, length-take-le, length-append}
-use Rattle.std.proofs.lemmas.List.{length-map}
-use Rattle.std.proofs.lemmas.Option.{slice_get_read, slice_get_within, slice_get-map}
+use Rattle.std.proofs.Common.{◌≡◌, ◌⊎◌, inl, inr, ℕ, zero, suc, ◌<◌, ◌≤◌, ◌+◌, ◌↔◌, Bool, true, false, cond, ◌==◌, List, [], ◌∷◌, length, Option, Some, None, slice_get, slice_set, if◌then◌else◌, refl, sym, ap, subst, ◌∙◌, arith, unwrap_or, ◌&&◌, option_and_then, is_some, nat_lt, nat_cmp, ◌++◌, take, map, add-one, length-take-le, length-append}
+use Rattle.std.proofs.lemmas.Option.{slice_get_within, slice_get-map}
 use Rattle.std.specs.Option.{option_map, option_map_or}
-use Rattle.std.proofs.lemmas.Map.Lookups.{CmpEqualImpliesEq, exact_unsigned, exact_bytes, exact_pairs}
 use Rattle.std.proofs.lemmas.Map.Views.{tells_apart}
 use Rattle.std.specs.Cmp.Lexicographic.{slice_cmp}
 use Rattle.std.proofs.lemmas.Bool.Decides.{nat_tests}
@@ -11,22 +9,16 @@ use Rattle.std.proofs.lemmas.List.{set_past}
 use Rattle.std.specs.Ordering.{eq_by_cmp, is_eq, ordering_then}
 use Rattle.std.specs.declared.cmp.Ordering.{Ordering}
 use Rattle.std.specs.declared.cmp.Ordering.TheVariants.{Less, Equal, Greater}
-use Rattle.std.specs.Cmp.{IsTotalOrder, nat_cmp_is, nat_cmp_total, then_total, on_total}
-use Rattle.std.specs.Cmp.Lexicographic.{nat_list_cmp_total}
+use Rattle.std.specs.Cmp.{nat_cmp_is}
 use Rattle.std.specs.FinMap.{get, insert, get-insert}
 use Rattle.share_store.specs.Shares.{Shares, ShareKey, key_cmp}
+use Rattle.share_store.specs.MapLaws.{key_cmp_total, key_cmp_exact}
 use Rattle.share_store.specs.Put.{put_once}
 use Rattle.share_store.specs.Toggle.{toggled, with_toggle, has_byte, bytes_at}
 use Rattle.grid.specs.Standing.{Standing, at_server}
 use Rattle.grid.specs.Standing.{standing as standing_in}
 use Rattle.grid.specs.Changes.{changed_at, put_at}
 use Rattle.grid.specs.Placement.{placed, server_of}
-use Rattle.grid.specs.Counts.{Counts}
-use Rattle.grid.specs.declared.error.GridError.{GridError}
-use Rattle.grid.specs.declared.error.GridError.TheVariants.{Down}
-
-pub key_cmp_total : IsTotalOrder key_cmp
-key_cmp_total = then_total (on_total (λ k. k.0) nat_list_cmp_total) (on_total (λ k. k.1) nat_cmp_total)
 
 -- what stands in these stores
 abbrev pub standing : {S : Type 0} → (S → Shares) → List S → Standing
@@ -71,20 +63,6 @@ module _ {S : Type 0} where
   -- a number that is the same at its server is the same of its store
   pub same_there : (f : S → ℕ) (stores : List S) (i : ℕ) (old new : S) → i < length stores → slice_get stores i ≡ Some old → at_server f (slice_set stores i new) i ≡ at_server f stores i → f new ≡ f old
   same_there f stores i old new lt at same = grind (arith, nat_tests, at_server-set f stores i new lt i, at_server-get f stores i old at)
-
-  -- the counts after a call of one store
-  pub counts : {T : Type 0} (f : S → ℕ) (stores : List S) (n i : ℕ) (old new : S) (result : Result T GridError) → n ≡ length stores → i < n → old ≡ get_or stores i old → f old ≤ f new →
-      ((s : ℕ) → IsErrOf result (Down s) → s ≡ i) → (IsErrOf result (Down i) ↔ (f old < f new)) → Counts f stores (slice_set stores i new) result
-  counts f stores n i old new result counted lt read le which down =
-      let at : slice_get stores i ≡ Some old = slice_get_read stores n i old counted lt read in
-      let in_range : i < length stores = omega arith in
-      record {
-        rises = λ s. grind (arith, nat_tests, at_server-set f stores i new in_range s, at_server-get f stores i old at);
-        down = λ s. (
-          λ e. (rises_where f stores i old new in_range at s).1 (which s e, down.0 (subst (λ t. IsErrOf result (Down t)) (which s e) e)),
-          λ lt. let w = (rises_where f stores i old new in_range at s).0 lt in subst (λ t. IsErrOf result (Down t)) (sym w.0) (down.1 w.1),
-        );
-      }
 
   -- what stands, after one store was replaced
   pub standing-set : (shares : S → Shares) (stores : List S) (i : ℕ) (store : S) → i < length stores → (s : ℕ) (q : ShareKey) → standing shares (slice_set stores i store) s q ≡ (if s == i then get (shares store) q else standing shares stores s q)
@@ -134,10 +112,6 @@ module _ {S : Type 0} (shares : S → Shares) (stores : List S) (i : ℕ) (old n
   standing_same same =
       standing_by_maps shares (slice_set stores i new) ∙ stood_same shares stores i old new lt at same ∙ sym (standing_by_maps shares stores)
 
--- keys that compare alike are one
-key_cmp_exact : CmpEqualImpliesEq key_cmp
-key_cmp_exact = exact_pairs (slice_cmp nat_cmp) nat_cmp exact_bytes exact_unsigned
-
 module _ (m : Shares) (key : ShareKey) where
   tied : (q : ShareKey) → eq_by_cmp key_cmp q key ≡ true → get m q ≡ get m key
   tied q t = ap (get m) (tells_apart key_cmp_exact q key t)
@@ -179,19 +153,6 @@ module _ (m : Shares) (key : ShareKey) where
       choice (λ n. get n q) (has_byte m key place) (insert m key (toggled (bytes_at m key) place)) m
       ∙ ap (λ o. cond (has_byte m key place) o (get m q)) (get-insert key_cmp_total m key (toggled (bytes_at m key) place) q)
       ∙ toggled_or_kept (get m q) (get m key) place (eq_by_cmp key_cmp q key) (tied q)
-
--- the store that a call is made on
-pub record IsStoreAt {S : Type 0} (honest : S → Type 0) (stores : List S) (i : ℕ) (old : S) : Type 0 where
-  pub in_range : i < length stores
-  pub at : slice_get stores i ≡ Some old
-  pub is_honest : honest old
-
-pub store_at : {S : Type 0} (honest : S → Type 0) (stores : List S) (n i : ℕ) (old : S) → n ≡ length stores → i < n → old ≡ get_or stores i old → All honest stores → IsStoreAt honest stores i old
-store_at honest stores n i old counted lt read all = record {
-  in_range = omega arith;
-  at = slice_get_read stores n i old counted lt read;
-  is_honest = subst honest (sym read) (all i old (omega arith));
-}
 
 is_eq-nat_cmp : (a b : ℕ) → is_eq (nat_cmp a b) ≡ (a == b)
 is_eq-nat_cmp a b = by_case (grind arith)
@@ -248,21 +209,24 @@ placed_snoc count index xs x before =
     ∙ ap (λ t. if s == server_of count index n && t then Some (unwrap_or earlier x) else earlier) (sym (key_test q index n)) in
     λ j s q. point s q j
 
--- one more of the mapped elements
-take_map_next : {A B : Type 0} (f : A → B) (xs : List A) (i : ℕ) (x : A) → slice_get xs i ≡ Some x → take (suc i) (map f xs) ≡ take i (map f xs) ++ f x ∷ []
-take_map_next f [] i x at = cc
-take_map_next f (y ∷ ys) zero x at = let same : y ≡ x = cc in ap (λ z. f z ∷ []) same
-take_map_next f (y ∷ ys) (suc i) x at = ap (λ t. f y ∷ t) (take_map_next f ys i x at)
+-- one more of the elements
+take_next : {A : Type 0} (xs : List A) (i : ℕ) (x : A) → slice_get xs i ≡ Some x → take (suc i) xs ≡ take i xs ++ x ∷ []
+take_next [] i x at = cc
+take_next (y ∷ ys) zero x at = let same : y ≡ x = cc in ap (λ z. z ∷ []) same
+take_next (y ∷ ys) (suc i) x at = ap (λ t. y ∷ t) (take_next ys i x at)
+
+pub take_more : {A : Type 0} (xs : List A) (i : ℕ) (x : A) → slice_get xs i ≡ Some x → take (i + 1) xs ≡ take i xs ++ x ∷ []
+take_more xs i x at = ap (λ n. take n xs) (add-one i) ∙ take_next xs i x at
 
 -- after share i was put too
-pub placed_next : {A : Type 0} (bytes_of : A → List ℕ) (count : ℕ) (index : List ℕ) (shares : List A) (i : ℕ) (share : A) (before : Standing) → slice_get shares i ≡ Some share →
-    placed count index (take (i + 1) (map bytes_of shares)) before ≡ put_at (server_of count index i) (index, i) (bytes_of share) (placed count index (take i (map bytes_of shares)) before)
-placed_next bytes_of count index shares i share before at =
-    let so_far = take i (map bytes_of shares) in
-    let counted : length so_far ≡ i = omega (arith, length-take-le i (map bytes_of shares) (omega (arith, length-map shares bytes_of, slice_get_within shares i share at))) in
-    ap (λ t. placed count index t before) (ap (λ n. take n (map bytes_of shares)) (add-one i) ∙ take_map_next bytes_of shares i share at)
-    ∙ placed_snoc count index so_far (bytes_of share) before
-    ∙ ap (λ n. put_at (server_of count index n) (index, n) (bytes_of share) (placed count index so_far before)) counted
+pub placed_next : (count : ℕ) (index : List ℕ) (shares : List (List ℕ)) (i : ℕ) (share : List ℕ) (before : Standing) → slice_get shares i ≡ Some share →
+    placed count index (take (i + 1) shares) before ≡ put_at (server_of count index i) (index, i) share (placed count index (take i shares) before)
+placed_next count index shares i share before at =
+    let so_far = take i shares in
+    let counted : length so_far ≡ i = omega (arith, length-take-le i shares (omega (arith, slice_get_within shares i share at))) in
+    ap (λ t. placed count index t before) (take_more shares i share at)
+    ∙ placed_snoc count index so_far share before
+    ∙ ap (λ n. put_at (server_of count index n) (index, n) share (placed count index so_far before)) counted
 
 -- before any share was put
 pub placed_none : (count : ℕ) (index : List ℕ) (before : Standing) → placed count index [] before ≡ before
@@ -274,12 +238,3 @@ placed_none count index before =
     nothing true k true b = grind (arith, nat_tests)
     nothing true k false b = grind (arith, nat_tests)
     nothing false k t b = refl
-
--- an error that `?` passed on
-pub passed_on : {T E : Type 0} (result : Result T E) (error : E) (Q : E → Type 0) → IsErrAnd result (λ e. e ≡ error) → Q error → IfErr result Q
-passed_on (Ok x) error Q same q = tt
-passed_on (Err e) error Q same q = subst Q (sym same) q
-
-pub passed_error : {T E : Type 0} (result : Result T E) (error : E) → IsErrAnd result (λ e. e ≡ error) → result ≡ Err error
-passed_error (Ok x) error same = absurd same
-passed_error (Err e) error same = ap Err same

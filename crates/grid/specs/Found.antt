@@ -1,5 +1,5 @@
 -- The shares of one storage index, server by server.
-use Rattle.std.specs.Prelude.{ℕ, zero, suc, List, [], ◌++◌, map, slice_get}
+use Rattle.std.specs.Prelude.{◌≡◌, ◌⊎◌, ℕ, zero, suc, List, [], ◌∷◌, ◌++◌, map, slice_get}
 use Rattle.std.specs.Option.{option_map_or}
 use Rattle.std.specs.FinMap.{entries}
 use Rattle.share_store.specs.Shares.{Shares, Entry}
@@ -21,3 +21,8 @@ found_below maps index (suc n) = found_below maps index n ++ found_in n index (e
 -- a found share as its numbers and bytes
 abbrev pub seen : {A : Type 0} → (A → List ℕ) → ℕ × ℕ × A → ℕ × ℕ × List ℕ
 seen bytes found = (found.0, found.1, bytes found.2)
+
+-- all of these in their order, less some of those that may be missing
+abbrev pub AllBut : {A : Type 0} → (A → Type 0) → List A → List A → Type 0
+AllBut may_miss [] given = given ≡ []
+AllBut {A} may_miss (x ∷ all) given = (may_miss x × AllBut may_miss all given) ⊎ ((rest : List A) × (given ≡ x ∷ rest) × AllBut may_miss all rest)

@@ -22,15 +22,15 @@ preceded first reading = record { rows = first ++ reading.rows; fault = reading.
 abbrev pub said_row : RowHead → List ℕ → Row
 said_row head bytes = (head.server, ((head.index, head.number), bytes))
 
--- One row, whose first bytes said this and whose own bytes stand in front of `body`, and then those behind it. Its
--- first fault stands behind its first 28 bytes where its own are cut off.
+-- One row, whose first bytes said this and whose own bytes stand in front of `body`, and then those after it. Its
+-- first fault stands after its first 28 bytes where its own are cut off.
 abbrev pub with_row : Result RowHead ℕ → ℕ → List ℕ → (RowHead → Reading) → Reading
 with_row (Err offset) place body next = stopped (place + offset)
 with_row (Ok head) place body next =
     if nat_lt (length body) head.length then stopped (place + 28)
     else preceded (said_row head (take head.length body) ∷ []) (next head)
 
--- so many rows, which stand at this place behind a row of this key, and then the end
+-- so many rows, which stand at this place after a row of this key, and then the end
 abbrev pub rows_said : ℕ → ℕ → Option RowKey → ℕ → List ℕ → Reading
 rows_said zero servers last place [] = record { rows = []; fault = None }
 rows_said zero servers last place (b ∷ bytes) = stopped place

@@ -1,12 +1,9 @@
--- Which refusals a call gives, and what a refused put of shares leaves.
-use Rattle.std.specs.Prelude.{◌≡◌, ℕ, ◌<◌, List, length, take, None}
-use Rattle.grid.specs.declared.error.GridError.{GridError}
-use Rattle.grid.specs.declared.error.GridError.TheVariants.{Full, Down, NoServer, BadImage, ReadFailed, WriteFailed, NoMemory}
-use Rattle.grid.specs.Standing.{Standing}
-use Rattle.grid.specs.Placement.{server_of, placed}
+-- Which refusals a call gives.
+use Rattle.grid.specs.declared.fault.GridFault.{GridFault}
+use Rattle.grid.specs.declared.fault.GridFault.TheVariants.{Full, Down, NoServer, BadImage, ReadFailed, WriteFailed, NoMemory}
 
 -- a refusal of a call that puts shares
-abbrev pub IsPutRefusal : GridError → Type 0
+abbrev pub IsPutRefusal : GridFault → Type 0
 IsPutRefusal (Full s) = Unit {0}
 IsPutRefusal (Down s) = Unit {0}
 IsPutRefusal NoServer = ⊥
@@ -16,7 +13,7 @@ IsPutRefusal WriteFailed = ⊥
 IsPutRefusal NoMemory = Unit {0}
 
 -- a refusal of a call that changes one share
-abbrev pub IsChangeRefusal : GridError → Type 0
+abbrev pub IsChangeRefusal : GridFault → Type 0
 IsChangeRefusal (Full s) = ⊥
 IsChangeRefusal (Down s) = Unit {0}
 IsChangeRefusal NoServer = Unit {0}
@@ -26,7 +23,7 @@ IsChangeRefusal WriteFailed = ⊥
 IsChangeRefusal NoMemory = Unit {0}
 
 -- a refusal of a call that only looks
-abbrev pub IsLookRefusal : GridError → Type 0
+abbrev pub IsLookRefusal : GridFault → Type 0
 IsLookRefusal (Full s) = ⊥
 IsLookRefusal (Down s) = Unit {0}
 IsLookRefusal NoServer = ⊥
@@ -36,7 +33,7 @@ IsLookRefusal WriteFailed = ⊥
 IsLookRefusal NoMemory = Unit {0}
 
 -- a refusal of a call that writes an image
-abbrev pub IsWriteRefusal : GridError → Type 0
+abbrev pub IsWriteRefusal : GridFault → Type 0
 IsWriteRefusal (Full s) = ⊥
 IsWriteRefusal (Down s) = Unit {0}
 IsWriteRefusal NoServer = ⊥
@@ -46,7 +43,7 @@ IsWriteRefusal WriteFailed = Unit {0}
 IsWriteRefusal NoMemory = Unit {0}
 
 -- a refusal of a call that only reads bytes
-abbrev pub IsReaderRefusal : GridError → Type 0
+abbrev pub IsReaderRefusal : GridFault → Type 0
 IsReaderRefusal (Full s) = ⊥
 IsReaderRefusal (Down s) = ⊥
 IsReaderRefusal NoServer = ⊥
@@ -56,7 +53,7 @@ IsReaderRefusal WriteFailed = ⊥
 IsReaderRefusal NoMemory = Unit {0}
 
 -- a refusal of a call that reads a part of an image
-abbrev pub IsPartRefusal : GridError → Type 0
+abbrev pub IsPartRefusal : GridFault → Type 0
 IsPartRefusal (Full s) = ⊥
 IsPartRefusal (Down s) = ⊥
 IsPartRefusal NoServer = ⊥
@@ -66,7 +63,7 @@ IsPartRefusal WriteFailed = ⊥
 IsPartRefusal NoMemory = Unit {0}
 
 -- a refusal of a call that reads an image
-abbrev pub IsReadRefusal : GridError → Type 0
+abbrev pub IsReadRefusal : GridFault → Type 0
 IsReadRefusal (Full s) = Unit {0}
 IsReadRefusal (Down s) = Unit {0}
 IsReadRefusal NoServer = ⊥
@@ -74,11 +71,3 @@ IsReadRefusal (BadImage place) = Unit {0}
 IsReadRefusal ReadFailed = Unit {0}
 IsReadRefusal WriteFailed = ⊥
 IsReadRefusal NoMemory = Unit {0}
-
--- A put of shares was stopped by share n: just those before it were put, and a refusal names its server.
-pub record StopsAt (count : ℕ) (index : List ℕ) (shares : List (List ℕ)) (before after : Standing) (error : GridError) (n : ℕ) : Type 0 where
-  pub in_range : n < length shares
-  pub stands : after ≡ placed count index (take n shares) before
-  pub full : (s : ℕ) → error ≡ Full s → s ≡ server_of count index n
-  pub down : (s : ℕ) → error ≡ Down s → s ≡ server_of count index n
-  pub none_stood : (s : ℕ) → error ≡ Full s → after s (index, n) ≡ None

@@ -35,7 +35,7 @@ pub fn shares_in(bytes: &[u8], servers: usize) -> Result<u32, u64>
 }
 
 /// What stands before a share's bytes, or the place there of the first fault, where these are its 28 bytes or all that
-/// there are, behind the row that is given.
+/// there are, after the row that is given.
 pub fn head_in(bytes: &[u8], servers: usize, last: &Option<RowHead>) -> Result<RowHead, u64>
     ensures said { result ≡ head_said servers (option_map head_key last.now) bytes.now }
     ensures offset { IfErr result (λ offset. offset ≤ 24) }

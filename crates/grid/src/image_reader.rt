@@ -4,19 +4,19 @@ ghost use Rattle.std.specs.Prelude.{length as length_of};
 ghost use Rattle.std.specs.Option.{option_map};
 ghost use Rattle.std.specs.Rc.{rc_slice_items};
 ghost use Rattle.std.specs.Io.KnownBytes.{IsAtEnd};
-ghost use Rattle.grid.specs.Counts.{Counts};
-ghost use Rattle.grid.specs.Standing.{at_server};
+ghost use Rattle.grid.specs.GridState.{states, maps_of, room_at, failures_at, IsHonest, NoneFailed};
+ghost use Rattle.grid.specs.Leaves.{Leaves, TellsDown, IsUnchanged};
 ghost use Rattle.grid.specs.Rows.{rows_of};
 ghost use Rattle.grid.specs.Refusals.{IsReaderRefusal, IsPartRefusal, IsPutRefusal, IsReadRefusal};
 ghost use Rattle.grid.specs.RowOrder.{comes_after, AllBefore};
 ghost use Rattle.grid.specs.ImageHeads.{head_key};
 ghost use Rattle.grid.specs.ImageReading.{image_said, rows_said, said_row, stopped};
-ghost use Rattle.grid.specs.ImageSteps.{SaysRow, Reads, HasLongRow, AreFirst};
+ghost use Rattle.grid.specs.ImageSteps.{SaysRow, Reads, RefusesRow, AreFirst};
 
 use crate::image_fields::{RowHead, head_in, shares_in};
 use crate::image_writer::CALL_LIMIT;
-use crate::{Grid, GridError};
-use share_store::{Store, StoreError};
+use crate::{Grid, GridFault};
+use share_store::Store;
 use std::alloc::Global;
 use std::io::{ErrorKind, Read};
 use std::rc::RcSlice;
@@ -31,48 +31,59 @@ impl<S: Store> Grid<S> {
     ///
     /// A share is put once it was wholly read, and memory is asked for as its bytes come. Refused, where there is no
     /// grid and the stores are handed back with the shares that were put:
-    /// - [`GridError::BadImage`] at the image's first fault, with its place in bytes from 0: that of the first field
+    /// - [`GridFault::BadImage`] at the image's first fault, with its place in bytes from 0: that of the first field
     ///   that is cut off, out of its range or out of order (for a share that is, of its server), or of the first byte
     ///   too many;
-    /// - [`GridError::Full`] where a share is longer than the room of its server's store;
-    /// - [`GridError::Down`] just where that server's store failed;
-    /// - [`GridError::ReadFailed`] where the reader failed, or after 2^40 calls of it, or where the image has more bytes
+    /// - [`GridFault::Full`] where a share is longer than the room of its server's store;
+    /// - [`GridFault::Down`] exactly when that server's store failed;
+    /// - [`GridFault::ReadFailed`] where the reader failed, or after 2^40 calls of it, or where the image has more bytes
     ///   than 64 bits count;
-    /// - [`GridError::NoMemory`].
+    /// - [`GridFault::NoMemory`].
     pub fn read_image<R: Read>(
         alloc: Global,
         stores: Vec<S>,
         reader: &mut R,
-    ) -> Result<Self, (GridError, Vec<S>)>
+    ) -> Result<Self, (GridFault, Vec<S>)>
         requires some { 0 < vec_len stores }
         requires few { vec_len stores ≤ 256 }
         requires empty { All (λ store. S.held store ≡ 0) stores.items }
-        ensures count { MatchResult result (λ grid. vec_len grid.stores ≡ vec_len stores)
-            (λ refusal. vec_len refusal.1 ≡ vec_len stores) }
-        ensures calm { IfOk result (λ grid. (s : ℕ) →
-            at_server S.failures grid.stores.items s ≡ at_server S.failures stores.items s) }
-        ensures counts { IfErr result (λ refusal.
-            Counts {T = Unit {0}} S.failures stores.items refusal.1.items (Err refusal.0)) }
+        ensures leaves { MatchResult result
+            (Leaves (states S.shares S.room S.held S.failures S.honest stores.items))
+            (λ refusal. Leaves (states S.shares S.room S.held S.failures S.honest stores.items)
+            (states S.shares S.room S.held S.failures S.honest refusal.1.items)) }
+        ensures calm { IfOk result (NoneFailed
+            (states S.shares S.room S.held S.failures S.honest stores.items)) }
+        ensures down { IfErr result (λ refusal. TellsDown {T = Unit {0}}
+            (states S.shares S.room S.held S.failures S.honest stores.items)
+            (states S.shares S.room S.held S.failures S.honest refusal.1.items) (Err refusal.0)) }
         ensures refusals { IfErr result (λ refusal. IsReadRefusal refusal.0) }
 
         // Where the reader tells its bytes, they are the image.
         ensures no_fault { OnOk result (IfSome (R.remaining reader.old)
             (λ bytes. (image_said (vec_len stores) bytes).fault ≡ None)) }
-        ensures end { OnOk result (OnSome (R.remaining reader.old) (IsAtEnd (R.remaining reader.new))) }
-        ensures bad_image { IfErr result (λ refusal. (place : ℕ) → refusal.0 ≡ GridError.BadImage place →
-            IfSome (R.remaining reader.old) (λ bytes. (image_said (vec_len stores) bytes).fault ≡ Some place)) }
-        ensures full { IfErr result (λ refusal. (server : ℕ) → refusal.0 ≡ GridError.Full server →
-            IfSome (R.remaining reader.old) (λ bytes. HasLongRow (image_said (vec_len stores) bytes).rows server
-            (at_server S.room refusal.1.items server))) }
+        ensures end { OnOk result (OnSome (R.remaining reader.old)
+            (IsAtEnd (R.remaining reader.new))) }
+        ensures bad_image { IfErr result (λ refusal. (place : ℕ) →
+            refusal.0 ≡ GridFault.BadImage place → IfSome (R.remaining reader.old)
+            (λ bytes. ((image_said (vec_len stores) bytes).fault ≡ Some place)
+            × (IsHonest (states S.shares S.room S.held S.failures S.honest stores.items) →
+            rows_of (maps_of (states S.shares S.room S.held S.failures S.honest refusal.1.items))
+            ≡ (image_said (vec_len stores) bytes).rows))) }
+        ensures full { IfErr result (λ refusal. (server : ℕ) →
+            refusal.0 ≡ GridFault.Full server → IfSome (R.remaining reader.old)
+            (λ bytes. RefusesRow (image_said (vec_len stores) bytes).rows server
+            (room_at (states S.shares S.room S.held S.failures S.honest refusal.1.items) server)
+            (IsHonest (states S.shares S.room S.held S.failures S.honest stores.items))
+            (rows_of (maps_of (states S.shares S.room S.held S.failures S.honest refusal.1.items))))) }
 
-        ensures honest { All S.honest stores.items →
-            MatchResult result (λ grid. All S.honest grid.stores.items) (λ refusal. All S.honest refusal.1.items) }
-        ensures ok { All S.honest stores.items → IfOk result (λ grid. IfSome (R.remaining reader.old)
-            (λ bytes. rows_of (map S.shares grid.stores.items) ≡ (image_said (vec_len stores) bytes).rows)) }
-        ensures err { All S.honest stores.items → IfErr result (λ refusal. IfSome (R.remaining reader.old)
-            (λ bytes. AreFirst (rows_of (map S.shares refusal.1.items)) (image_said (vec_len stores) bytes).rows)) }
-        ensures room { All S.honest stores.items → IfErr result (λ refusal. (s : ℕ) →
-            at_server S.room refusal.1.items s + at_server S.held refusal.1.items s ≡ at_server S.room stores.items s) }
+        ensures ok { IsHonest (states S.shares S.room S.held S.failures S.honest stores.items) →
+            IfOk result (λ grid. IfSome (R.remaining reader.old)
+            (λ bytes. rows_of (maps_of grid) ≡ (image_said (vec_len stores) bytes).rows)) }
+        ensures err { IsHonest (states S.shares S.room S.held S.failures S.honest stores.items) →
+            IfErr result (λ refusal. IfSome (R.remaining reader.old)
+            (λ bytes. AreFirst
+            (rows_of (maps_of (states S.shares S.room S.held S.failures S.honest refusal.1.items)))
+            (image_said (vec_len stores) bytes).rows)) }
     {
         let mut grid = Grid::new(stores);
         match grid.take_image(alloc, reader) {
@@ -84,87 +95,70 @@ impl<S: Store> Grid<S> {
         }
     }
 
-    // Takes the shares of an image into its stores, which are empty.
-    fn take_image<R: Read>(&mut self, alloc: Global, reader: &mut R) -> Result<(), GridError>
-        ensures count { vec_len self.new.stores ≡ vec_len self.old.stores }
-        ensures counts { Counts S.failures self.old.stores.items self.new.stores.items result }
+    /// Takes the shares of an image into its stores, which are empty.
+    fn take_image<R: Read>(&mut self, alloc: Global, reader: &mut R) -> Result<(), GridFault>
+        ensures leaves { Leaves self.old self.new }
+        ensures down { TellsDown self.old self.new result }
         ensures refusals { IfErr result IsReadRefusal }
-        ensures honest { All S.honest self.old.stores.items → All S.honest self.new.stores.items }
-        ensures room { All S.honest self.old.stores.items → (s : ℕ) →
-            at_server S.room self.new.stores.items s + at_server S.held self.new.stores.items s
-            ≡ at_server S.room self.old.stores.items s + at_server S.held self.old.stores.items s }
-        ensures reads { IfSome (R.remaining reader.old) (λ bytes. Reads (image_said (vec_len self.old.stores) bytes) result
-            (at_server S.room self.new.stores.items)
-            (All S.honest self.old.stores.items × (rows_of (map S.shares self.old.stores.items) ≡ []))
-            (rows_of (map S.shares self.new.stores.items)) (R.remaining reader.new)) }
+        ensures reads { IfSome (R.remaining reader.old) (λ bytes. Reads (image_said (length_of self.old) bytes) result
+            (room_at self.new)
+            (IsHonest self.old × (rows_of (maps_of self.old) ≡ []))
+            (rows_of (maps_of self.new)) (R.remaining reader.new)) }
     {
         let mut calls = CALL_LIMIT;
         let mut front = [0; 16];
         let came = fill(reader, &mut calls, &mut front)?;
-        match shares_in(&front[..came], self.stores.len()) {
+        match shares_in(&front[..came], self.servers()) {
             Ok(count) => self.take_rows(alloc, reader, &mut calls, count),
-            Err(place) => Err(GridError::BadImage(place)),
+            Err(place) => Err(GridFault::BadImage(place)),
         }
     }
 
-    // Takes so many rows into its stores, which are empty, and then the image's end.
+    /// Takes so many rows into its stores, which are empty, and then the image's end.
     fn take_rows<R: Read>(
         &mut self,
         alloc: Global,
         reader: &mut R,
         calls: &mut u64,
         count: u32,
-    ) -> Result<(), GridError>
-        ensures count { vec_len self.new.stores ≡ vec_len self.old.stores }
-        ensures counts { Counts S.failures self.old.stores.items self.new.stores.items result }
+    ) -> Result<(), GridFault>
+        ensures leaves { Leaves self.old self.new }
+        ensures down { TellsDown self.old self.new result }
         ensures refusals { IfErr result IsReadRefusal }
-        ensures honest { All S.honest self.old.stores.items → All S.honest self.new.stores.items }
-        ensures room { All S.honest self.old.stores.items → (s : ℕ) →
-            at_server S.room self.new.stores.items s + at_server S.held self.new.stores.items s
-            ≡ at_server S.room self.old.stores.items s + at_server S.held self.old.stores.items s }
-        ensures reads { IfSome (R.remaining reader.old) (λ bytes. Reads (rows_said count (vec_len self.old.stores) None 16 bytes) result
-            (at_server S.room self.new.stores.items)
-            (All S.honest self.old.stores.items × (rows_of (map S.shares self.old.stores.items) ≡ []))
-            (rows_of (map S.shares self.new.stores.items)) (R.remaining reader.new)) }
+        ensures reads { IfSome (R.remaining reader.old) (λ bytes. Reads (rows_said count (length_of self.old) None 16 bytes) result
+            (room_at self.new)
+            (IsHonest self.old × (rows_of (maps_of self.old) ≡ []))
+            (rows_of (maps_of self.new)) (R.remaining reader.new)) }
     {
+        let servers = self.servers();
         let mut place = 16;
         let mut last = None;
         for done in 0..count {
-            let row = read_row(alloc, reader, calls, self.stores.len(), &last, place)?;
+            let row = read_row(alloc, reader, calls, servers, &last, place)?;
             place = row.next;
             last = Some(row.head);
-            self.put_row(row.head, row.bytes)?;
+            let _put = self.put_row(row.head, row.bytes)?;
         }
         expect_end(reader, calls, place)?;
         Ok(())
     }
 
-    // Puts a share that was read behind all others.
-    fn put_row(&mut self, head: RowHead, bytes: RcSlice<u8>) -> Result<(), GridError>
-        requires server { head.server < vec_len self.old.stores }
+    /// Puts a share that was read after all others.
+    fn put_row(&mut self, head: RowHead, bytes: RcSlice<u8>) -> Result<bool, GridFault>
+        requires server { head.server < length_of self.old }
         requires some { 0 < length_of (rc_slice_items bytes) }
-        ensures count { vec_len self.new.stores ≡ vec_len self.old.stores }
-        ensures counts { Counts S.failures self.old.stores.items self.new.stores.items result }
+        ensures leaves { Leaves self.old self.new }
+        ensures down { TellsDown self.old self.new result }
         ensures refusals { IfErr result IsPutRefusal }
-        ensures full { (s : ℕ) → IsErrOf result (GridError.Full s) →
-            (s ≡ head.server) × (at_server S.room self.new.stores.items s < length_of (rc_slice_items bytes)) }
-        ensures honest { All S.honest self.old.stores.items → All S.honest self.new.stores.items }
-        ensures ok { All S.honest self.old.stores.items → AllBefore (rows_of (map S.shares self.old.stores.items)) (head_key head) →
-            OnOk result (rows_of (map S.shares self.new.stores.items)
-            ≡ rows_of (map S.shares self.old.stores.items) ++ said_row head (rc_slice_items bytes) ∷ []) }
-        ensures err { All S.honest self.old.stores.items →
-            OnErr result (rows_of (map S.shares self.new.stores.items) ≡ rows_of (map S.shares self.old.stores.items)) }
-        ensures room { All S.honest self.old.stores.items → (s : ℕ) →
-            at_server S.room self.new.stores.items s + at_server S.held self.new.stores.items s
-            ≡ at_server S.room self.old.stores.items s + at_server S.held self.old.stores.items s }
+        ensures full { (s : ℕ) → IsErrOf result (GridFault.Full s) →
+            (s ≡ head.server) × (room_at self.new s < length_of (rc_slice_items bytes)) }
+        ensures ok { IsHonest self.old → AllBefore (rows_of (maps_of self.old)) (head_key head) →
+            OnOk result (rows_of (maps_of self.new)
+            ≡ rows_of (maps_of self.old) ++ said_row head (rc_slice_items bytes) ∷ []) }
+        ensures err { IsHonest self.old →
+            OnErr result (rows_of (maps_of self.new) ≡ rows_of (maps_of self.old)) }
     {
-        let server = head.server as usize;
-        match self.stores[server].put(head.index, head.number, bytes) {
-            Ok(_) => Ok(()),
-            Err(StoreError::Full) => Err(GridError::Full(server)),
-            Err(StoreError::Down) => Err(GridError::Down(server)),
-            Err(StoreError::NoMemory) => Err(GridError::NoMemory),
-        }
+        self.put_one(head.server as usize, head.index, head.number, bytes)
     }
 }
 
@@ -176,7 +170,7 @@ struct ShareRow {
     next: u64,
 }
 
-/// Reads the row that stands at this place, behind the row that is given. `ReadFailed` also where 64 bits don't count
+/// Reads the row that stands at this place, after the row that is given. `ReadFailed` also where 64 bits don't count
 /// the place of the next.
 fn read_row<R: Read>(
     alloc: Global,
@@ -185,7 +179,7 @@ fn read_row<R: Read>(
     servers: usize,
     last: &Option<RowHead>,
     place: u64,
-) -> Result<ShareRow, GridError>
+) -> Result<ShareRow, GridFault>
     ensures refusals { IfErr result IsPartRefusal }
     ensures server { IfOk result (λ row. row.head.server < servers) }
     ensures after { IfOk result (λ row. comes_after (option_map head_key last.now) (head_key row.head) ≡ true) }
@@ -194,37 +188,37 @@ fn read_row<R: Read>(
     ensures next { IfOk result (λ row. row.next ≡ place + 28 + row.head.length) }
     ensures told { IfOk result (λ row. IfSome (R.remaining reader.old)
         (λ left. SaysRow servers (option_map head_key last.now) place left (R.remaining reader.new) row.head (rc_slice_items row.bytes))) }
-    ensures bad_image { (p : ℕ) → IsErrOf result (GridError.BadImage p) → IfSome (R.remaining reader.old)
+    ensures bad_image { (p : ℕ) → IsErrOf result (GridFault.BadImage p) → IfSome (R.remaining reader.old)
         (λ left. (n : ℕ) → rows_said (suc n) servers (option_map head_key last.now) place left ≡ stopped p) }
 {
     let Some(own_place) = place.checked_add(28) else {
-        return Err(GridError::ReadFailed);
+        return Err(GridFault::ReadFailed);
     };
     let mut front = [0; 28];
     let came = fill(reader, calls, &mut front)?;
     let head = match head_in(&front[..came], servers, last) {
         Ok(head) => head,
-        Err(offset) => return Err(GridError::BadImage(place + offset)),
+        Err(offset) => return Err(GridFault::BadImage(place + offset)),
     };
     let Some(next) = own_place.checked_add(u64::from(head.length)) else {
-        return Err(GridError::ReadFailed);
+        return Err(GridFault::ReadFailed);
     };
     let Some(bytes) = read_bytes(alloc, reader, calls, head.length as usize)? else {
-        return Err(GridError::BadImage(own_place));
+        return Err(GridFault::BadImage(own_place));
     };
     let bytes = RcSlice::from_vec(bytes)?;
     Ok(ShareRow { head, bytes, next })
 }
 
 /// Refuses an image that goes on at this place, where it has to end.
-fn expect_end<R: Read>(reader: &mut R, calls: &mut u64, place: u64) -> Result<(), GridError>
+fn expect_end<R: Read>(reader: &mut R, calls: &mut u64, place: u64) -> Result<(), GridFault>
     ensures refusals { IfErr result IsPartRefusal }
     ensures ok { OnOk result (IfSome (R.remaining reader.old) (λ left. (left ≡ []) × (R.remaining reader.new ≡ Some []))) }
-    ensures bad_image { (p : ℕ) → IsErrOf result (GridError.BadImage p) → (p ≡ place) × IfSome (R.remaining reader.old) (λ left. 0 < length_of left) }
+    ensures bad_image { (p : ℕ) → IsErrOf result (GridFault.BadImage p) → (p ≡ place) × IfSome (R.remaining reader.old) (λ left. 0 < length_of left) }
 {
     let mut next = [0; 1];
     if fill(reader, calls, &mut next)? > 0 {
-        return Err(GridError::BadImage(place));
+        return Err(GridFault::BadImage(place));
     }
     Ok(())
 }
@@ -235,7 +229,7 @@ fn read_bytes<R: Read>(
     reader: &mut R,
     calls: &mut u64,
     count: usize,
-) -> Result<Option<Vec<u8>>, GridError>
+) -> Result<Option<Vec<u8>>, GridFault>
     ensures refusals { IfErr result IsReaderRefusal }
     ensures count { IfOk result (λ read. IfSome read (λ bytes. vec_len bytes ≡ count)) }
     ensures told { IfOk result (λ read. IfSome (R.remaining reader.old) (λ left. MatchOption read (length_of left < count)
@@ -257,7 +251,7 @@ fn read_piece<R: Read>(
     calls: &mut u64,
     bytes: &mut Vec<u8>,
     count: usize,
-) -> Result<bool, GridError>
+) -> Result<bool, GridFault>
     requires { vec_len bytes.old + count < 2 ^ 64 }
     ensures refusals { IfErr result IsReaderRefusal }
     ensures length { IfOk result (λ whole. vec_len bytes.new ≡ vec_len bytes.old + count) }
@@ -275,7 +269,7 @@ fn read_piece<R: Read>(
 }
 
 /// Reads until the buffer is full or the reader's bytes end, and says how many bytes came.
-fn fill<R: Read>(reader: &mut R, calls: &mut u64, buffer: &mut [u8]) -> Result<usize, GridError>
+fn fill<R: Read>(reader: &mut R, calls: &mut u64, buffer: &mut [u8]) -> Result<usize, GridFault>
     ensures refusals { IfErr result IsReaderRefusal }
     ensures bound { IfOk result (λ came. came ≤ length_of buffer.new) }
     ensures told { IfOk result (λ came. IfSome (R.remaining reader.old) (λ left.
@@ -284,7 +278,7 @@ fn fill<R: Read>(reader: &mut R, calls: &mut u64, buffer: &mut [u8]) -> Result<u
     let mut came = 0;
     while came < buffer.len() {
         if *calls == 0 {
-            return Err(GridError::ReadFailed);
+            return Err(GridFault::ReadFailed);
         }
         *calls -= 1;
         match reader.read(&mut buffer[came..]) {
@@ -292,7 +286,7 @@ fn fill<R: Read>(reader: &mut R, calls: &mut u64, buffer: &mut [u8]) -> Result<u
             Ok(count) => came += count,
             Err(error) => {
                 if error.kind() != ErrorKind::Interrupted {
-                    return Err(GridError::ReadFailed);
+                    return Err(GridFault::ReadFailed);
                 }
             }
         }

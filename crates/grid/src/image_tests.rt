@@ -1,9 +1,12 @@
 //! What no clause says of images: their bytes, each fault of an image, and readers, writers and stores that fail.
-ghost use Rattle.std.specs.Prelude.{◌≡◌, ◌<◌, ◌≤◌, ◌+◌, All, IfOk, map, vec_len, if◌then◌else◌};
+ghost use Rattle.std.specs.Prelude.{◌≡◌, ◌<◌, ◌≤◌, All, IfOk, vec_len};
+ghost use Rattle.std.specs.Prelude.{length as length_of};
+ghost use Rattle.grid.specs.GridState.{states, maps_of, IsHonest};
 
-use crate::{Grid, GridError, image_laws};
-use share_store::{MemStore, Share, Store, StoreError};
-use std::alloc::{AllocError, Global};
+use crate::laws::image_laws;
+use crate::{Grid, GridFault};
+use share_store::{FailAt, MemStore, Store};
+use std::alloc::Global;
 use std::io;
 use std::io::{ErrorKind, Read, Write};
 use std::rc::RcSlice;
@@ -24,7 +27,7 @@ fn stores_of(alloc: Global, count: usize, room: u64) -> Result<Vec<MemStore>, Fa
 }
 
 // What comes of an image that is read into five stores.
-fn read(alloc: Global, image: &[u8]) -> Result<Result<Grid<MemStore>, GridError>, Fail> {
+fn read(alloc: Global, image: &[u8]) -> Result<Result<Grid<MemStore>, GridFault>, Fail> {
     let mut reader = image;
     let stores = stores_of(alloc, 5, 1_000)?;
     match Grid::read_image(alloc, stores, &mut reader) {
@@ -36,7 +39,7 @@ fn read(alloc: Global, image: &[u8]) -> Result<Result<Grid<MemStore>, GridError>
     }
 }
 
-fn fault(alloc: Global, image: &[u8]) -> Result<Option<GridError>, Fail> {
+fn fault(alloc: Global, image: &[u8]) -> Result<Option<GridFault>, Fail> {
     Ok(read(alloc, image)?.err())
 }
 
@@ -92,18 +95,18 @@ fn an_image_that_is_no_grid_of_five_is_refused_at_its_first_fault(
     rt: HostRuntime,
 ) -> Result<(), Fail> {
     let alloc = rt.alloc();
-    assert_eq!(rt; fault(alloc, &[])?, Some(GridError::BadImage(0)));
-    assert_eq!(rt; fault(alloc, &EMPTY[..10])?, Some(GridError::BadImage(8)));
-    assert_eq!(rt; fault(alloc, &EMPTY[..15])?, Some(GridError::BadImage(12)));
+    assert_eq!(rt; fault(alloc, &[])?, Some(GridFault::BadImage(0)));
+    assert_eq!(rt; fault(alloc, &EMPTY[..10])?, Some(GridFault::BadImage(8)));
+    assert_eq!(rt; fault(alloc, &EMPTY[..15])?, Some(GridFault::BadImage(12)));
     let mut longer = Vec::from_slice(alloc, &EMPTY)?;
     longer.push(0)?;
-    assert_eq!(rt; fault(alloc, &longer)?, Some(GridError::BadImage(16)));
+    assert_eq!(rt; fault(alloc, &longer)?, Some(GridFault::BadImage(16)));
     let mut four = EMPTY;
     four[11] = 4;
-    assert_eq!(rt; fault(alloc, &four)?, Some(GridError::BadImage(8)));
+    assert_eq!(rt; fault(alloc, &four)?, Some(GridFault::BadImage(8)));
     let mut second = EMPTY;
     second[7] = b'2';
-    assert_eq!(rt; fault(alloc, &second)?, Some(GridError::BadImage(0)));
+    assert_eq!(rt; fault(alloc, &second)?, Some(GridFault::BadImage(0)));
     Ok(())
 }
 
@@ -112,13 +115,13 @@ fn copied<S: Store, T: Store>(
     alloc: Global,
     grid: &mut Grid<S>,
     stores: Vec<T>,
-) -> Result<Grid<T>, (GridError, Vec<T>)>
+) -> Result<Grid<T>, (GridFault, Vec<T>)>
     requires some { 0 < vec_len stores }
     requires few { vec_len stores ≤ 256 }
-    requires many { vec_len stores ≡ vec_len grid.old.stores }
+    requires many { vec_len stores ≡ length_of grid.old }
     requires empty { All (λ store. T.held store ≡ 0) stores.items }
-    ensures same { All S.honest grid.old.stores.items → All T.honest stores.items →
-        IfOk result (λ copy. map T.shares copy.stores.items ≡ map S.shares grid.old.stores.items) }
+    ensures same { IsHonest grid.old → IsHonest (states T.shares T.room T.held T.failures T.honest stores.items) →
+        IfOk result (λ copy. maps_of copy ≡ maps_of grid.old) }
 {
     image_laws();
     let mut image = Vec::new(alloc);
@@ -133,7 +136,7 @@ fn copied<S: Store, T: Store>(
 fn a_grid_is_copied_by_its_image(rt: HostRuntime) -> Result<(), Fail> {
     let mut grid = read(rt.alloc(), &three(rt.alloc())?)??;
     assert!(rt; grid.spoil(3, [2; 16], 255, 0)?);
-    let stores = stores_of(rt.alloc(), grid.stores.len(), 5)?;
+    let stores = stores_of(rt.alloc(), grid.servers(), 5)?;
     match copied(rt.alloc(), &mut grid, stores) {
         Ok(mut copy) => assert!(rt; copy.spoil(3, [2; 16], 255, 0)?),
         Err((error, stores)) => {
@@ -182,7 +185,7 @@ fn an_image_is_refused_wherever_it_is_cut_off(rt: HostRuntime) -> Result<(), Fai
         }
         assert_eq!(rt;
             fault(rt.alloc(), &image[..length])?,
-            Some(GridError::BadImage(place))
+            Some(GridFault::BadImage(place))
         );
     }
     Ok(())
@@ -205,7 +208,7 @@ fn a_row_out_of_order_or_range_is_refused_at_its_field(rt: HostRuntime) -> Resul
     assert_eq!(rt; fault(alloc, &two(alloc, 1, 7, 5, 1)?)?, None);
     assert_eq!(rt; fault(alloc, &two(alloc, 1, 8, 0, 1)?)?, None);
     assert_eq!(rt; fault(alloc, &two(alloc, 4, 0, 0, 1)?)?, None);
-    let at_server = Some(GridError::BadImage(45));
+    let at_server = Some(GridFault::BadImage(45));
     assert_eq!(rt; fault(alloc, &two(alloc, 1, 7, 4, 1)?)?, at_server);
     assert_eq!(rt; fault(alloc, &two(alloc, 1, 7, 3, 1)?)?, at_server);
     assert_eq!(rt; fault(alloc, &two(alloc, 1, 6, 9, 1)?)?, at_server);
@@ -213,15 +216,15 @@ fn a_row_out_of_order_or_range_is_refused_at_its_field(rt: HostRuntime) -> Resul
     assert_eq!(rt; fault(alloc, &two(alloc, 5, 9, 9, 1)?)?, at_server);
     assert_eq!(rt;
         fault(alloc, &two(alloc, 1, 7, 256, 1)?)?,
-        Some(GridError::BadImage(65))
+        Some(GridFault::BadImage(65))
     );
     assert_eq!(rt;
         fault(alloc, &two(alloc, 1, 7, 9, 0)?)?,
-        Some(GridError::BadImage(69))
+        Some(GridFault::BadImage(69))
     );
     assert_eq!(rt;
         fault(alloc, &two(alloc, 1, 7, 9, 2)?)?,
-        Some(GridError::BadImage(73))
+        Some(GridFault::BadImage(73))
     );
     Ok(())
 }
@@ -235,7 +238,7 @@ fn a_number_above_255_is_not_written(rt: HostRuntime) -> Result<(), Fail> {
     let mut image = Vec::new(alloc);
     assert_eq!(rt;
         Grid::new(stores).write_image(&mut image).err(),
-        Some(GridError::BadImage(68))
+        Some(GridFault::BadImage(68))
     );
     Ok(())
 }
@@ -249,7 +252,7 @@ fn a_store_that_is_full_is_named_before_a_later_fault(rt: HostRuntime) -> Result
         match Grid::read_image(alloc, stores_of(alloc, 5, 4)?, &mut reader) {
             Ok(grid) => drop(grid),
             Err((error, mut stores)) => {
-                assert_eq!(rt; error, GridError::Full(1));
+                assert_eq!(rt; error, GridFault::Full(1));
                 assert!(rt; stores[1].has([7; 16], 0)?);
                 assert!(rt; !stores[1].has([7; 16], 4)?);
                 assert_eq!(rt; stores[1].room(), 2);
@@ -261,7 +264,7 @@ fn a_store_that_is_full_is_named_before_a_later_fault(rt: HostRuntime) -> Result
     let error = Grid::read_image(alloc, stores, &mut reader)
         .err()
         .map(|refusal| refusal.0);
-    assert_eq!(rt; error, Some(GridError::BadImage(74)));
+    assert_eq!(rt; error, Some(GridFault::BadImage(74)));
     Ok(())
 }
 
@@ -304,7 +307,7 @@ fn a_reader_may_be_slow_but_not_break(rt: HostRuntime) -> Result<(), Fail> {
         let wanted = if left > image.len() {
             None
         } else {
-            Some(GridError::ReadFailed)
+            Some(GridFault::ReadFailed)
         };
         assert_eq!(rt; error, wanted);
     }
@@ -360,7 +363,7 @@ fn a_writer_may_be_slow_but_not_break(rt: HostRuntime) -> Result<(), Fail> {
             let held = writer.held.as_slice();
             assert!(rt; image.starts_with(held));
             let wanted = if held.len() < image.len() {
-                Some(GridError::WriteFailed)
+                Some(GridFault::WriteFailed)
             } else {
                 None
             };
@@ -370,130 +373,16 @@ fn a_writer_may_be_slow_but_not_break(rt: HostRuntime) -> Result<(), Fail> {
     Ok(())
 }
 
-// A store in memory whose at-th call fails, from 1, and each later one. No clause says what it holds.
-#[derive(Drop)]
-struct Fails {
-    alloc: Global,
-    inner: MemStore,
-    left: u64,
-    failures: u64,
-}
-
-impl Fails {
-    // Counts a call, and says whether it fails.
-    fn fails(&mut self) -> bool
-        ensures inner { self.new.inner ≡ self.old.inner }
-        ensures counts { self.new.failures ≡ (if result then self.old.failures + 1 else self.old.failures) }
-    {
-        if self.left == 0 || self.failures == u64::MAX {
-            return false;
-        }
-        if self.left > 1 {
-            self.left -= 1;
-            return false;
-        }
-        self.failures += 1;
-        true
-    }
-}
-
-impl Store for Fails {
-    ghost honest = { λ store. ⊥ };
-
-    ghost shares = { λ store. ⟦<MemStore as Store>⟧.shares store.inner };
-
-    ghost room = { λ store. ⟦<MemStore as Store>⟧.room store.inner };
-
-    ghost held = { λ store. ⟦<MemStore as Store>⟧.held store.inner };
-
-    ghost failures = { λ store. store.failures };
-
-    fn has(&mut self, index: [u8; 16], number: u16) -> Result<bool, AllocError> {
-        if self.fails() {
-            return Ok(false);
-        }
-        self.inner.has(index, number)
-    }
-
-    fn numbers(&mut self, index: [u8; 16]) -> Result<Vec<u16>, AllocError> {
-        if self.fails() {
-            return Ok(Vec::new(self.alloc));
-        }
-        self.inner.numbers(index)
-    }
-
-    fn get(&mut self, index: [u8; 16], number: u16) -> Result<Option<RcSlice<u8>>, AllocError> {
-        if self.fails() {
-            return Ok(None);
-        }
-        self.inner.get(index, number)
-    }
-
-    fn nth(&mut self, at: u64) -> Result<Option<Share>, AllocError> {
-        if self.fails() {
-            return Ok(None);
-        }
-        self.inner.nth(at)
-    }
-
-    fn put(
-        &mut self,
-        index: [u8; 16],
-        number: u16,
-        bytes: RcSlice<u8>,
-    ) -> Result<bool, StoreError> {
-        if self.fails() {
-            return Err(StoreError::Down);
-        }
-        self.inner.put(index, number, bytes)
-    }
-
-    fn lose(&mut self, index: [u8; 16], number: u16) -> Result<bool, StoreError> {
-        if self.fails() {
-            return Err(StoreError::Down);
-        }
-        self.inner.lose(index, number)
-    }
-
-    fn toggle(&mut self, index: [u8; 16], number: u16, place: u64) -> Result<bool, StoreError> {
-        if self.fails() {
-            return Err(StoreError::Down);
-        }
-        self.inner.toggle(index, number, place)
-    }
-
-    fn room(&self) -> u64 {
-        self.inner.room()
-    }
-
-    fn held(&self) -> u64 {
-        self.inner.held()
-    }
-
-    fn failures(&self) -> u64 {
-        self.failures
-    }
-
-    ghost held_is = { λ store honest. absurd honest };
-
-    ghost fits = { λ store honest. absurd honest };
-
-    ghost none_empty = { λ store honest. absurd honest };
-}
-
 // Five stores that hold nothing, of which server 1's fails from this call on.
-fn failing(alloc: Global, at: u64) -> Result<Vec<Fails>, Fail>
+fn failing(alloc: Global, at: u64) -> Result<Vec<FailAt>, Fail>
     ensures count { IfOk result (λ stores. vec_len stores ≡ 5) }
-    ensures empty { IfOk result (λ stores. All (λ store. ⟦<Fails as Store>⟧.held store ≡ 0) stores.items) }
+    ensures empty { IfOk result (λ stores. All (λ store. ⟦<FailAt as Store>⟧.held store ≡ 0) stores.items) }
 {
     let mut stores = Vec::new(alloc);
     for server in 0..5_usize {
-        stores.push(Fails {
-            alloc,
-            inner: MemStore::new(alloc, 10),
-            left: if server == 1 { at } else { 0 },
-            failures: 0,
-        })?;
+        let inner = MemStore::new(alloc, 10);
+        let at = if server == 1 { at } else { 0 };
+        stores.push(FailAt::new(alloc, inner, at, true))?;
     }
     Ok(stores)
 }
@@ -508,7 +397,7 @@ fn a_store_that_fails_is_named_and_no_share_is_left_out(rt: HostRuntime) -> Resu
         match Grid::read_image(alloc, failing(alloc, at)?, &mut reader) {
             Err((error, stores)) => {
                 assert!(rt; at < 3);
-                assert_eq!(rt; error, GridError::Down(1));
+                assert_eq!(rt; error, GridFault::Down(1));
                 assert_eq!(rt; stores[1].failures(), 1);
                 assert_eq!(rt; stores[1].held(), if at == 1 { 0 } else { 2 });
             }
@@ -516,7 +405,7 @@ fn a_store_that_fails_is_named_and_no_share_is_left_out(rt: HostRuntime) -> Resu
                 let mut again = Vec::new(alloc);
                 let written = grid.write_image(&mut again).err();
                 if at < 6 {
-                    assert_eq!(rt; written, Some(GridError::Down(1)));
+                    assert_eq!(rt; written, Some(GridFault::Down(1)));
                     assert!(rt; again.is_empty());
                 } else {
                     assert_eq!(rt; written, None);
@@ -525,5 +414,43 @@ fn a_store_that_fails_is_named_and_no_share_is_left_out(rt: HostRuntime) -> Resu
             }
         }
     }
+    Ok(())
+}
+
+// A reader that keeps how many bytes it was asked for at once at most.
+#[derive(Drop)]
+struct Widest<'a> {
+    bytes: &'a [u8],
+    asked: usize,
+}
+
+impl Read for Widest<'_> {
+    fn read(&mut self, buf: &mut [u8]) -> io::Result<usize> {
+        self.asked = self.asked.max(buf.len());
+        self.bytes.read(buf)
+    }
+}
+
+#[test]
+fn bytes_are_asked_for_in_pieces_whatever_a_length_says(rt: HostRuntime) -> Result<(), Fail> {
+    let alloc = rt.alloc();
+    // An image of one share whose length field is 2^32 - 1, and ten bytes of it.
+    let mut image = Vec::new(alloc);
+    image.extend_from_slice(b"TGRIDIM1\x00\x00\x00\x05\x00\x00\x00\x01")?;
+    image.extend_from_slice(&[0, 0, 0, 1])?;
+    image.extend_from_slice(&[7; 16])?;
+    image.extend_from_slice(&[0, 0, 0, 0])?;
+    image.extend_from_slice(&[255; 4])?;
+    image.extend_from_slice(&[1; 10])?;
+    let mut reader = Widest {
+        bytes: &image,
+        asked: 0,
+    };
+    let stores = stores_of(alloc, 5, 1_000)?;
+    let error = Grid::read_image(alloc, stores, &mut reader)
+        .err()
+        .map(|refusal| refusal.0);
+    assert_eq!(rt; error, Some(GridFault::BadImage(44)));
+    assert_eq!(rt; reader.asked, 65_536);
     Ok(())
 }

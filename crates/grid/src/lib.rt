@@ -4,17 +4,22 @@
 //! one that the storage index's last byte names, and gathers what stands; an operator loses and spoils single shares.
 #![tactic(auto)]
 
-mod error;
-mod image_fields;
+// The grid and its calls.
+mod server_grid;
+// Why a grid refuses.
+mod fault;
+// Writing an image.
+mod image_writer;
+// Reading an image.
 mod image_reader;
+// The fields of an image.
+mod image_fields;
+// Laws of spoiling, of what is gathered, and of images.
 #[cfg(test)]
 mod image_tests;
-mod image_writer;
-mod laws;
-mod server_grid;
+pub mod laws;
 #[cfg(test)]
 mod tests;
 
-pub use error::GridError;
-pub use laws::{image_laws, spoil_laws};
+pub use fault::GridFault;
 pub use server_grid::Grid;

@@ -1,26 +1,47 @@
 //! A grid of stores.
-ghost use Rattle.std.specs.Prelude.{◌≡◌, ◌<◌, ◌≤◌, ◌↔◌, ◌++◌, ℕ, [], length, map, All, IfOk, IfErr, IfSome, OnOk, OnErr, IsErrOf, None, slice_get, vec_len, is_some, nat_lt, unwrap_or};
+ghost use Rattle.std.specs.Prelude.{◌≡◌, ◌<◌, ◌≤◌, ◌↔◌, ◌++◌, ℕ, [], length, map, All, IfOk, IfErr, IsOkAnd, OnOk, OnErr, IsErrOf, None, Some, is_some, nat_lt, unwrap_or, vec_len, IsTrue, slice_get};
 ghost use Rattle.std.specs.Rc.{rc_slice_items};
-ghost use Rattle.std.specs.Option.{option_map};
+ghost use Rattle.std.specs.Option.{option_map, option_map_or};
+ghost use Rattle.std.specs.FinMap as finite;
+ghost use Rattle.share_store.specs.Numbers.{of_index};
+ghost use Rattle.share_store.specs.Put.{put_once};
 ghost use Rattle.share_store.specs.Stored.{entry_of};
-ghost use Rattle.grid.specs.Standing.{standing, at_server};
-ghost use Rattle.grid.specs.Placement.{server_of, placed};
-ghost use Rattle.grid.specs.Changes.{put_at, without, spoiled};
-ghost use Rattle.grid.specs.Counts.{Counts};
-ghost use Rattle.grid.specs.Refusals.{IsPutRefusal, IsChangeRefusal, StopsAt};
-ghost use Rattle.grid.specs.Found.{found_in, found_below, entries_at, seen};
+ghost use Rattle.grid.specs.GridState.{states, maps_of, stood, room_at, failures_at, IsHonest, NoneFailed};
+ghost use Rattle.grid.specs.Leaves.{Leaves, TellsDown, IsUnchanged};
+ghost use Rattle.grid.specs.Changed.{ArePut, StopsAt, IsLost, IsSpoiled};
+ghost use Rattle.grid.specs.NewBytes.{HasRoom};
+ghost use Rattle.grid.specs.Refusals.{IsPutRefusal, IsChangeRefusal};
+ghost use Rattle.grid.specs.Found.{entries_at, found_in, found_below, AllBut, seen};
+ghost use Rattle.grid.specs.OneStore.{IsPutHere};
 
-use crate::GridError;
-use share_store::{Share, Store, StoreError};
+use crate::GridFault;
+use crate::fault::answer_of;
+use share_store::laws::size_laws;
+use share_store::{MemStore, Store};
 use std::alloc::AllocError;
+use std::marker::Model;
 use std::rc::RcSlice;
 
-/// Servers with a store each, 1 to 256. A server is named by its place among them, from 0.
+/// Servers with a store each, 1 to 256. A server is named by its place among them, from 0. Contracts see a state for
+/// each server: what stands there, its room, what it holds, its count of failures, and whether its store is honest.
 #[derive(Drop)]
 pub struct Grid<S: Store> {
     /// The stores, in the order of the servers.
-    pub stores: Vec<S>,
-    ghost count: { (0 < vec_len stores) × (vec_len stores ≤ 256) },
+    pub(crate) stores: Vec<S>,
+}
+
+impl<S: Store> Model for Grid<S> {
+    ghost use Rattle.std.specs.Prelude.{◌<◌, ◌≤◌, vec_len};
+    ghost use Rattle.grid.specs.GridState.{GridState, state_code, states};
+    ghost use Rattle.std.specs.Coded.{coded_list};
+
+    ghost Value = { GridState };
+
+    ghost coded = { coded_list state_code };
+
+    ghost view = { λ grid. states S.shares S.room S.held S.failures S.honest grid.stores.items };
+
+    ghost invariant = { λ grid. (0 < vec_len grid.stores) × (vec_len grid.stores ≤ 256) };
 }
 
 impl<S: Store> Grid<S> {
@@ -28,224 +49,213 @@ impl<S: Store> Grid<S> {
     pub fn new(stores: Vec<S>) -> Self
         requires some { 0 < vec_len stores }
         requires few { vec_len stores ≤ 256 }
-        ensures { result.stores ≡ stores }
+        ensures { result ≡ states S.shares S.room S.held S.failures S.honest stores.items }
     {
         Grid { stores }
+    }
+
+    /// How many servers there are, 1 to 256. No memory is taken.
+    pub fn servers(&self) -> usize
+        ensures servers { result ≡ length self.now }
+        ensures some { 0 < length self.now }
+        ensures few { length self.now ≤ 256 }
+    {
+        self.stores.len()
     }
 
     /// Puts the shares of a file, at most 256 and none of them empty: share i as number i at server
     /// (last byte of `index` + i) modulo the number of servers. A share that stands is kept as it is.
     ///
-    /// It stops at the first share that is refused, and those before it stand: [`GridError::Full`] only where that
-    /// share is longer than the room of its server's store and, over honest stores, none stands there,
-    /// [`GridError::Down`] just where that store failed, or [`GridError::NoMemory`].
-    pub fn put_all(&mut self, index: [u8; 16], shares: &[RcSlice<u8>]) -> Result<(), GridError>
+    /// It stops at the first share that is refused, and over honest stores exactly those before it were put:
+    /// [`GridFault::Full`] only where that share is longer than the room of its server's store and, over honest
+    /// stores, none stands there, [`GridFault::Down`] exactly when that store failed, or [`GridFault::NoMemory`].
+    pub fn put_all(&mut self, index: [u8; 16], shares: &[RcSlice<u8>]) -> Result<(), GridFault>
         requires few { length shares.now ≤ 256 }
         requires some { All (λ share. 0 < length (rc_slice_items share)) shares.now }
-        ensures count { vec_len self.new.stores ≡ vec_len self.old.stores }
-        ensures counts { Counts S.failures self.old.stores.items self.new.stores.items result }
-        ensures refusals { IfErr result IsPutRefusal }
-        ensures full { (s : ℕ) → IsErrOf result (GridError.Full s) → (n : ℕ) × ((share : _)
-            × (slice_get shares.now n ≡ Some share)
-            × (s ≡ server_of (vec_len self.old.stores) index n)
-            × (at_server S.room self.new.stores.items s < length (rc_slice_items share))) }
-
-        ensures honest { All S.honest self.old.stores.items → All S.honest self.new.stores.items }
-        ensures ok { All S.honest self.old.stores.items →
-            OnOk result (standing (map S.shares self.new.stores.items)
-            ≡ placed (vec_len self.old.stores) index (map rc_slice_items shares.now)
-            (standing (map S.shares self.old.stores.items))) }
-        ensures err { All S.honest self.old.stores.items → IfErr result (λ error. (n : ℕ)
-            × StopsAt (vec_len self.old.stores) index (map rc_slice_items shares.now)
-            (standing (map S.shares self.old.stores.items)) (standing (map S.shares self.new.stores.items)) error n) }
+        ensures leaves { Leaves self.old self.new }
+        ensures down { TellsDown self.old self.new result }
+        ensures ok { IsHonest self.old →
+            OnOk result (ArePut index (map rc_slice_items shares.now) self.old self.new) }
+        ensures err { IfErr result
+            (StopsAt index (map rc_slice_items shares.now) self.old self.new) }
+        ensures never_full { IsHonest self.old →
+            HasRoom self.old index (map rc_slice_items shares.now) →
+            (s : ℕ) → IsErrOf result (GridFault.Full s) → ⊥ }
     {
+        let servers = self.servers();
         for (i, share) in shares.iter().enumerate() {
-            let server = (usize::from(index[15]) + i) % self.stores.len();
-            self.put_one(server, index, i as u16, share.clone()?)?;
+            let server = (usize::from(index[15]) + i) % servers;
+            let _put = self.put_one(server, index, i as u16, share.clone()?)?;
         }
         Ok(())
     }
 
     /// Takes a share away, and answers `true`. `false` where none stood.
     ///
-    /// Refused, with nothing changed: [`GridError::NoServer`] just where there is no such server,
-    /// [`GridError::Down`] just where its store failed, or [`GridError::NoMemory`].
-    pub fn lose(&mut self, server: usize, index: [u8; 16], number: u16) -> Result<bool, GridError>
-        ensures count { vec_len self.new.stores ≡ vec_len self.old.stores }
-        ensures counts { Counts S.failures self.old.stores.items self.new.stores.items result }
+    /// Refused, with nothing changed: [`GridFault::NoServer`] exactly when there is no such server,
+    /// [`GridFault::Down`] exactly when its store failed, or [`GridFault::NoMemory`].
+    pub fn lose(&mut self, server: usize, index: [u8; 16], number: u16) -> Result<bool, GridFault>
+        ensures leaves { Leaves self.old self.new }
+        ensures down { TellsDown self.old self.new result }
         ensures refusals { IfErr result IsChangeRefusal }
-        ensures no_server { IsErrOf result GridError.NoServer ↔ (vec_len self.old.stores ≤ server) }
+        ensures no_server { IsErrOf result GridFault.NoServer ↔ (length self.old ≤ server) }
 
-        ensures honest { All S.honest self.old.stores.items → All S.honest self.new.stores.items }
-        ensures lost { All S.honest self.old.stores.items →
-            IfOk result (λ lost. lost ≡ is_some (standing (map S.shares self.old.stores.items) server (index, number))) }
-        ensures ok { All S.honest self.old.stores.items →
-            OnOk result (standing (map S.shares self.new.stores.items)
-            ≡ without server (index, number) (standing (map S.shares self.old.stores.items))) }
-        ensures err { All S.honest self.old.stores.items →
-            OnErr result (standing (map S.shares self.new.stores.items) ≡ standing (map S.shares self.old.stores.items)) }
+        ensures lost { IsHonest self.old →
+            IfOk result (λ lost. lost ≡ is_some (stood self.old server (index, number))) }
+        ensures ok { IsHonest self.old →
+            OnOk result (IsLost server (index, number) self.old self.new) }
+        ensures err { IsHonest self.old → OnErr result (IsUnchanged self.old self.new) }
     {
+        size_laws();
         if server >= self.stores.len() {
-            return Err(GridError::NoServer);
+            return Err(GridFault::NoServer);
         }
-        match self.stores[server].lose(index, number) {
-            Ok(lost) => Ok(lost),
-            Err(StoreError::Full) => unreachable!(),
-            Err(StoreError::Down) => Err(GridError::Down(server)),
-            Err(StoreError::NoMemory) => Err(GridError::NoMemory),
-        }
+        answer_of(server, self.stores[server].lose(index, number))
     }
 
     /// Changes the lowest bit of one byte of a share, the byte at `place` from 0, and answers `true`. `false` where
     /// there is no such byte.
     ///
-    /// Refused, with nothing changed: [`GridError::NoServer`] just where there is no such server,
-    /// [`GridError::Down`] just where its store failed, or [`GridError::NoMemory`].
+    /// Refused, with nothing changed: [`GridFault::NoServer`] exactly when there is no such server,
+    /// [`GridFault::Down`] exactly when its store failed, or [`GridFault::NoMemory`].
     pub fn spoil(
         &mut self,
         server: usize,
         index: [u8; 16],
         number: u16,
         place: u64,
-    ) -> Result<bool, GridError>
-        ensures count { vec_len self.new.stores ≡ vec_len self.old.stores }
-        ensures counts { Counts S.failures self.old.stores.items self.new.stores.items result }
+    ) -> Result<bool, GridFault>
+        ensures leaves { Leaves self.old self.new }
+        ensures down { TellsDown self.old self.new result }
         ensures refusals { IfErr result IsChangeRefusal }
-        ensures no_server { IsErrOf result GridError.NoServer ↔ (vec_len self.old.stores ≤ server) }
+        ensures no_server { IsErrOf result GridFault.NoServer ↔ (length self.old ≤ server) }
 
-        ensures honest { All S.honest self.old.stores.items → All S.honest self.new.stores.items }
-        ensures toggled { All S.honest self.old.stores.items → IfOk result (λ toggled. toggled
-            ≡ nat_lt place (length (unwrap_or (standing (map S.shares self.old.stores.items) server (index, number)) []))) }
-        ensures ok { All S.honest self.old.stores.items →
-            OnOk result (standing (map S.shares self.new.stores.items)
-            ≡ spoiled server (index, number) place (standing (map S.shares self.old.stores.items))) }
-        ensures err { All S.honest self.old.stores.items →
-            OnErr result (standing (map S.shares self.new.stores.items) ≡ standing (map S.shares self.old.stores.items)) }
+        ensures toggled { IsHonest self.old → IfOk result (λ toggled. toggled
+            ≡ nat_lt place (length (unwrap_or (stood self.old server (index, number)) []))) }
+        ensures ok { IsHonest self.old →
+            OnOk result (IsSpoiled server (index, number) place self.old self.new) }
+        ensures err { IsHonest self.old → OnErr result (IsUnchanged self.old self.new) }
     {
+        size_laws();
         if server >= self.stores.len() {
-            return Err(GridError::NoServer);
+            return Err(GridFault::NoServer);
         }
-        match self.stores[server].toggle(index, number, place) {
-            Ok(toggled) => Ok(toggled),
-            Err(StoreError::Full) => unreachable!(),
-            Err(StoreError::Down) => Err(GridError::Down(server)),
-            Err(StoreError::NoMemory) => Err(GridError::NoMemory),
-        }
+        answer_of(server, self.stores[server].toggle(index, number, place))
     }
 
     /// Each share that stands under a storage index, with its server and its number: server by server, in the order
-    /// of the numbers. Bytes are lent without a copy. A store that fails in the call gives no more shares; what is
-    /// given stands, over honest stores. Refused where there was no memory for the list.
+    /// of the numbers. Bytes are lent without a copy. Over honest stores nothing else is given, and nothing is left
+    /// out but shares of servers whose store failed in the call. Refused where there was no memory for the list.
     pub fn gather(&mut self, index: [u8; 16]) -> Result<Vec<(usize, u16, RcSlice<u8>)>, AllocError>
-        ensures count { vec_len self.new.stores ≡ vec_len self.old.stores }
-        ensures rises { (s : ℕ) →
-            at_server S.failures self.old.stores.items s ≤ at_server S.failures self.new.stores.items s }
-
-        ensures honest { All S.honest self.old.stores.items → All S.honest self.new.stores.items }
-        ensures same { All S.honest self.old.stores.items →
-            map S.shares self.new.stores.items ≡ map S.shares self.old.stores.items }
-        ensures stands { All S.honest self.old.stores.items → IfOk result (λ found.
-            All (λ f. standing (map S.shares self.old.stores.items) f.0 (index, f.1) ≡ Some f.2)
+        ensures leaves { Leaves self.old self.new }
+        ensures unchanged { IsHonest self.old → IsUnchanged self.old self.new }
+        ensures found { IsHonest self.old → IfOk result (λ found.
+            AllBut (λ f. failures_at self.old f.0 < failures_at self.new f.0)
+            (found_below (maps_of self.old) index (length self.old))
             (map (seen rc_slice_items) found.items)) }
-        ensures found { All S.honest self.old.stores.items →
-            ((s : ℕ) → at_server S.failures self.new.stores.items s ≡ at_server S.failures self.old.stores.items s) →
-            IfOk result (λ found. map (seen rc_slice_items) found.items
-            ≡ found_below (map S.shares self.old.stores.items) index (vec_len self.old.stores)) }
+        ensures all { IsHonest self.old → NoneFailed self.old self.new → IfOk result (λ found.
+            map (seen rc_slice_items) found.items
+            ≡ found_below (maps_of self.old) index (length self.old)) }
+        ensures stands { IsHonest self.old → IfOk result (λ found.
+            All (λ f. stood self.old f.0 (index, f.1) ≡ Some f.2)
+            (map (seen rc_slice_items) found.items)) }
     {
         let mut found = Vec::new(*self.stores.allocator());
-        for server in 0..self.stores.len() {
+        for server in 0..self.servers() {
             self.gather_at(server, index, &mut found)?;
         }
         Ok(found)
     }
 
-    // Adds what stands under a storage index at one server.
+    /// Adds what stands under a storage index at one server.
     fn gather_at(
         &mut self,
         server: usize,
         index: [u8; 16],
         found: &mut Vec<(usize, u16, RcSlice<u8>)>,
     ) -> Result<(), AllocError>
-        requires { server < vec_len self.old.stores }
-        ensures count { vec_len self.new.stores ≡ vec_len self.old.stores }
-        ensures rises { (s : ℕ) →
-            at_server S.failures self.old.stores.items s ≤ at_server S.failures self.new.stores.items s }
-        ensures honest { All S.honest self.old.stores.items → All S.honest self.new.stores.items }
-        ensures same { All S.honest self.old.stores.items →
-            map S.shares self.new.stores.items ≡ map S.shares self.old.stores.items }
-        ensures stands { All S.honest self.old.stores.items →
-            All (λ f. standing (map S.shares self.old.stores.items) f.0 (index, f.1) ≡ Some f.2)
-            (map (seen rc_slice_items) found.old.items) →
-            OnOk result (All (λ f. standing (map S.shares self.old.stores.items) f.0 (index, f.1) ≡ Some f.2)
-            (map (seen rc_slice_items) found.new.items)) }
-        ensures found { All S.honest self.old.stores.items →
-            at_server S.failures self.new.stores.items server ≡ at_server S.failures self.old.stores.items server →
-            OnOk result (map (seen rc_slice_items) found.new.items
-            ≡ map (seen rc_slice_items) found.old.items
-            ++ found_in server index (entries_at (map S.shares self.old.stores.items) server)) }
+        requires { server < length self.old }
+        ensures leaves { Leaves self.old self.new }
+        ensures unchanged { IsHonest self.old → IsUnchanged self.old self.new }
+        ensures found { IsHonest self.old → OnOk result ((given : _)
+            × (map (seen rc_slice_items) found.new.items
+            ≡ map (seen rc_slice_items) found.old.items ++ given)
+            × AllBut (λ f. failures_at self.old f.0 < failures_at self.new f.0)
+            (found_in server index (entries_at (maps_of self.old) server)) given) }
     {
-        for at in 0..u64::MAX {
-            match self.nth_at(server, at)? {
-                None => return Ok(()),
-                Some(share) => {
-                    if share.index == index {
-                        found.push((server, share.number, share.bytes))?;
-                    }
-                }
+        let numbers = self.numbers_at(server, index)?;
+        for &number in &numbers {
+            match self.get_at(server, index, number)? {
+                Some(bytes) => found.push((server, number, bytes))?,
+                None => {}
             }
         }
         Ok(())
     }
 
-    // The share at a place of one server's store.
-    fn nth_at(&mut self, server: usize, at: u64) -> Result<Option<Share>, AllocError>
-        requires { server < vec_len self.old.stores }
-        ensures count { vec_len self.new.stores ≡ vec_len self.old.stores }
-        ensures rises { (s : ℕ) →
-            at_server S.failures self.old.stores.items s ≤ at_server S.failures self.new.stores.items s }
-        ensures honest { All S.honest self.old.stores.items → All S.honest self.new.stores.items }
-        ensures same { All S.honest self.old.stores.items →
-            map S.shares self.new.stores.items ≡ map S.shares self.old.stores.items }
-        ensures given { All S.honest self.old.stores.items → IfOk result (λ share. IfSome share (λ share.
-            slice_get (entries_at (map S.shares self.old.stores.items) server) at ≡ Some (entry_of share))) }
-        ensures found { All S.honest self.old.stores.items →
-            at_server S.failures self.new.stores.items server ≡ at_server S.failures self.old.stores.items server →
-            IfOk result (λ share. option_map entry_of share
-            ≡ slice_get (entries_at (map S.shares self.old.stores.items) server) at) }
+    /// The numbers under a storage index at one server.
+    fn numbers_at(&mut self, server: usize, index: [u8; 16]) -> Result<Vec<u16>, AllocError>
+        requires { server < length self.old }
+        ensures leaves { Leaves self.old self.new }
+        ensures unchanged { IsHonest self.old → IsUnchanged self.old self.new }
+        ensures failed { failures_at self.old server < failures_at self.new server →
+            IsOkAnd result (λ numbers. numbers.items ≡ []) }
+        ensures found { IsHonest self.old → failures_at self.new server ≡ failures_at self.old server →
+            IfOk result (λ numbers. numbers.items ≡ map (λ e. e.0.1) (of_index index (entries_at (maps_of self.old) server))) }
     {
-        self.stores[server].nth(at)
+        self.stores[server].numbers(index)
     }
 
-    // Puts one share at a server.
-    fn put_one(
+    /// The bytes of a share at one server.
+    fn get_at(
+        &mut self,
+        server: usize,
+        index: [u8; 16],
+        number: u16,
+    ) -> Result<Option<RcSlice<u8>>, AllocError>
+        requires { server < length self.old }
+        ensures leaves { Leaves self.old self.new }
+        ensures unchanged { IsHonest self.old → IsUnchanged self.old self.new }
+        ensures failed { failures_at self.old server < failures_at self.new server → result ≡ Ok None }
+        ensures found { IsHonest self.old → failures_at self.new server ≡ failures_at self.old server →
+            IfOk result (λ bytes. option_map rc_slice_items bytes
+            ≡ stood self.old server (index, number)) }
+    {
+        self.stores[server].get(index, number)
+    }
+
+    /// Puts one share at a server.
+    pub(crate) fn put_one(
         &mut self,
         server: usize,
         index: [u8; 16],
         number: u16,
         bytes: RcSlice<u8>,
-    ) -> Result<(), GridError>
-        requires server { server < vec_len self.old.stores }
+    ) -> Result<bool, GridFault>
+        requires server { server < length self.old }
         requires some { 0 < length (rc_slice_items bytes) }
-        ensures count { vec_len self.new.stores ≡ vec_len self.old.stores }
-        ensures counts { Counts S.failures self.old.stores.items self.new.stores.items result }
+        ensures leaves { Leaves self.old self.new }
+        ensures down { TellsDown self.old self.new result }
         ensures refusals { IfErr result IsPutRefusal }
-        ensures full { (s : ℕ) → IsErrOf result (GridError.Full s) →
-            (s ≡ server) × (at_server S.room self.new.stores.items s < length (rc_slice_items bytes)) }
-        ensures down_here { (s : ℕ) → IsErrOf result (GridError.Down s) → s ≡ server }
-        ensures full_only { All S.honest self.old.stores.items → (s : ℕ) → IsErrOf result (GridError.Full s) →
-            standing (map S.shares self.new.stores.items) server (index, number) ≡ None }
-        ensures honest { All S.honest self.old.stores.items → All S.honest self.new.stores.items }
-        ensures ok { All S.honest self.old.stores.items →
-            OnOk result (standing (map S.shares self.new.stores.items)
-            ≡ put_at server (index, number) (rc_slice_items bytes) (standing (map S.shares self.old.stores.items))) }
-        ensures err { All S.honest self.old.stores.items →
-            OnErr result (standing (map S.shares self.new.stores.items) ≡ standing (map S.shares self.old.stores.items)) }
+        ensures full { (s : ℕ) → IsErrOf result (GridFault.Full s) →
+            (s ≡ server) × (room_at self.new server < length (rc_slice_items bytes)) }
+        ensures down_here { (s : ℕ) → IsErrOf result (GridFault.Down s) → s ≡ server }
+        ensures full_only { IsHonest self.old → (s : ℕ) → IsErrOf result (GridFault.Full s) →
+            stood self.new server (index, number) ≡ None }
+        ensures ok { IsHonest self.old → OnOk result
+            (IsPutHere server (index, number) (rc_slice_items bytes) self.old self.new) }
+        ensures err { IsHonest self.old → OnErr result (IsUnchanged self.old self.new) }
     {
-        match self.stores[server].put(index, number, bytes) {
-            Ok(_) => Ok(()),
-            Err(StoreError::Full) => Err(GridError::Full(server)),
-            Err(StoreError::Down) => Err(GridError::Down(server)),
-            Err(StoreError::NoMemory) => Err(GridError::NoMemory),
-        }
+        size_laws();
+        answer_of(server, self.stores[server].put(index, number, bytes))
+    }
+}
+
+impl Grid<MemStore> {
+    /// A law and no more: no store in memory has failed. It takes no memory and does nothing.
+    pub fn no_store_failed(&self)
+        ensures { (s : ℕ) → failures_at self.now s ≡ 0 }
+    {
+        let _stores = &self.stores;
     }
 }

@@ -1,15 +1,25 @@
 -- Framing in pieces: what stands complete in bytes stays as it is when more bytes follow.
-use Rattle.std.proofs.Common.{◌≡◌, cond, subst, true, false, ℕ, zero, suc, ◌+◌, ◌-◌, ◌<◌, ◌≤◌, Bool, ◌&&◌, ◌||◌, List, [], ◌∷◌, ◌++◌, length, take, drop, Option, Some, None, refl, sym, ap, ◌∙◌, arith, append_assoc, append-nil, length-append, length-drop}
-use Rattle.std.proofs.lemmas.List.{take-append-le, drop-append-le}
+use Rattle.std.proofs.Common.{◌≡◌, cond, subst, true, false, ℕ, zero, suc, ◌+◌, ◌-◌, ◌<◌, ◌≤◌, Bool, ◌&&◌, ◌||◌, List, [], ◌∷◌, ◌++◌, length, take, drop, Option, Some, None, refl, sym, ap, ◌∙◌, arith, append_assoc, append-nil, length-append, length-drop, lit<}
+use Rattle.std.proofs.lemmas.List.{take-append-le, drop-append-le, drop-drop, length-take-le}
+use Rattle.std.proofs.lemmas.List.Folds.{list_any-append}
+use Rattle.std.proofs.lemmas.List.Elements.{All-nil, All-cons, All-append}
 use Rattle.std.specs.Prelude.{nat_le, nat_lt}
 use Rattle.std.specs.Option.{option_map}
-use Rattle.std.specs.List.{list_any}
+use Rattle.std.specs.List.{All, list_any}
 use Rattle.std.proofs.Math.Dec.{eqb}
 use Rattle.std.proofs.lemmas.Bool.Decides.{nat_tests, Decides-eqb}
 use Rattle.http_edge.specs.declared.item.Item.{Item}
-use Rattle.http_edge.specs.Judge.{closes, judged}
-use Rattle.http_edge.specs.Frame.{empty_line_length, skip_empty_lines, block_length, most_head_bytes, Message, too_long, message_at, first_message, first_items, frame}
-use Rattle.http_edge.specs.Left.{Left, part_of, closed, is_closed, left_behind, rest, frame_from, rest_from}
+use Rattle.http_edge.specs.declared.item.Item.TheVariants.{Request, Fault}
+use Rattle.http_edge.specs.declared.item.FramingFault.{FramingFault}
+use Rattle.http_edge.specs.declared.item.FramingFault.TheVariants.{BadHead}
+use Rattle.http_edge.specs.declared.verdict.Awaited.{Awaited}
+use Rattle.http_edge.specs.declared.verdict.Verdict.{Verdict}
+use Rattle.http_edge.specs.declared.verdict.Verdict.TheVariants.{Taken, Refused}
+use Rattle.http_edge.specs.Judge.{closes, judged, request, most_body_bytes}
+use Rattle.http_edge.specs.Frame.{empty_line_length, skip_empty_lines, block_length, most_head_bytes, Message, Front, part_of_head, part_of_body, message, too_long, with_body, after_head, front_at, front_of, first_items, frame}
+use Rattle.http_edge.specs.Left.{Left, part_of, body_of, closed, is_closed, left_behind, rest, frame_body, rest_body, frame_from, rest_from, frame_after, rest_after}
+use Rattle.http_edge.specs.Read.{IsRead}
+use Rattle.http_edge.proofs.JudgeLemmas.{judged_taken, taken_read}
 
 -- ---- empty lines
 
@@ -69,7 +79,7 @@ by_zero : (P : Type 0) (n : ℕ) → (n ≡ 0 → P) → (0 < n → P) → P
 by_zero P zero none some = none refl
 by_zero P (suc n) none some = some (omega arith)
 
--- ---- bytes behind empty lines
+-- ---- bytes after empty lines
 
 pub skip_none : (s : List ℕ) → empty_line_length s ≡ 0 → skip_empty_lines s ≡ s
 skip_none [] none = refl
@@ -105,7 +115,7 @@ skip_crlf more = skip_one 13 (10 ∷ more) (omega arith) ∙ skip_lf more
 
 -- ---- head blocks
 
--- an LF, and an empty line behind it
+-- an LF, and an empty line after it
 abbrev pub ends_block : ℕ → List ℕ → Bool
 ends_block b s = eqb b 10 && nat_lt 0 (empty_line_length s)
 
@@ -195,53 +205,32 @@ yes_le n m h = grind (arith, nat_tests)
 no_le : (n m : ℕ) → m < n → nat_le n m ≡ false
 no_le n m h = grind (arith, nat_tests)
 
--- bytes without the end of a block, as many as a block may have
-pub long_message : (s : List ℕ) → most_head_bytes ≤ length s → ((k : ℕ) → block_length s ≡ Some k → most_head_bytes < k)
-    → first_message s ≡ Some too_long
-unfolding first_message
-long_message s long far = go (block_length s) far
-  where
-    go : (o : Option ℕ) → ((k : ℕ) → o ≡ Some k → most_head_bytes < k) → message_at s o ≡ Some too_long
-    go None far = rw (yes_le most_head_bytes (length s) long) refl
-    go (Some k) far = rw (no_le k most_head_bytes (far k refl)) refl
-
--- a block that isn't too long
-pub block_message : (s : List ℕ) (k : ℕ) → block_length s ≡ Some k → k ≤ most_head_bytes
-    → first_message s ≡ Some (record { item = judged (take k s); size = k })
-unfolding first_message
-block_message s k e fits = rw (e, yes_le k most_head_bytes fits) refl
-
--- what is known of a message
-pub data MessageOf (s : List ℕ) (m : Message) : Type 0 where
-  of_block : (k : ℕ) → block_length s ≡ Some k → k ≤ most_head_bytes → m ≡ record { item = judged (take k s); size = k } → MessageOf s m
-  of_long : most_head_bytes ≤ length s → ((k : ℕ) → block_length s ≡ Some k → most_head_bytes < k) → m ≡ too_long → MessageOf s m
-
 pub by_le : (P : Type 0) (n m : ℕ) → (n ≤ m → P) → (m < n → P) → P
 by_le P n m below above = elim (nat_le n m) as (λ v. nat_le n m ≡ v → P) [
   | true ↦ λ e. below (grind (arith, nat_tests))
   | false ↦ λ e. above (grind (arith, nat_tests))
 ] refl
 
-pub message_of : (s : List ℕ) (m : Message) → first_message s ≡ Some m → MessageOf s m
-unfolding first_message
-message_of s m e = go (block_length s) refl e
+-- bytes without the end of a block, as many as a block may have
+pub long_front : (s : List ℕ) → most_head_bytes ≤ length s → ((k : ℕ) → block_length s ≡ Some k → most_head_bytes < k)
+    → front_of s ≡ message too_long
+unfolding front_of
+long_front s long far = go (block_length s) far
   where
-    go : (o : Option ℕ) → block_length s ≡ o → message_at s o ≡ Some m → MessageOf s m
-    go None none e = by_le (MessageOf s m) most_head_bytes (length s)
-        (λ long. of_long long (λ k some. absurd (let no : None ≡ Some k = sym none ∙ some in cc))
-        (let is : Some too_long ≡ Some m = sym (rw (yes_le most_head_bytes (length s) long) refl) ∙ e in cc))
-        (λ short. absurd (let is : None ≡ Some m = sym (rw (no_le most_head_bytes (length s) short) refl) ∙ e in cc))
-    go (Some k) some e = by_le (MessageOf s m) k most_head_bytes
-        (λ fits. of_block k some fits
-        (let is : Some (record { item = judged (take k s); size = k }) ≡ Some m = sym (rw (yes_le k most_head_bytes fits) refl) ∙ e in cc))
-        (λ far. of_long (let at = block_fits s k some in omega (arith, at.1)) (λ j other. (let same : Some k ≡ Some j = sym some ∙ other in let is : k ≡ j = cc in omega arith))
-        (let is : Some too_long ≡ Some m = sym (rw (no_le k most_head_bytes far) refl) ∙ e in cc))
+    go : (o : Option ℕ) → ((k : ℕ) → o ≡ Some k → most_head_bytes < k) → front_at s o ≡ message too_long
+    go None far = rw (yes_le most_head_bytes (length s) long) refl
+    go (Some k) far = rw (no_le k most_head_bytes (far k refl)) refl
 
-pub message_fits : (s : List ℕ) (m : Message) → first_message s ≡ Some m → (1 < m.size) × (m.size ≤ length s)
-message_fits s m e = elim (message_of s m e) [
-  | of_block k some fits is ↦ let at = block_fits s k some in let size : m.size ≡ k = ap (λ (x : Message). x.size) is in (omega (arith, at.0), omega (arith, at.1))
-  | of_long long far is ↦ let size : m.size ≡ most_head_bytes = ap (λ (x : Message). x.size) is in (omega arith, omega arith)
-]
+-- a block that isn't too long
+pub block_front : (s : List ℕ) (k : ℕ) → block_length s ≡ Some k → k ≤ most_head_bytes
+    → front_of s ≡ after_head (judged (take k s)) k (drop k s)
+unfolding front_of
+block_front s k e fits = rw (e, yes_le k most_head_bytes fits) refl
+
+-- no block
+pub short_front : (s : List ℕ) → block_length s ≡ None → length s < most_head_bytes → front_of s ≡ part_of_head
+unfolding front_of
+short_front s e short = rw (e, no_le most_head_bytes (length s) short) refl
 
 still_far : (s more : List ℕ) → most_head_bytes ≤ length s → ((k : ℕ) → block_length s ≡ Some k → most_head_bytes < k)
     → (k : ℕ) → block_length (s ++ more) ≡ Some k → most_head_bytes < k
@@ -251,37 +240,106 @@ still_far s more long far k some = go (block_length s) refl
     go None none = let later = block_comes s more k none some in omega arith
     go (Some j) e = let same : Some j ≡ Some k = sym (block_stays s more j e) ∙ some in let is : j ≡ k = cc in let past = far j e in omega arith
 
--- a message stays
-pub message_stays : (s more : List ℕ) (m : Message) → first_message s ≡ Some m → first_message (s ++ more) ≡ Some m
-message_stays s more m e = elim (message_of s m e) [
-  | of_block k some fits is ↦
-      let at = block_fits s k some in
-      let same : take k (s ++ more) ≡ take k s = take-append-le k s more at.1 in
-      block_message (s ++ more) k (block_stays s more k some) fits
-      ∙ ap (λ (x : List ℕ). Some (record { item = judged x; size = k })) same ∙ ap Some (sym is)
-  | of_long long far is ↦
-      long_message (s ++ more) (omega (arith, length-append s more)) (still_far s more long far) ∙ ap Some (sym is)
+-- what the bytes begin with, and what they begin with when more follow
+pub data FrontIs (s : List ℕ) : Type 0 where
+  is_part : front_of s ≡ part_of_head → length s < most_head_bytes → FrontIs s
+  is_body : (a : Awaited) (k : ℕ) (body : List ℕ) → front_of s ≡ part_of_body a body → 1 < length s
+      → (length body < a.length) × (a.length ≤ most_body_bytes)
+      → ((more : List ℕ) → front_of (s ++ more) ≡ with_body a k (body ++ more))
+      → ((more : List ℕ) → drop k (s ++ more) ≡ body ++ more) → FrontIs s
+  is_message : (m : Message) → front_of s ≡ message m → 1 < m.size → m.size ≤ length s → All IsRead m.items
+      → ((more : List ℕ) → front_of (s ++ more) ≡ message m) → FrontIs s
+
+refused_front : (s : List ℕ) (k : ℕ) (fault : FramingFault) (head_only : Bool) → block_length s ≡ Some k → k ≤ most_head_bytes
+    → ((more : List ℕ) → front_of (s ++ more) ≡ after_head (Refused fault head_only) k (drop k s ++ more))
+    → front_of s ≡ after_head (Refused fault head_only) k (drop k s) → FrontIs s
+refused_front s k fault head_only some fits later now =
+    let at = block_fits s k some in
+    is_message _ now at.0 at.1 (All-cons IsRead (Fault fault head_only) [] tt (All-nil IsRead)) later
+
+taken_front : (s : List ℕ) (k : ℕ) (a : Awaited) → judged (take k s) ≡ Taken a → block_length s ≡ Some k → k ≤ most_head_bytes
+    → ((more : List ℕ) → front_of (s ++ more) ≡ after_head (Taken a) k (drop k s ++ more))
+    → front_of s ≡ after_head (Taken a) k (drop k s) → FrontIs s
+taken_front s k a is some fits later now = by_le (FrontIs s) a.length (length (drop k s)) whole short
+  where
+    whole : a.length ≤ length (drop k s) → FrontIs s
+    whole enough =
+        let at = block_fits s k some in
+        let size : length (drop k s) ≡ length s - k = length-drop k s in
+        is_message (record { items = request a (take a.length (drop k s)) ∷ []; size = k + a.length })
+        (now ∙ rw (yes_le a.length (length (drop k s)) enough) refl)
+        (omega (arith, at.0)) (omega (arith, at.1))
+        (All-cons IsRead (request a (take a.length (drop k s))) [] (taken_read a (take a.length (drop k s)) (judged_taken (take k s) a is) (length-take-le a.length (drop k s) enough)) (All-nil IsRead))
+        (λ more. later more ∙ rw (
+          yes_le a.length (length (drop k s ++ more)) (omega (arith, length-append (drop k s) more)),
+          take-append-le a.length (drop k s) more enough,
+        ) refl)
+
+    short : length (drop k s) < a.length → FrontIs s
+    short few =
+        let at = block_fits s k some in
+        is_body a k (drop k s) (now ∙ rw (no_le a.length (length (drop k s)) few) refl) (omega (arith, at.0, at.1))
+        (few, (judged_taken (take k s) a is).short) later
+        (λ more. drop-append-le k s more at.1)
+
+verdict_front : (s : List ℕ) (k : ℕ) (v : Verdict) → judged (take k s) ≡ v → block_length s ≡ Some k → k ≤ most_head_bytes
+    → ((more : List ℕ) → front_of (s ++ more) ≡ after_head v k (drop k s ++ more))
+    → front_of s ≡ after_head v k (drop k s) → FrontIs s
+verdict_front s k (Refused fault head_only) is some fits later now = refused_front s k fault head_only some fits later now
+verdict_front s k (Taken a) is some fits later now = taken_front s k a is some fits later now
+
+long_is : (s : List ℕ) → most_head_bytes ≤ length s → ((k : ℕ) → block_length s ≡ Some k → most_head_bytes < k) → FrontIs s
+long_is s long far = is_message too_long (long_front s long far) (lit< tt) long
+    (All-cons IsRead (Fault BadHead false) [] tt (All-nil IsRead))
+    (λ more. long_front (s ++ more) (omega (arith, length-append s more)) (still_far s more long far))
+
+pub front_is : (s : List ℕ) → FrontIs s
+front_is s = go (block_length s) refl
+  where
+    go : (o : Option ℕ) → block_length s ≡ o → FrontIs s
+    go None none = by_le (FrontIs s) most_head_bytes (length s)
+        (λ long. long_is s long (λ k some. absurd (let no : None ≡ Some k = sym none ∙ some in cc)))
+        (λ short. is_part (short_front s none short) short)
+    go (Some k) some = by_le (FrontIs s) k most_head_bytes
+        (λ fits. let at = block_fits s k some in verdict_front s k (judged (take k s)) refl some fits
+        (λ more. block_front (s ++ more) k (block_stays s more k some) fits
+        ∙ ap (λ (x : List ℕ). after_head (judged x) k (drop k (s ++ more))) (take-append-le k s more at.1)
+        ∙ ap (λ (x : List ℕ). after_head (judged (take k s)) k x) (drop-append-le k s more at.1))
+        (block_front s k some fits))
+        (λ far. let at = block_fits s k some in long_is s (omega (arith, at.1))
+        (λ j other. (let same : Some k ≡ Some j = sym some ∙ other in let is : k ≡ j = cc in omega arith)))
+
+pub message_fits : (s : List ℕ) (m : Message) → front_of s ≡ message m → (1 < m.size) × (m.size ≤ length s)
+message_fits s m e = elim (front_is s) [
+  | is_part now short ↦ absurd (let no : part_of_head ≡ message m = sym now ∙ e in cc)
+  | is_body a k body now long few later drops ↦ absurd (let no : part_of_body a body ≡ message m = sym now ∙ e in cc)
+  | is_message x now some fits read later ↦
+      let same : message x ≡ message m = sym now ∙ e in
+      let is : x ≡ m = cc in
+      let size : x.size ≡ m.size = ap (λ (y : Message). y.size) is in (omega arith, omega arith)
 ]
 
 -- ---- items and what they leave over
 
-no_message : first_message [] ≡ None
-unfolding first_message
-no_message = refl
+part_first : front_of [] ≡ part_of_head
+unfolding front_of
+part_first = refl
 
-abbrev items_at : ℕ → List ℕ → Option Message → List Item
-items_at n text None = []
-items_at n text (Some m) = m.item ∷ cond (closes m.item) [] (first_items n (drop m.size text))
+abbrev items_at : ℕ → List ℕ → Front → List Item
+items_at n text part_of_head = []
+items_at n text (part_of_body a body) = []
+items_at n text (message m) = m.items ++ cond (list_any closes m.items) [] (first_items n (drop m.size text))
 
-abbrev left_at : ℕ → List ℕ → Option Message → Left
-left_at n text None = part_of text
-left_at n text (Some m) = cond (closes m.item) closed (left_behind n (drop m.size text))
+abbrev left_at : ℕ → List ℕ → Front → Left
+left_at n text part_of_head = part_of text
+left_at n text (part_of_body a body) = body_of a body
+left_at n text (message m) = cond (list_any closes m.items) closed (left_behind n (drop m.size text))
 
 empty_by : (s : List ℕ) → length s ≤ 0 → s ≡ []
 empty_by [] h = refl
 empty_by (b ∷ s) h = absurd (omega arith)
 
-less_left : (n : ℕ) (s : List ℕ) (m : Message) → length s ≤ suc n → first_message (skip_empty_lines s) ≡ Some m
+less_left : (n : ℕ) (s : List ℕ) (m : Message) → length s ≤ suc n → front_of (skip_empty_lines s) ≡ message m
     → length (drop m.size (skip_empty_lines s)) ≤ n
 less_left n s m h e =
     let fits = message_fits (skip_empty_lines s) m e in
@@ -290,84 +348,114 @@ less_left n s m h e =
 
 items_none : (m : ℕ) → first_items m [] ≡ []
 items_none zero = refl
-items_none (suc m) = ap (items_at m []) no_message
+items_none (suc m) = ap (items_at m []) part_first
 
 left_none : (m : ℕ) → left_behind m [] ≡ part_of []
 left_none zero = refl
-left_none (suc m) = ap (left_at m []) no_message
+left_none (suc m) = ap (left_at m []) part_first
 
 -- how many messages are allowed doesn't matter once there are as many as bytes
 same_items : (n m : ℕ) (s : List ℕ) → length s ≤ n → length s ≤ m → first_items n s ≡ first_items m s
 same_items zero m s h k = let none = empty_by s h in rw none (sym (items_none m))
 same_items (suc n) zero s h k = let none = empty_by s k in rw none (items_none (suc n))
-same_items (suc n) (suc m) s h k = go (first_message (skip_empty_lines s)) refl (λ x e. same_items n m (drop x.size (skip_empty_lines s)) (less_left n s x h e) (less_left m s x k e))
+same_items (suc n) (suc m) s h k = go (front_of (skip_empty_lines s)) refl (λ x e. same_items n m (drop x.size (skip_empty_lines s)) (less_left n s x h e) (less_left m s x k e))
   where
-    go : (o : Option Message) → first_message (skip_empty_lines s) ≡ o
-        → ((x : Message) → first_message (skip_empty_lines s) ≡ Some x → first_items n (drop x.size (skip_empty_lines s)) ≡ first_items m (drop x.size (skip_empty_lines s)))
-        → items_at n (skip_empty_lines s) o ≡ items_at m (skip_empty_lines s) o
-    go None e further = refl
-    go (Some x) e further = ap (λ (more : List Item). x.item ∷ cond (closes x.item) [] more) (further x e)
+    go : (f : Front) → front_of (skip_empty_lines s) ≡ f
+        → ((x : Message) → front_of (skip_empty_lines s) ≡ message x → first_items n (drop x.size (skip_empty_lines s)) ≡ first_items m (drop x.size (skip_empty_lines s)))
+        → items_at n (skip_empty_lines s) f ≡ items_at m (skip_empty_lines s) f
+    go part_of_head e further = refl
+    go (part_of_body a body) e further = refl
+    go (message x) e further = ap (λ (more : List Item). x.items ++ cond (list_any closes x.items) [] more) (further x e)
 
 same_left : (n m : ℕ) (s : List ℕ) → length s ≤ n → length s ≤ m → left_behind n s ≡ left_behind m s
 same_left zero m s h k = let none = empty_by s h in rw none (sym (left_none m))
 same_left (suc n) zero s h k = let none = empty_by s k in rw none (left_none (suc n))
-same_left (suc n) (suc m) s h k = go (first_message (skip_empty_lines s)) refl (λ x e. same_left n m (drop x.size (skip_empty_lines s)) (less_left n s x h e) (less_left m s x k e))
+same_left (suc n) (suc m) s h k = go (front_of (skip_empty_lines s)) refl (λ x e. same_left n m (drop x.size (skip_empty_lines s)) (less_left n s x h e) (less_left m s x k e))
   where
-    go : (o : Option Message) → first_message (skip_empty_lines s) ≡ o
-        → ((x : Message) → first_message (skip_empty_lines s) ≡ Some x → left_behind n (drop x.size (skip_empty_lines s)) ≡ left_behind m (drop x.size (skip_empty_lines s)))
-        → left_at n (skip_empty_lines s) o ≡ left_at m (skip_empty_lines s) o
-    go None e further = refl
-    go (Some x) e further = ap (λ (more : Left). cond (closes x.item) closed more) (further x e)
+    go : (f : Front) → front_of (skip_empty_lines s) ≡ f
+        → ((x : Message) → front_of (skip_empty_lines s) ≡ message x → left_behind n (drop x.size (skip_empty_lines s)) ≡ left_behind m (drop x.size (skip_empty_lines s)))
+        → left_at n (skip_empty_lines s) f ≡ left_at m (skip_empty_lines s) f
+    go part_of_head e further = refl
+    go (part_of_body a body) e further = refl
+    go (message x) e further = ap (λ (more : Left). cond (list_any closes x.items) closed more) (further x e)
 
--- the first message's item, and then those behind it
-abbrev pub items_by : List ℕ → Option Message → List Item
-items_by text None = []
-items_by text (Some m) = m.item ∷ cond (closes m.item) [] (frame (drop m.size text))
+-- the first message's items, and then those after it
+abbrev pub items_by : List ℕ → Front → List Item
+items_by text part_of_head = []
+items_by text (part_of_body a body) = []
+items_by text (message m) = m.items ++ cond (list_any closes m.items) [] (frame (drop m.size text))
 
-abbrev pub left_by : List ℕ → Option Message → Left
-left_by text None = part_of text
-left_by text (Some m) = cond (closes m.item) closed (rest (drop m.size text))
+abbrev pub left_by : List ℕ → Front → Left
+left_by text part_of_head = part_of text
+left_by text (part_of_body a body) = body_of a body
+left_by text (message m) = cond (list_any closes m.items) closed (rest (drop m.size text))
 
-pub frame_first : (s : List ℕ) → frame s ≡ items_by (skip_empty_lines s) (first_message (skip_empty_lines s))
+pub frame_first : (s : List ℕ) → frame s ≡ items_by (skip_empty_lines s) (front_of (skip_empty_lines s))
 unfolding frame
-frame_first s = same_items (length s) (suc (length s)) s (omega arith) (omega arith) ∙ go (first_message (skip_empty_lines s)) refl
+frame_first s = same_items (length s) (suc (length s)) s (omega arith) (omega arith) ∙ go (front_of (skip_empty_lines s)) refl
   where
-    go : (o : Option Message) → first_message (skip_empty_lines s) ≡ o → items_at (length s) (skip_empty_lines s) o ≡ items_by (skip_empty_lines s) o
-    go None e = refl
-    go (Some x) e = ap (λ (more : List Item). x.item ∷ cond (closes x.item) [] more)
+    go : (f : Front) → front_of (skip_empty_lines s) ≡ f → items_at (length s) (skip_empty_lines s) f ≡ items_by (skip_empty_lines s) f
+    go part_of_head e = refl
+    go (part_of_body a body) e = refl
+    go (message x) e = ap (λ (more : List Item). x.items ++ cond (list_any closes x.items) [] more)
         (let fits = less_left (length s) s x (omega arith) e in same_items (length s) (length (drop x.size (skip_empty_lines s))) (drop x.size (skip_empty_lines s)) fits (omega arith))
 
-pub rest_first : (s : List ℕ) → rest s ≡ left_by (skip_empty_lines s) (first_message (skip_empty_lines s))
+pub rest_first : (s : List ℕ) → rest s ≡ left_by (skip_empty_lines s) (front_of (skip_empty_lines s))
 unfolding rest
-rest_first s = same_left (length s) (suc (length s)) s (omega arith) (omega arith) ∙ go (first_message (skip_empty_lines s)) refl
+rest_first s = same_left (length s) (suc (length s)) s (omega arith) (omega arith) ∙ go (front_of (skip_empty_lines s)) refl
   where
-    go : (o : Option Message) → first_message (skip_empty_lines s) ≡ o → left_at (length s) (skip_empty_lines s) o ≡ left_by (skip_empty_lines s) o
-    go None e = refl
-    go (Some x) e = ap (λ (more : Left). cond (closes x.item) closed more)
+    go : (f : Front) → front_of (skip_empty_lines s) ≡ f → left_at (length s) (skip_empty_lines s) f ≡ left_by (skip_empty_lines s) f
+    go part_of_head e = refl
+    go (part_of_body a body) e = refl
+    go (message x) e = ap (λ (more : Left). cond (list_any closes x.items) closed more)
         (let fits = less_left (length s) s x (omega arith) e in same_left (length s) (length (drop x.size (skip_empty_lines s))) (drop x.size (skip_empty_lines s)) fits (omega arith))
 
--- only what stands behind the empty lines at the front counts
+-- only what stands after the empty lines at the front counts
 pub frame_skips : (s t : List ℕ) → skip_empty_lines s ≡ skip_empty_lines t → frame s ≡ frame t
-frame_skips s t e = frame_first s ∙ ap (λ (x : List ℕ). items_by x (first_message x)) e ∙ sym (frame_first t)
+frame_skips s t e = frame_first s ∙ ap (λ (x : List ℕ). items_by x (front_of x)) e ∙ sym (frame_first t)
 
 pub rest_skips : (s t : List ℕ) → skip_empty_lines s ≡ skip_empty_lines t → rest s ≡ rest t
-rest_skips s t e = rest_first s ∙ ap (λ (x : List ℕ). left_by x (first_message x)) e ∙ sym (rest_first t)
+rest_skips s t e = rest_first s ∙ ap (λ (x : List ℕ). left_by x (front_of x)) e ∙ sym (rest_first t)
 
--- bytes whose first message stands
-pub frame_with : (s : List ℕ) (m : Message) → empty_line_length s ≡ 0 → first_message s ≡ Some m
-    → frame s ≡ m.item ∷ cond (closes m.item) [] (frame (drop m.size s))
-frame_with s m none e = frame_first s ∙ ap (λ (x : List ℕ). items_by x (first_message x)) (skip_none s none) ∙ ap (items_by s) e
+-- bytes whose front is known
+pub frame_with : (s : List ℕ) (f : Front) → empty_line_length s ≡ 0 → front_of s ≡ f → frame s ≡ items_by s f
+frame_with s f none e = frame_first s ∙ ap (λ (x : List ℕ). items_by x (front_of x)) (skip_none s none) ∙ ap (items_by s) e
 
-pub rest_with : (s : List ℕ) (m : Message) → empty_line_length s ≡ 0 → first_message s ≡ Some m
-    → rest s ≡ cond (closes m.item) closed (rest (drop m.size s))
-rest_with s m none e = rest_first s ∙ ap (λ (x : List ℕ). left_by x (first_message x)) (skip_none s none) ∙ ap (left_by s) e
+pub rest_with : (s : List ℕ) (f : Front) → empty_line_length s ≡ 0 → front_of s ≡ f → rest s ≡ left_by s f
+rest_with s f none e = rest_first s ∙ ap (λ (x : List ℕ). left_by x (front_of x)) (skip_none s none) ∙ ap (left_by s) e
 
--- bytes in which no message stands
-pub frame_without : (s : List ℕ) → empty_line_length s ≡ 0 → first_message s ≡ None → frame s ≡ []
-frame_without s none e = frame_first s ∙ ap (λ (x : List ℕ). items_by x (first_message x)) (skip_none s none) ∙ ap (items_by s) e
+-- a request and the bytes after its head block
+body_behind : (a : Awaited) (k : ℕ) (text bytes : List ℕ) → drop k text ≡ bytes → drop (k + a.length) text ≡ drop a.length bytes
+body_behind a k text bytes e = sym (drop-drop a.length k text) ∙ ap (drop a.length) e
 
-pub rest_without : (s : List ℕ) → empty_line_length s ≡ 0 → first_message s ≡ None → rest s ≡ part_of s
-rest_without s none e = rest_first s ∙ ap (λ (x : List ℕ). left_by x (first_message x)) (skip_none s none) ∙ ap (left_by s) e
+pub body_items : (a : Awaited) (k : ℕ) (text bytes : List ℕ) → drop k text ≡ bytes → items_by text (with_body a k bytes) ≡ frame_body a bytes
+body_items a k text bytes e = go (nat_le a.length (length bytes)) a.close
+  where
+    go : (t c : Bool)
+        → items_by text (cond t (message (record { items = Request a.head (take a.length bytes) c ∷ []; size = k + a.length })) (part_of_body a bytes))
+        ≡ cond t (Request a.head (take a.length bytes) c ∷ cond c [] (frame (drop a.length bytes))) []
+    go true true = refl
+    go true false = ap (λ (x : List ℕ). Request a.head (take a.length bytes) false ∷ frame x) (body_behind a k text bytes e)
+    go false c = refl
+
+pub body_left : (a : Awaited) (k : ℕ) (text bytes : List ℕ) → drop k text ≡ bytes → left_by text (with_body a k bytes) ≡ rest_body a bytes
+body_left a k text bytes e = go (nat_le a.length (length bytes)) a.close
+  where
+    go : (t c : Bool)
+        → left_by text (cond t (message (record { items = Request a.head (take a.length bytes) c ∷ []; size = k + a.length })) (part_of_body a bytes))
+        ≡ cond t (cond c closed (rest (drop a.length bytes))) (body_of a bytes)
+    go true true = refl
+    go true false = ap rest (body_behind a k text bytes e)
+    go false c = refl
+
+-- a head block that was judged, and the bytes after it
+pub verdict_items : (v : Verdict) (k : ℕ) (text more : List ℕ) → drop k text ≡ more → items_by text (after_head v k more) ≡ frame_after v more
+verdict_items (Refused fault head_only) k text more e = refl
+verdict_items (Taken a) k text more e = body_items a k text more e
+
+pub verdict_left : (v : Verdict) (k : ℕ) (text more : List ℕ) → drop k text ≡ more → left_by text (after_head v k more) ≡ rest_after v more
+verdict_left (Refused fault head_only) k text more e = refl
+verdict_left (Taken a) k text more e = body_left a k text more e
 
 -- ---- more bytes
 
@@ -375,53 +463,62 @@ record Joins (s more : List ℕ) : Type 0 where
   items : frame (s ++ more) ≡ frame s ++ frame_from (rest s) more
   left : rest (s ++ more) ≡ rest_from (rest s) more
 
--- s goes on as the text behind its empty lines
-joins_none : (s more : List ℕ) → first_message (skip_empty_lines s) ≡ None → Joins s more
-joins_none s more e =
-    let items : frame s ≡ [] = frame_first s ∙ ap (items_by (skip_empty_lines s)) e in
-    let left : rest s ≡ part_of (skip_empty_lines s) = rest_first s ∙ ap (left_by (skip_empty_lines s)) e in
-    record {
-      items = frame_skips (s ++ more) (skip_empty_lines s ++ more) (skip_append s more)
-          ∙ ap (λ (x : Left). frame_from x more) (sym left) ∙ ap (λ (x : List Item). x ++ frame_from (rest s) more) (sym items);
-      left = rest_skips (s ++ more) (skip_empty_lines s ++ more) (skip_append s more) ∙ ap (λ (x : Left). rest_from x more) (sym left);
-    }
+-- by what stands in s and what it leaves over
+joins : (s more : List ℕ) (items : List Item) (left : Left) → frame s ≡ items → rest s ≡ left
+    → frame (s ++ more) ≡ items ++ frame_from left more → rest (s ++ more) ≡ rest_from left more → Joins s more
+joins s more items left these this later leaves = record {
+  items = later ∙ ap (λ (x : Left). items ++ frame_from x more) (sym this) ∙ ap (λ (x : List Item). x ++ frame_from (rest s) more) (sym these);
+  left = leaves ∙ ap (λ (x : Left). rest_from x more) (sym this);
+}
 
-joins_by : (c : Bool) (item : Item) (tail more : List ℕ) → Joins tail more
-    → (item ∷ cond c [] (frame (tail ++ more)) ≡ (item ∷ cond c [] (frame tail)) ++ frame_from (cond c closed (rest tail)) more)
-    × (cond c closed (rest (tail ++ more)) ≡ rest_from (cond c closed (rest tail)) more)
-joins_by true item tail more h = (refl, refl)
-joins_by false item tail more h = (ap (λ (x : List Item). item ∷ x) h.items, h.left)
+-- s goes on as the text after its empty lines
+joins_part : (s more : List ℕ) → front_of (skip_empty_lines s) ≡ part_of_head → Joins s more
+joins_part s more e = joins s more [] (part_of (skip_empty_lines s))
+    (frame_first s ∙ ap (items_by (skip_empty_lines s)) e) (rest_first s ∙ ap (left_by (skip_empty_lines s)) e)
+    (frame_skips (s ++ more) (skip_empty_lines s ++ more) (skip_append s more))
+    (rest_skips (s ++ more) (skip_empty_lines s ++ more) (skip_append s more))
 
-joins_some : (s more : List ℕ) (m : Message) → first_message (skip_empty_lines s) ≡ Some m → Joins (drop m.size (skip_empty_lines s)) more → Joins s more
-joins_some s more m e later =
+joins_body : (s more : List ℕ) (a : Awaited) (k : ℕ) (body : List ℕ) → front_of (skip_empty_lines s) ≡ part_of_body a body
+    → 1 < length (skip_empty_lines s) → front_of (skip_empty_lines s ++ more) ≡ with_body a k (body ++ more)
+    → drop k (skip_empty_lines s ++ more) ≡ body ++ more → Joins s more
+joins_body s more a k body e long later drops =
     let text = skip_empty_lines s in
-    let fits = message_fits text m e in
-    let long : 1 < length text = omega (arith, fits.0, fits.1) in
     let front : empty_line_length (text ++ more) ≡ 0 = line_long text more long ∙ skip_blank s in
-    let first : first_message (text ++ more) ≡ Some m = message_stays text more m e in
-    let behind : drop m.size (text ++ more) ≡ drop m.size text ++ more = drop-append-le m.size text more fits.1 in
-    let by = joins_by (closes m.item) m.item (drop m.size text) more later in
-    let items : frame s ≡ m.item ∷ cond (closes m.item) [] (frame (drop m.size text)) = frame_first s ∙ ap (items_by text) e in
-    let left : rest s ≡ cond (closes m.item) closed (rest (drop m.size text)) = rest_first s ∙ ap (left_by text) e in
-    record {
-      items = frame_skips (s ++ more) (text ++ more) (skip_append s more) ∙ frame_with (text ++ more) m front first
-          ∙ ap (λ (x : List ℕ). m.item ∷ cond (closes m.item) [] (frame x)) behind ∙ by.0
-          ∙ ap (λ (x : Left). (m.item ∷ cond (closes m.item) [] (frame (drop m.size text))) ++ frame_from x more) (sym left)
-          ∙ ap (λ (x : List Item). x ++ frame_from (rest s) more) (sym items);
-      left = rest_skips (s ++ more) (text ++ more) (skip_append s more) ∙ rest_with (text ++ more) m front first
-          ∙ ap (λ (x : List ℕ). cond (closes m.item) closed (rest x)) behind ∙ by.1
-          ∙ ap (λ (x : Left). rest_from x more) (sym left);
-    }
+    joins s more [] (body_of a body)
+    (frame_first s ∙ ap (items_by text) e) (rest_first s ∙ ap (left_by text) e)
+    (frame_skips (s ++ more) (text ++ more) (skip_append s more) ∙ frame_with (text ++ more) _ front later ∙ body_items a k (text ++ more) (body ++ more) drops)
+    (rest_skips (s ++ more) (text ++ more) (skip_append s more) ∙ rest_with (text ++ more) _ front later ∙ body_left a k (text ++ more) (body ++ more) drops)
+
+joins_by : (c : Bool) (items : List Item) (tail more : List ℕ) → Joins tail more
+    → (items ++ cond c [] (frame (tail ++ more)) ≡ (items ++ cond c [] (frame tail)) ++ frame_from (cond c closed (rest tail)) more)
+    × (cond c closed (rest (tail ++ more)) ≡ rest_from (cond c closed (rest tail)) more)
+joins_by true items tail more h = (sym (append-nil (items ++ [])), refl)
+joins_by false items tail more h = (ap (λ (x : List Item). items ++ x) h.items ∙ sym (append_assoc items (frame tail) (frame_from (rest tail) more)), h.left)
+
+joins_message : (s more : List ℕ) (m : Message) → front_of (skip_empty_lines s) ≡ message m → 1 < m.size → m.size ≤ length (skip_empty_lines s)
+    → front_of (skip_empty_lines s ++ more) ≡ message m → Joins (drop m.size (skip_empty_lines s)) more → Joins s more
+joins_message s more m e some fits later next =
+    let text = skip_empty_lines s in
+    let front : empty_line_length (text ++ more) ≡ 0 = line_long text more (omega arith) ∙ skip_blank s in
+    let behind : drop m.size (text ++ more) ≡ drop m.size text ++ more = drop-append-le m.size text more fits in
+    let by = joins_by (list_any closes m.items) m.items (drop m.size text) more next in
+    joins s more _ _
+    (frame_first s ∙ ap (items_by text) e) (rest_first s ∙ ap (left_by text) e)
+    (frame_skips (s ++ more) (text ++ more) (skip_append s more) ∙ frame_with (text ++ more) (message m) front later
+    ∙ ap (λ (x : List ℕ). m.items ++ cond (list_any closes m.items) [] (frame x)) behind ∙ by.0)
+    (rest_skips (s ++ more) (text ++ more) (skip_append s more) ∙ rest_with (text ++ more) (message m) front later
+    ∙ ap (λ (x : List ℕ). cond (list_any closes m.items) closed (rest x)) behind ∙ by.1)
 
 joins_within : (n : ℕ) (s more : List ℕ) → length s ≤ n → Joins s more
-joins_within zero s more h = let none = empty_by s h in subst (λ (x : List ℕ). Joins x more) (sym none) (joins_none [] more no_message)
+joins_within zero s more h = let none = empty_by s h in subst (λ (x : List ℕ). Joins x more) (sym none) (joins_part [] more part_first)
 joins_within (suc n) s more h =
-    go (first_message (skip_empty_lines s)) refl (λ m e. joins_within n (drop m.size (skip_empty_lines s)) more (less_left n s m h e))
+    go (front_is (skip_empty_lines s)) (λ m e. joins_within n (drop m.size (skip_empty_lines s)) more (less_left n s m h e))
   where
-    go : (o : Option Message) → first_message (skip_empty_lines s) ≡ o
-        → ((m : Message) → first_message (skip_empty_lines s) ≡ Some m → Joins (drop m.size (skip_empty_lines s)) more) → Joins s more
-    go None e later = joins_none s more e
-    go (Some m) e later = joins_some s more m e (later m e)
+    go : FrontIs (skip_empty_lines s)
+        → ((m : Message) → front_of (skip_empty_lines s) ≡ message m → Joins (drop m.size (skip_empty_lines s)) more) → Joins s more
+    go (is_part e short) next = joins_part s more e
+    go (is_body a k body e long few later drops) next = joins_body s more a k body e long (later more) (drops more)
+    go (is_message m e some fits read later) next = joins_message s more m e some fits (later more) (next m e)
 
 -- a second piece completes the items that what the first leaves over and it complete
 pub frame-append : (s more : List ℕ) → frame (s ++ more) ≡ frame s ++ frame_from (rest s) more
@@ -430,14 +527,60 @@ frame-append s more = (joins_within (length s) s more (omega arith)).items
 pub rest-append : (s more : List ℕ) → rest (s ++ more) ≡ rest_from (rest s) more
 rest-append s more = (joins_within (length s) s more (omega arith)).left
 
--- the same behind whatever was left over
+-- ---- a request's body
+
+-- the whole body and what follows it
+pub whole_items : (a : Awaited) (bytes more : List ℕ) → a.length ≤ length bytes
+    → frame_body a (bytes ++ more) ≡ request a (take a.length bytes) ∷ cond a.close [] (frame (drop a.length bytes ++ more))
+whole_items a bytes more enough =
+    rw (
+      yes_le a.length (length (bytes ++ more)) (omega (arith, length-append bytes more)),
+      take-append-le a.length bytes more enough,
+      drop-append-le a.length bytes more enough,
+    ) refl
+
+pub whole_left : (a : Awaited) (bytes more : List ℕ) → a.length ≤ length bytes
+    → rest_body a (bytes ++ more) ≡ cond a.close closed (rest (drop a.length bytes ++ more))
+whole_left a bytes more enough =
+    rw (
+      yes_le a.length (length (bytes ++ more)) (omega (arith, length-append bytes more)),
+      drop-append-le a.length bytes more enough,
+    ) refl
+
+pub few_items : (a : Awaited) (bytes : List ℕ) → length bytes < a.length → frame_body a bytes ≡ []
+few_items a bytes few = rw (no_le a.length (length bytes) few) refl
+
+pub few_left : (a : Awaited) (bytes : List ℕ) → length bytes < a.length → rest_body a bytes ≡ body_of a bytes
+few_left a bytes few = rw (no_le a.length (length bytes) few) refl
+
+closing : (c : Bool) (item : Item) (tail more : List ℕ)
+    → (item ∷ cond c [] (frame (tail ++ more)) ≡ (item ∷ cond c [] (frame tail)) ++ frame_from (cond c closed (rest tail)) more)
+    × (cond c closed (rest (tail ++ more)) ≡ rest_from (cond c closed (rest tail)) more)
+closing true item tail more = (refl, refl)
+closing false item tail more = (ap (λ (x : List Item). item ∷ x) (frame-append tail more), rest-append tail more)
+
+body-append : (a : Awaited) (bytes more : List ℕ)
+    → (frame_body a (bytes ++ more) ≡ frame_body a bytes ++ frame_from (rest_body a bytes) more)
+    × (rest_body a (bytes ++ more) ≡ rest_from (rest_body a bytes) more)
+body-append a bytes more = by_le _ a.length (length bytes)
+    (λ enough. (
+      whole_items a bytes more enough ∙ (closing a.close (request a (take a.length bytes)) (drop a.length bytes) more).0
+          ∙ rw (yes_le a.length (length bytes) enough) refl,
+      whole_left a bytes more enough ∙ (closing a.close (request a (take a.length bytes)) (drop a.length bytes) more).1
+          ∙ rw (yes_le a.length (length bytes) enough) refl,
+    ))
+    (λ few. (rw (no_le a.length (length bytes) few) refl, rw (no_le a.length (length bytes) few) refl))
+
+-- the same after whatever was left over
 pub frame_from-append : (left : Left) (s more : List ℕ) → frame_from left (s ++ more) ≡ frame_from left s ++ frame_from (rest_from left s) more
 frame_from-append closed s more = refl
 frame_from-append (part_of part) s more = ap frame (sym (append_assoc part s more)) ∙ frame-append (part ++ s) more
+frame_from-append (body_of a body) s more = ap (frame_body a) (sym (append_assoc body s more)) ∙ (body-append a (body ++ s) more).0
 
 pub rest_from-append : (left : Left) (s more : List ℕ) → rest_from left (s ++ more) ≡ rest_from (rest_from left s) more
 rest_from-append closed s more = refl
 rest_from-append (part_of part) s more = ap rest (sym (append_assoc part s more)) ∙ rest-append (part ++ s) more
+rest_from-append (body_of a body) s more = ap (rest_body a) (sym (append_assoc body s more)) ∙ (body-append a (body ++ s) more).1
 
 -- ---- what is left over
 
@@ -449,30 +592,28 @@ pub frame-nil : frame [] ≡ []
 unfolding frame
 frame-nil = refl
 
-closed_by : (c : Bool) (item : Item) (tail : List ℕ) → closes item ≡ c → is_closed (rest tail) ≡ list_any closes (frame tail)
-    → is_closed (cond c closed (rest tail)) ≡ (closes item || list_any closes (cond c [] (frame tail)))
-closed_by true item tail e h = rw e refl
-closed_by false item tail e h = rw e h
+closed_by : (c : Bool) (items : List Item) (tail : List ℕ) → list_any closes items ≡ c → is_closed (rest tail) ≡ list_any closes (frame tail)
+    → is_closed (cond c closed (rest tail)) ≡ (list_any closes items || list_any closes (cond c [] (frame tail)))
+closed_by true items tail e h = rw e refl
+closed_by false items tail e h = rw e h
 
 closed_within : (n : ℕ) (s : List ℕ) → length s ≤ n → is_closed (rest s) ≡ list_any closes (frame s)
 closed_within zero s h = let none = empty_by s h in rw (none, rest-nil, frame-nil) refl
 closed_within (suc n) s h =
-    go (first_message (skip_empty_lines s)) refl (λ m e. closed_within n (drop m.size (skip_empty_lines s)) (less_left n s m h e))
+    go (front_of (skip_empty_lines s)) refl (λ m e. closed_within n (drop m.size (skip_empty_lines s)) (less_left n s m h e))
   where
-    go : (o : Option Message) → first_message (skip_empty_lines s) ≡ o
-        → ((m : Message) → first_message (skip_empty_lines s) ≡ Some m
+    go : (f : Front) → front_of (skip_empty_lines s) ≡ f
+        → ((m : Message) → front_of (skip_empty_lines s) ≡ message m
         → is_closed (rest (drop m.size (skip_empty_lines s))) ≡ list_any closes (frame (drop m.size (skip_empty_lines s))))
         → is_closed (rest s) ≡ list_any closes (frame s)
-    go None e later =
-        let items : frame s ≡ [] = frame_first s ∙ ap (items_by (skip_empty_lines s)) e in
-        let left : rest s ≡ part_of (skip_empty_lines s) = rest_first s ∙ ap (left_by (skip_empty_lines s)) e in
-        rw (items, left) refl
-    go (Some m) e later =
-        let items : frame s ≡ m.item ∷ cond (closes m.item) [] (frame (drop m.size (skip_empty_lines s)))
-        = frame_first s ∙ ap (items_by (skip_empty_lines s)) e in
-        let left : rest s ≡ cond (closes m.item) closed (rest (drop m.size (skip_empty_lines s)))
-        = rest_first s ∙ ap (left_by (skip_empty_lines s)) e in
-        ap is_closed left ∙ closed_by (closes m.item) m.item (drop m.size (skip_empty_lines s)) refl (later m e) ∙ ap (list_any closes) (sym items)
+    go part_of_head e later = ap is_closed (rest_first s ∙ ap (left_by (skip_empty_lines s)) e)
+        ∙ ap (list_any closes) (sym (frame_first s ∙ ap (items_by (skip_empty_lines s)) e))
+    go (part_of_body a body) e later = ap is_closed (rest_first s ∙ ap (left_by (skip_empty_lines s)) e)
+        ∙ ap (list_any closes) (sym (frame_first s ∙ ap (items_by (skip_empty_lines s)) e))
+    go (message m) e later = ap is_closed (rest_first s ∙ ap (left_by (skip_empty_lines s)) e)
+        ∙ closed_by (list_any closes m.items) m.items (drop m.size (skip_empty_lines s)) refl (later m e)
+        ∙ sym (list_any-append closes m.items (cond (list_any closes m.items) [] (frame (drop m.size (skip_empty_lines s)))))
+        ∙ ap (list_any closes) (sym (frame_first s ∙ ap (items_by (skip_empty_lines s)) e))
 
 -- the connection is closed where an item closes
 pub closed_where : (s : List ℕ) → is_closed (rest s) ≡ list_any closes (frame s)
@@ -495,73 +636,96 @@ pub empty_from : (s : List ℕ) (b : Bool) → b ≡ eqb (length s) 0 → b ≡ 
 empty_from [] b test e = refl
 empty_from (x ∷ s) b test e = absurd (let none : length (x ∷ s) ≡ 0 = (Decides-eqb (length (x ∷ s)) 0).0 (sym test ∙ e) in omega arith)
 
-record IsSettledAt (left : Left) : Type 0 where
-  items : frame_from left [] ≡ []
-  same : rest_from left [] ≡ left
+-- what the bytes can leave over
+pub data IsLeft (left : Left) : Type 0 where
+  left_part : (text : List ℕ) → left ≡ part_of text → empty_line_length text ≡ 0 → front_of text ≡ part_of_head → length text < most_head_bytes → IsLeft left
+  left_body : (a : Awaited) (body : List ℕ) → left ≡ body_of a body → length body < a.length → a.length ≤ most_body_bytes → IsLeft left
+  left_shut : left ≡ closed → IsLeft left
 
-settled_none : (s : List ℕ) → first_message (skip_empty_lines s) ≡ None → IsSettledAt (part_of (skip_empty_lines s))
-settled_none s e = record {
-  items = ap frame (append-nil (skip_empty_lines s)) ∙ frame_without (skip_empty_lines s) (skip_blank s) e;
-  same = ap rest (append-nil (skip_empty_lines s)) ∙ rest_without (skip_empty_lines s) (skip_blank s) e;
-}
-
-settled_within : (n : ℕ) (s : List ℕ) → length s ≤ n → IsSettledAt (rest s)
-settled_within zero s h = let none = empty_by s h in subst (λ (x : List ℕ). IsSettledAt (rest x)) (sym none) (subst IsSettledAt (sym rest-nil) (settled_none [] no_message))
-settled_within (suc n) s h =
-    go (first_message (skip_empty_lines s)) refl (λ m e. settled_within n (drop m.size (skip_empty_lines s)) (less_left n s m h e))
+left_within : (n : ℕ) (s : List ℕ) → length s ≤ n → IsLeft (rest s)
+left_within zero s h = let none = empty_by s h in left_part [] (ap rest none ∙ rest-nil) refl part_first (lit< tt)
+left_within (suc n) s h =
+    go (front_is (skip_empty_lines s)) (λ m e. left_within n (drop m.size (skip_empty_lines s)) (less_left n s m h e))
   where
-    behind : (c : Bool) (left : Left) → IsSettledAt left → IsSettledAt (cond c closed left)
-    behind true left k = record { items = refl; same = refl }
-    behind false left k = k
+    behind : (c : Bool) (left : Left) → rest s ≡ cond c closed left → IsLeft left → IsLeft (rest s)
+    behind true left e h = left_shut e
+    behind false left e h = subst IsLeft (sym e) h
 
-    go : (o : Option Message) → first_message (skip_empty_lines s) ≡ o
-        → ((m : Message) → first_message (skip_empty_lines s) ≡ Some m → IsSettledAt (rest (drop m.size (skip_empty_lines s))))
-        → IsSettledAt (rest s)
-    go None e later = subst IsSettledAt (sym (rest_first s ∙ ap (left_by (skip_empty_lines s)) e)) (settled_none s e)
-    go (Some m) e later = subst IsSettledAt (sym (rest_first s ∙ ap (left_by (skip_empty_lines s)) e))
-        (behind (closes m.item) (rest (drop m.size (skip_empty_lines s))) (later m e))
+    go : FrontIs (skip_empty_lines s)
+        → ((m : Message) → front_of (skip_empty_lines s) ≡ message m → IsLeft (rest (drop m.size (skip_empty_lines s)))) → IsLeft (rest s)
+    go (is_part e short) next = left_part (skip_empty_lines s) (rest_first s ∙ ap (left_by (skip_empty_lines s)) e) (skip_blank s) e short
+    go (is_body a k body e long few later drops) next = left_body a body (rest_first s ∙ ap (left_by (skip_empty_lines s)) e) few.0 few.1
+    go (is_message m e some fits read later) next =
+        behind (list_any closes m.items) (rest (drop m.size (skip_empty_lines s))) (rest_first s ∙ ap (left_by (skip_empty_lines s)) e) (next m e)
+
+left_is : (s : List ℕ) → IsLeft (rest s)
+left_is s = left_within (length s) s (omega arith)
+
+pub part_items : (text : List ℕ) → empty_line_length text ≡ 0 → front_of text ≡ part_of_head → frame_from (part_of text) [] ≡ []
+part_items text none e = ap frame (append-nil text) ∙ frame_with text part_of_head none e
+
+pub part_left : (text : List ℕ) → empty_line_length text ≡ 0 → front_of text ≡ part_of_head → rest_from (part_of text) [] ≡ part_of text
+part_left text none e = ap rest (append-nil text) ∙ rest_with text part_of_head none e
+
+pub body_none : (a : Awaited) (body : List ℕ) → length body < a.length → frame_from (body_of a body) [] ≡ []
+body_none a body few = ap (frame_body a) (append-nil body) ∙ few_items a body few
+
+pub body_same : (a : Awaited) (body : List ℕ) → length body < a.length → rest_from (body_of a body) [] ≡ body_of a body
+body_same a body few = ap (rest_body a) (append-nil body) ∙ few_left a body few
 
 -- after nothing more, nothing more is complete
 pub items_settled : (s : List ℕ) → frame_from (rest s) [] ≡ []
-items_settled s = (settled_within (length s) s (omega arith)).items
+items_settled s = elim (left_is s) [
+  | left_part text is none e short ↦ ap (λ (x : Left). frame_from x []) is ∙ part_items text none e
+  | left_body a body is few most ↦ ap (λ (x : Left). frame_from x []) is ∙ body_none a body few
+  | left_shut is ↦ ap (λ (x : Left). frame_from x []) is
+]
 
 pub left_settled : (s : List ℕ) → rest_from (rest s) [] ≡ rest s
-left_settled s = (settled_within (length s) s (omega arith)).same
+left_settled s = elim (left_is s) [
+  | left_part text is none e short ↦ ap (λ (x : Left). rest_from x []) is ∙ part_left text none e ∙ sym is
+  | left_body a body is few most ↦ ap (λ (x : Left). rest_from x []) is ∙ body_same a body few ∙ sym is
+  | left_shut is ↦ ap (λ (x : Left). rest_from x []) is ∙ sym is
+]
 
-short_none : (text : List ℕ) → first_message text ≡ None → length text < most_head_bytes
-short_none text e = by_le (length text < most_head_bytes) most_head_bytes (length text)
-    (λ long. absurd (go (block_length text) refl long))
-    (λ short. short)
-  where
-    go : (o : Option ℕ) → block_length text ≡ o → most_head_bytes ≤ length text → ⊥
-    go None none long = let some : first_message text ≡ Some too_long = long_message text long (λ k is. absurd (let no : None ≡ Some k = sym none ∙ is in cc)) in
-        (let no : None ≡ Some too_long = sym e ∙ some in cc)
-    go (Some k) some long = by_le ⊥ k most_head_bytes
-        (λ fits. let no : None ≡ Some (record { item = judged (take k text); size = k }) = sym e ∙ block_message text k some fits in cc)
-        (λ far. let no : None ≡ Some too_long = sym e ∙ long_message text long (λ j is. (let same : Some k ≡ Some j = sym some ∙ is in let this : k ≡ j = cc in omega arith)) in cc)
-
-part_inj : (a b : List ℕ) → part_of a ≡ part_of b → a ≡ b
-part_inj a b e = cc
-
-short_within : (n : ℕ) (s part : List ℕ) → length s ≤ n → rest s ≡ part_of part → length part < most_head_bytes
-short_within zero s part h e = let none = empty_by s h in
-    let is : [] ≡ part = part_inj [] part (sym rest-nil ∙ ap rest (sym none) ∙ e) in
-    subst (λ (x : List ℕ). length x < most_head_bytes) is (short_none [] no_message)
-short_within (suc n) s part h e =
-    go (first_message (skip_empty_lines s)) refl (λ m f. short_within n (drop m.size (skip_empty_lines s)) part (less_left n s m h f))
-  where
-    behind : (c : Bool) (left : Left) → cond c closed left ≡ part_of part → left ≡ part_of part
-    behind true left k = absurd (cc)
-    behind false left k = k
-
-    go : (o : Option Message) → first_message (skip_empty_lines s) ≡ o
-        → ((m : Message) → first_message (skip_empty_lines s) ≡ Some m → rest (drop m.size (skip_empty_lines s)) ≡ part_of part → length part < most_head_bytes)
-        → length part < most_head_bytes
-    go None f later = subst (λ (x : List ℕ). length x < most_head_bytes)
-        (part_inj (skip_empty_lines s) part (sym (rest_first s ∙ ap (left_by (skip_empty_lines s)) f) ∙ e)) (short_none (skip_empty_lines s) f)
-    go (Some m) f later = later m f (behind (closes m.item) (rest (drop m.size (skip_empty_lines s)))
-        (sym (rest_first s ∙ ap (left_by (skip_empty_lines s)) f) ∙ e))
-
--- what is left over is shorter than the longest block
+-- what is left over is shorter than the longest block, or than the body that is awaited
 pub left_short : (s part : List ℕ) → rest s ≡ part_of part → length part < most_head_bytes
-left_short s part e = short_within (length s) s part (omega arith) e
+left_short s part at = elim (left_is s) [
+  | left_part text is none e short ↦ (let same : part_of text ≡ part_of part = sym is ∙ at in let this : text ≡ part = cc in let size = ap length this in omega arith)
+  | left_body a body is few most ↦ absurd (let no : body_of a body ≡ part_of part = sym is ∙ at in cc)
+  | left_shut is ↦ absurd (let no : closed ≡ part_of part = sym is ∙ at in cc)
+]
+
+pub body_left_short : (s : List ℕ) (a : Awaited) (body : List ℕ) → rest s ≡ body_of a body → (length body < a.length) × (a.length ≤ most_body_bytes)
+body_left_short s a body at = elim (left_is s) [
+  | left_part text is none e short ↦ absurd (let no : part_of text ≡ body_of a body = sym is ∙ at in cc)
+  | left_body b text is few most ↦ (
+      let same : body_of b text ≡ body_of a body = sym is ∙ at in
+      let who : b ≡ a = cc in
+      let what : text ≡ body = cc in
+      let size = ap length what in
+      let long = ap (λ (x : Awaited). x.length) who in (omega arith, omega arith))
+  | left_shut is ↦ absurd (let no : closed ≡ body_of a body = sym is ∙ at in cc)
+]
+
+-- ---- each request was read
+
+items_read : (n : ℕ) (s : List ℕ) → All IsRead (first_items n s)
+items_read zero s = All-nil IsRead
+items_read (suc n) s = go (front_is (skip_empty_lines s)) (λ m. items_read n (drop m.size (skip_empty_lines s)))
+  where
+    behind : (c : Bool) (tail : List Item) → All IsRead tail → All IsRead (cond c [] tail)
+    behind true tail h = All-nil IsRead
+    behind false tail h = h
+
+    go : FrontIs (skip_empty_lines s) → ((m : Message) → All IsRead (first_items n (drop m.size (skip_empty_lines s))))
+        → All IsRead (first_items (suc n) s)
+    go (is_part e short) next = subst (λ (f : Front). All IsRead (items_at n (skip_empty_lines s) f)) (sym e) (All-nil IsRead)
+    go (is_body a k body e long few later drops) next = subst (λ (f : Front). All IsRead (items_at n (skip_empty_lines s) f)) (sym e) (All-nil IsRead)
+    go (is_message m e some fits read later) next = subst (λ (f : Front). All IsRead (items_at n (skip_empty_lines s) f)) (sym e)
+        (All-append IsRead m.items (cond (list_any closes m.items) [] (first_items n (drop m.size (skip_empty_lines s))))
+        read (behind (list_any closes m.items) (first_items n (drop m.size (skip_empty_lines s))) (next m)))
+
+pub requests_read : (s : List ℕ) → All IsRead (frame s)
+unfolding frame
+requests_read s = items_read (length s) s

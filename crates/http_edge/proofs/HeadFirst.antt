@@ -1,5 +1,6 @@
 -- A request head of the grammar, at the front of a connection's bytes, is one head block of them.
 use Rattle.std.proofs.Common.{◌≡◌, ℕ, ◌+◌, ◌<◌, ◌≤◌, ◌&&◌, true, false, cond, List, [], ◌∷◌, ◌++◌, length, Some, refl, sym, ap, ◌∙◌, arith, append_assoc, append-nil, length-append}
+use Rattle.std.proofs.Math.Seq.{drop-length, take-length}
 use Rattle.std.specs.Prelude.{nat_lt}
 use Rattle.std.specs.List.{All, flat_map}
 use Rattle.std.specs.Option.{option_map}
@@ -7,10 +8,12 @@ use Rattle.std.proofs.Math.Dec.{eqb}
 use Rattle.std.proofs.lemmas.Bool.Decides.{nat_tests}
 use Rattle.std.proofs.lemmas.List.Elements.{All-head, All-tail}
 use Rattle.httparse.specs.Grammar.{LineEnd, crlf, lf, print_end, Field, print_field, IsField, print_section, RequestHead, IsRequestHead, print_request}
-use Rattle.http_edge.specs.Judge.{closes, within_limit, item_of, judged}
+use Rattle.http_edge.specs.Judge.{within_limit, verdict_of, judged, request}
 use Rattle.http_edge.specs.Frame.{empty_line_length, block_length, most_head_bytes, frame}
+use Rattle.http_edge.specs.Left.{body_of, frame_from, frame_after}
+use Rattle.http_edge.specs.declared.verdict.Awaited.{Awaited}
 use Rattle.http_edge.proofs.BlockLemmas.{IsNot, field_text, field_line, text_no, start_text, start_no, regrouped, lf_no_token, cr_no_token, head_of_finds}
-use Rattle.http_edge.proofs.FrameLemmas.{line_begins, ends_block, not_ends, skip_lf, skip_crlf, frame_skips}
+use Rattle.http_edge.proofs.FrameLemmas.{line_begins, ends_block, not_ends, skip_lf, skip_crlf, frame_skips, whole_items}
 use Rattle.http_edge.proofs.LineLemmas.{IsBlock, whole_block}
 
 -- a byte that is neither LF nor CR begins no empty line
@@ -109,17 +112,22 @@ head_block h v blank =
           ∙ ap Some (sym size);
     }
 
--- a string that begins with a request head is framed as that head, and then as what follows it
+-- a string that begins with a request head is framed by what that head comes to, and then by what follows it
 pub head_first : (h : RequestHead) (more : List ℕ) → IsRequestHead h → h.blank ≡ [] → length (print_request h) ≤ most_head_bytes
-    → frame (print_request h ++ more) ≡ judged (print_request h) ∷ cond (closes (judged (print_request h))) [] (frame more)
+    → frame (print_request h ++ more) ≡ frame_after (judged (print_request h)) more
 head_first h more v blank fits = (whole_block (print_request h) (head_block h v blank) fits).items more
 
 -- a head block is judged as the head that it is
-pub head_judged : (h : RequestHead) → IsRequestHead h → judged (print_request h) ≡ item_of (within_limit (Some h))
+pub head_judged : (h : RequestHead) → IsRequestHead h → judged (print_request h) ≡ verdict_of (within_limit (Some h))
 unfolding judged
-head_judged h v = ap (λ x. item_of (within_limit x)) (head_of_finds (print_request h) h (v, sym (append-nil (print_request h))))
+head_judged h v = ap (λ x. verdict_of (within_limit x)) (head_of_finds (print_request h) h (v, sym (append-nil (print_request h))))
 
 -- an empty line at the front is dropped
 pub blank_first : (end : LineEnd) (more : List ℕ) → frame (print_end end ++ more) ≡ frame more
 blank_first lf more = frame_skips (10 ∷ more) more (skip_lf more)
 blank_first crlf more = frame_skips (13 ∷ 10 ∷ more) more (skip_crlf more)
+
+-- a request's body is the next bytes
+pub body_first : (a : Awaited) (body more : List ℕ) → length body ≡ a.length
+    → frame_from (body_of a []) (body ++ more) ≡ request a body ∷ cond a.close [] (frame more)
+body_first a body more size = whole_items a body more (omega arith) ∙ rw (sym size, take-length body, drop-length body) refl

@@ -3,17 +3,21 @@ use Rattle.std.proofs.Common.{◌≡◌, ◌⊎◌, inl, inr, cond, subst, true,
 use Rattle.std.specs.Prelude.{nat_le, nat_lt, nat_eq}
 use Rattle.std.specs.List.{ends_with}
 use Rattle.std.proofs.Math.Dec.{eqb}
-use Rattle.std.proofs.Math.Seq.{take-append_seam, drop-append_seam}
+use Rattle.std.proofs.Math.Seq.{take-append_seam, drop-append_seam, drop-length, take-length}
 use Rattle.std.proofs.lemmas.Bool.Decides.{nat_tests, Decides-eqb}
 use Rattle.std.proofs.lemmas.Slice.Eq.{ends_is, bytes_eq-Decides}
+use Rattle.http_edge.specs.declared.item.FramingFault.{FramingFault}
 use Rattle.http_edge.specs.declared.item.FramingFault.TheVariants.{BadHead}
 use Rattle.http_edge.specs.declared.item.Item.{Item}
-use Rattle.http_edge.specs.declared.item.Item.TheVariants.{Fault}
-use Rattle.http_edge.specs.Judge.{closes, judged}
-use Rattle.http_edge.specs.Frame.{empty_line_length, block_length, most_head_bytes, too_long, first_message, frame}
-use Rattle.http_edge.specs.Left.{Left, part_of, closed, is_closed, rest, frame_from, rest_from}
-use Rattle.http_edge.specs.Line.{IsPart, IsLine, is_empty_line, ends_in_empty_line, completes, IsSettled}
-use Rattle.http_edge.proofs.FrameLemmas.{line_begins, line_same, line_long, ends_block, no_block, still_no_block, ends_none, not_ends, skip_lf, skip_crlf, long_message, block_message, block_comes, frame_skips, rest_skips, frame_with, rest_with, frame_without, rest_without}
+use Rattle.http_edge.specs.declared.item.Item.TheVariants.{Request, Fault}
+use Rattle.http_edge.specs.declared.verdict.Awaited.{Awaited}
+use Rattle.http_edge.specs.declared.verdict.Verdict.{Verdict}
+use Rattle.http_edge.specs.declared.verdict.Verdict.TheVariants.{Taken, Refused}
+use Rattle.http_edge.specs.Judge.{judged}
+use Rattle.http_edge.specs.Frame.{empty_line_length, block_length, most_head_bytes, part_of_head, message, too_long, after_head, front_of, frame}
+use Rattle.http_edge.specs.Left.{Left, part_of, body_of, closed, is_closed, rest, frame_body, rest_body, frame_from, rest_from, frame_after, rest_after}
+use Rattle.http_edge.specs.Line.{IsPart, IsLine, IsWaiting, Adds, is_empty_line, ends_in_empty_line, completes, IsSettled}
+use Rattle.http_edge.proofs.FrameLemmas.{line_begins, line_same, line_long, ends_block, no_block, still_no_block, ends_none, not_ends, skip_lf, skip_crlf, long_front, block_front, short_front, block_comes, frame_skips, rest_skips, frame_with, rest_with, verdict_items, verdict_left, whole_items, whole_left, part_items, part_left, body_none, body_same}
 
 -- ---- the last bytes
 
@@ -115,7 +119,7 @@ block_ends (x ∷ front) a b none some =
     let test : ends_block x (front ++ 10 ∷ b) ≡ false = rw same before.0 in
     rw (test, block_ends front a b before.1 some) (ap Some (omega arith))
 
--- the bytes end in the first empty line behind an LF
+-- the bytes end in the first empty line after an LF
 pub record IsBlock (s : List ℕ) : Type 0 where
   pub no_blank : (more : List ℕ) → empty_line_length (s ++ more) ≡ 0
   pub block : (more : List ℕ) → block_length (s ++ more) ≡ Some (length s)
@@ -241,40 +245,41 @@ is_open s (lf_came t h is) no_blank no_end =
 cut_here : (s more : List ℕ) → drop (length s) (s ++ more) ≡ more
 cut_here s more = drop-append_seam s more
 
--- the item and what goes on behind it
-pub record GoesOn (s : List ℕ) (item : Item) : Type 0 where
-  pub items : (more : List ℕ) → frame (s ++ more) ≡ item ∷ cond (closes item) [] (frame more)
-  pub left : (more : List ℕ) → rest (s ++ more) ≡ cond (closes item) closed (rest more)
+-- what the bytes come to, and what follows them
+pub record GoesOn (s : List ℕ) (verdict : Verdict) : Type 0 where
+  pub items : (more : List ℕ) → frame (s ++ more) ≡ frame_after verdict more
+  pub left : (more : List ℕ) → rest (s ++ more) ≡ rest_after verdict more
 
 -- a whole block that isn't too long
 pub whole_block : (s : List ℕ) → IsBlock s → length s ≤ most_head_bytes → GoesOn s (judged s)
 whole_block s h fits =
-    let first : (more : List ℕ) → first_message (s ++ more) ≡ Some (record { item = judged s; size = length s })
-    = λ more. block_message (s ++ more) (length s) (h.block more) fits
-    ∙ ap (λ (x : List ℕ). Some (record { item = judged x; size = length s })) (take-append_seam s more) in
+    let front : (more : List ℕ) → front_of (s ++ more) ≡ after_head (judged s) (length s) more
+    = λ more. block_front (s ++ more) (length s) (h.block more) fits
+    ∙ ap (λ (x : List ℕ). after_head (judged x) (length s) (drop (length s) (s ++ more))) (take-append_seam s more)
+    ∙ ap (λ (x : List ℕ). after_head (judged s) (length s) x) (cut_here s more) in
     record {
-      items = λ more. frame_with (s ++ more) _ (h.no_blank more) (first more)
-          ∙ ap (λ (x : List ℕ). judged s ∷ cond (closes (judged s)) [] (frame x)) (cut_here s more);
-      left = λ more. rest_with (s ++ more) _ (h.no_blank more) (first more)
-          ∙ ap (λ (x : List ℕ). cond (closes (judged s)) closed (rest x)) (cut_here s more);
+      items = λ more. frame_with (s ++ more) _ (h.no_blank more) (front more)
+          ∙ verdict_items (judged s) (length s) (s ++ more) more (cut_here s more);
+      left = λ more. rest_with (s ++ more) _ (h.no_blank more) (front more)
+          ∙ verdict_left (judged s) (length s) (s ++ more) more (cut_here s more);
     }
 
 -- so many bytes without the end of a block
 too_many : (s : List ℕ) → ((more : List ℕ) → empty_line_length (s ++ more) ≡ 0) → most_head_bytes ≤ length s
-    → ((more : List ℕ) (k : ℕ) → block_length (s ++ more) ≡ Some k → most_head_bytes < k) → GoesOn s (Fault BadHead false)
+    → ((more : List ℕ) (k : ℕ) → block_length (s ++ more) ≡ Some k → most_head_bytes < k) → GoesOn s (Refused BadHead false)
 too_many s blank long far =
-    let first : (more : List ℕ) → first_message (s ++ more) ≡ Some too_long
-    = λ more. long_message (s ++ more) (omega (arith, length-append s more)) (far more) in
+    let front : (more : List ℕ) → front_of (s ++ more) ≡ message too_long
+    = λ more. long_front (s ++ more) (omega (arith, length-append s more)) (far more) in
     record {
-      items = λ more. frame_with (s ++ more) too_long (blank more) (first more);
-      left = λ more. rest_with (s ++ more) too_long (blank more) (first more);
+      items = λ more. frame_with (s ++ more) (message too_long) (blank more) (front more);
+      left = λ more. rest_with (s ++ more) (message too_long) (blank more) (front more);
     }
 
-open_far : (s : List ℕ) → IsOpen s → most_head_bytes ≤ length s → GoesOn s (Fault BadHead false)
+open_far : (s : List ℕ) → IsOpen s → most_head_bytes ≤ length s → GoesOn s (Refused BadHead false)
 open_far s h long = too_many s (λ more. line_long s more (omega arith) ∙ h.no_blank) long
     (λ more k some. let past = block_comes s more k h.no_block some in omega arith)
 
-block_far : (s : List ℕ) → IsBlock s → most_head_bytes < length s → GoesOn s (Fault BadHead false)
+block_far : (s : List ℕ) → IsBlock s → most_head_bytes < length s → GoesOn s (Refused BadHead false)
 block_far s h long = too_many s h.no_blank (omega arith)
     (λ more k some. let same : Some (length s) ≡ Some k = sym (h.block more) ∙ some in let is : length s ≡ k = cc in omega arith)
 
@@ -286,10 +291,10 @@ short_line s e = elim (or_cases _ _ e) [
 
 -- a line that makes more bytes than a block may have
 pub past_limit : (part line : List ℕ) → IsPart part → IsLine line → most_head_bytes < length (part ++ line)
-    → GoesOn (part ++ line) (Fault BadHead false)
+    → GoesOn (part ++ line) (Refused BadHead false)
 past_limit part line h is long = go (is_empty_line (part ++ line)) (ends_in_empty_line (part ++ line)) refl refl
   where
-    go : (blank ends : Bool) → is_empty_line (part ++ line) ≡ blank → ends_in_empty_line (part ++ line) ≡ ends → GoesOn (part ++ line) (Fault BadHead false)
+    go : (blank ends : Bool) → is_empty_line (part ++ line) ≡ blank → ends_in_empty_line (part ++ line) ≡ ends → GoesOn (part ++ line) (Refused BadHead false)
     go true ends e f = absurd (let short = short_line (part ++ line) e in omega arith)
     go false true e f = block_far (part ++ line) (is_block (part ++ line) (grown part line h is) f) long
     go false false e f = open_far (part ++ line) (is_open (part ++ line) (grown part line h is) e f) (omega arith)
@@ -297,21 +302,21 @@ past_limit part line h is long = go (is_empty_line (part ++ line)) (ends_in_empt
 some_inj : {A : Type 0} (x y : A) → Some x ≡ Some y → x ≡ y
 some_inj x y e = cc
 
--- a line that completes an item
-pub completed_item : (part line : List ℕ) (item : Item) → IsPart part → IsLine line → length (part ++ line) ≤ most_head_bytes
-    → is_empty_line (part ++ line) ≡ false → completes (part ++ line) ≡ Some item → GoesOn (part ++ line) item
+-- a line that completes a block, or is too many
+pub completed_block : (part line : List ℕ) (verdict : Verdict) → IsPart part → IsLine line → length (part ++ line) ≤ most_head_bytes
+    → is_empty_line (part ++ line) ≡ false → completes (part ++ line) ≡ Some verdict → GoesOn (part ++ line) verdict
 unfolding completes
-completed_item part line item h is fits no_blank done = go (ends_in_empty_line (part ++ line)) refl done
+completed_block part line verdict h is fits no_blank done = go (ends_in_empty_line (part ++ line)) refl done
   where
     last : (b : Bool) → nat_le most_head_bytes (length (part ++ line)) ≡ b → IsOpen (part ++ line)
-        → cond b (Some (Fault BadHead false)) None ≡ Some item → GoesOn (part ++ line) item
-    last true e open_now done = subst (GoesOn (part ++ line)) (some_inj (Fault BadHead false) item done) (open_far (part ++ line) open_now (grind (arith, nat_tests)))
+        → cond b (Some (Refused BadHead false)) None ≡ Some verdict → GoesOn (part ++ line) verdict
+    last true e open_now done = subst (GoesOn (part ++ line)) (some_inj (Refused BadHead false) verdict done) (open_far (part ++ line) open_now (grind (arith, nat_tests)))
     last false e open_now done = absurd (cc)
 
     go : (ends : Bool) → ends_in_empty_line (part ++ line) ≡ ends
-        → cond ends (Some (judged (part ++ line))) (cond (nat_le most_head_bytes (length (part ++ line))) (Some (Fault BadHead false)) None) ≡ Some item
-        → GoesOn (part ++ line) item
-    go true e done = subst (GoesOn (part ++ line)) (some_inj (judged (part ++ line)) item done) (whole_block (part ++ line) (is_block (part ++ line) (grown part line h is) e) fits)
+        → cond ends (Some (judged (part ++ line))) (cond (nat_le most_head_bytes (length (part ++ line))) (Some (Refused BadHead false)) None) ≡ Some verdict
+        → GoesOn (part ++ line) verdict
+    go true e done = subst (GoesOn (part ++ line)) (some_inj (judged (part ++ line)) verdict done) (whole_block (part ++ line) (is_block (part ++ line) (grown part line h is) e) fits)
     go false e done = last (nat_le most_head_bytes (length (part ++ line))) refl (is_open (part ++ line) (grown part line h is) no_blank e) done
 
 -- a line that completes nothing
@@ -321,12 +326,12 @@ unfolding completes
 goes_on part line h is no_blank done = go (ends_in_empty_line (part ++ line)) refl done
   where
     last : (b : Bool) → nat_le most_head_bytes (length (part ++ line)) ≡ b → IsOpen (part ++ line)
-        → cond b (Some (Fault BadHead false)) None ≡ None → IsPart (part ++ line)
+        → cond b (Some (Refused BadHead false)) None ≡ None → IsPart (part ++ line)
     last true e open_now done = absurd (cc)
     last false e open_now done = record { no_blank = open_now.no_blank; no_block = open_now.no_block; short = grind (arith, nat_tests) }
 
     go : (ends : Bool) → ends_in_empty_line (part ++ line) ≡ ends
-        → cond ends (Some (judged (part ++ line))) (cond (nat_le most_head_bytes (length (part ++ line))) (Some (Fault BadHead false)) None) ≡ None
+        → cond ends (Some (judged (part ++ line))) (cond (nat_le most_head_bytes (length (part ++ line))) (Some (Refused BadHead false)) None) ≡ None
         → IsPart (part ++ line)
     go true e done = absurd (cc)
     go false e done = last (nat_le most_head_bytes (length (part ++ line))) refl (is_open (part ++ line) (grown part line h is) no_blank e) done
@@ -340,105 +345,99 @@ blank_goes s e more = elim (or_cases _ _ e) [
       (ap (λ (x : List ℕ). frame (x ++ more)) is ∙ frame_skips (13 ∷ 10 ∷ more) more (skip_crlf more), ap (λ (x : List ℕ). rest (x ++ more)) is ∙ rest_skips (13 ∷ 10 ∷ more) more (skip_crlf more))
 ]
 
-below : (n : ℕ) → n < most_head_bytes → nat_le most_head_bytes n ≡ false
-below n h = grind (arith, nat_tests)
+-- ---- what is left over by itself completes nothing
 
-no_message_yet : (part : List ℕ) → IsPart part → first_message part ≡ None
-unfolding first_message
-no_message_yet part h = let short : nat_le most_head_bytes (length part) ≡ false = below (length part) h.short in rw (h.no_block, short) refl
-
--- a part by itself completes nothing
-pub part_settled : (part : List ℕ) → IsPart part → IsSettled (part_of part)
-part_settled part h =
-    let none : first_message part ≡ None = no_message_yet part h in
-    record {
-      none = ap frame (append-nil part) ∙ frame_without part h.no_blank none;
-      same = ap rest (append-nil part) ∙ rest_without part h.no_blank none;
-    }
-
-pub closed_settled : IsSettled closed
-closed_settled = record { none = refl; same = refl }
+pub waiting_settled : (left : Left) → IsWaiting left → IsSettled left
+waiting_settled (part_of part) h =
+    let front : front_of part ≡ part_of_head = short_front part h.no_block h.short in
+    record { none = part_items part h.no_blank front; same = part_left part h.no_blank front }
+waiting_settled (body_of a body) h = record { none = body_none a body h; same = body_same a body h }
+waiting_settled closed h = record { none = refl; same = refl }
 
 pub empty_part : IsPart []
 empty_part = record { no_blank = refl; no_block = refl; short = lit< tt }
 
--- ---- in the words of the code
+-- ---- in the words of the loop over a piece
 
-pub settled_by : (ended : Bool) (part : List ℕ) (left : Left) → cond ended closed (part_of part) ≡ left → IsPart part → IsSettled left
-settled_by true part left e h = subst IsSettled e closed_settled
-settled_by false part left e h = subst IsSettled e (part_settled part h)
-
--- one line more, in the words of the loop over a piece
-pub items_more : (old new : Left) (bytes line more : List ℕ) (before after found whole : List Item) → bytes ≡ line ++ more
-    → after ≡ before ++ found → frame_from old (line ++ more) ≡ found ++ frame_from new more
+pub items_more : (old new : Left) (bytes next more : List ℕ) (before after found whole : List Item) → bytes ≡ next ++ more
+    → after ≡ before ++ found → Adds old next found new
     → before ++ frame_from old bytes ≡ whole → after ++ frame_from new more ≡ whole
-items_more old new bytes line more before after found whole parts pushed goes e =
+items_more old new bytes next more before after found whole parts pushed adds e =
     ap (λ (x : List Item). x ++ frame_from new more) pushed ∙ append_assoc before found (frame_from new more)
-    ∙ ap (λ (x : List Item). before ++ x) (sym goes ∙ ap (frame_from old) (sym parts)) ∙ e
+    ∙ ap (λ (x : List Item). before ++ x) (sym (adds.items more) ∙ ap (frame_from old) (sym parts)) ∙ e
 
-pub left_more : (old new whole : Left) (bytes line more : List ℕ) → bytes ≡ line ++ more
-    → rest_from old (line ++ more) ≡ rest_from new more → rest_from old bytes ≡ whole → rest_from new more ≡ whole
-left_more old new whole bytes line more parts goes e = sym goes ∙ ap (rest_from old) (sym parts) ∙ e
+pub left_more : (old new whole : Left) (bytes next more : List ℕ) (found : List Item) → bytes ≡ next ++ more
+    → Adds old next found new → rest_from old bytes ≡ whole → rest_from new more ≡ whole
+left_more old new whole bytes next more found parts adds e = sym (adds.left more) ∙ ap (rest_from old) (sym parts) ∙ e
 
--- behind the last byte, or a closed connection
+-- after the last byte, or a closed connection
 pub nothing_more : (left : Left) (bytes : List ℕ) → IsSettled left → bytes ≡ [] → (frame_from left bytes ≡ []) × (rest_from left bytes ≡ left)
 nothing_more left bytes h e = (ap (frame_from left) e ∙ h.none, ap (rest_from left) e ∙ h.same)
 
 pub closed_more : (left : Left) (bytes : List ℕ) → is_closed left ≡ true → (frame_from left bytes ≡ []) × (rest_from left bytes ≡ left)
 closed_more closed bytes e = (refl, refl)
 closed_more (part_of part) bytes e = absurd (cc)
+closed_more (body_of a body) bytes e = absurd (cc)
 
-open_view : (ended : Bool) (part : List ℕ) (left : Left) → cond ended closed (part_of part) ≡ left → is_closed left ≡ false
-    → (ended ≡ false) × (left ≡ part_of part)
-open_view true part left e is = absurd (let shut : is_closed left ≡ true = sym (ap is_closed e) in cc)
-open_view false part left e is = (refl, sym e)
+-- ---- in the words of the states
 
--- what a line makes of what was left over
-pub record Adds (was : Left) (line : List ℕ) (found : List Item) (next : Left) : Type 0 where
-  pub items : (more : List ℕ) → frame_from was (line ++ more) ≡ found ++ frame_from next more
-  pub left : (more : List ℕ) → rest_from was (line ++ more) ≡ rest_from next more
-
-adds : (part line : List ℕ) (found : List Item) (next : Left)
-    → ((more : List ℕ) → frame ((part ++ line) ++ more) ≡ found ++ frame_from next more)
-    → ((more : List ℕ) → rest ((part ++ line) ++ more) ≡ rest_from next more) → Adds (part_of part) line found next
-adds part line found next items left = record {
-  items = λ more. ap frame (sym (append_assoc part line more)) ∙ items more;
-  left = λ more. ap rest (sym (append_assoc part line more)) ∙ left more;
+-- a line makes a head block
+pub adds_verdict : (part line all : List ℕ) (verdict : Verdict) (found : List Item) (next : Left) → all ≡ part ++ line
+    → GoesOn (part ++ line) verdict
+    → ((more : List ℕ) → frame_after verdict more ≡ found ++ frame_from next more)
+    → ((more : List ℕ) → rest_after verdict more ≡ rest_from next more) → Adds (part_of part) line found next
+adds_verdict part line all verdict found next is h items left = record {
+  items = λ more. ap frame (sym (append_assoc part line more)) ∙ h.items more ∙ items more;
+  left = λ more. ap rest (sym (append_assoc part line more)) ∙ h.left more ∙ left more;
 }
 
--- an item, behind which a new part begins or nothing comes
-pub adds_item : (ended closing : Bool) (part line dest : List ℕ) (left : Left) (item : Item)
-    → cond ended closed (part_of part) ≡ left → is_closed left ≡ false → dest ≡ [] → closing ≡ closes item
-    → GoesOn (part ++ line) item → Adds left line (item ∷ []) (cond closing closed (part_of dest))
-adds_item ended closing part line dest left item view is none same h =
-    let at = open_view ended part left view is in
-    rw (at.1, none, same) (adds part line (item ∷ []) (cond (closes item) closed (part_of []))
-    (λ more. h.items more ∙ goes_items (closes item) more) (λ more. h.left more ∙ goes_left (closes item) more))
-  where
-    goes_items : (c : Bool) (more : List ℕ) → item ∷ cond c [] (frame more) ≡ (item ∷ []) ++ frame_from (cond c closed (part_of [])) more
-    goes_items true more = refl
-    goes_items false more = refl
+-- one that is refused
+pub adds_fault : (part line : List ℕ) (fault : FramingFault) (head_only : Bool)
+    → GoesOn (part ++ line) (Refused fault head_only) → Adds (part_of part) line (Fault fault head_only ∷ []) closed
+adds_fault part line fault head_only h = adds_verdict part line (part ++ line) (Refused fault head_only) _ _ refl h (λ more. refl) (λ more. refl)
 
-    goes_left : (c : Bool) (more : List ℕ) → cond c closed (rest more) ≡ rest_from (cond c closed (part_of [])) more
-    goes_left true more = refl
-    goes_left false more = refl
+-- one that is taken
+pub adds_request : (part line : List ℕ) (a : Awaited) (found : List Item) (next : Left)
+    → GoesOn (part ++ line) (Taken a) → Adds (body_of a []) [] found next → Adds (part_of part) line found next
+adds_request part line a found next h with_body = adds_verdict part line (part ++ line) (Taken a) found next refl h with_body.items with_body.left
 
 -- an empty line at the front
-pub adds_blank : (ended : Bool) (part line dest : List ℕ) (left : Left)
-    → cond ended closed (part_of part) ≡ left → is_closed left ≡ false → dest ≡ [] → is_empty_line (part ++ line) ≡ true
-    → Adds left line [] (cond ended closed (part_of dest))
-adds_blank ended part line dest left view is none blank =
-    let at = open_view ended part left view is in
-    rw (at.1, none, at.0) (adds part line [] (part_of []) (λ more. (blank_goes (part ++ line) blank more).0) (λ more. (blank_goes (part ++ line) blank more).1))
+pub adds_blank : (part line : List ℕ) → is_empty_line (part ++ line) ≡ true → Adds (part_of part) line [] (part_of [])
+adds_blank part line blank = record {
+  items = λ more. ap frame (sym (append_assoc part line more)) ∙ (blank_goes (part ++ line) blank more).0;
+  left = λ more. ap rest (sym (append_assoc part line more)) ∙ (blank_goes (part ++ line) blank more).1;
+}
 
 -- a line that completes nothing
-pub adds_nothing : (ended : Bool) (part line dest : List ℕ) (left : Left)
-    → cond ended closed (part_of part) ≡ left → is_closed left ≡ false → dest ≡ part ++ line
-    → Adds left line [] (cond ended closed (part_of dest))
-adds_nothing ended part line dest left view is grown =
-    let at = open_view ended part left view is in
-    rw (at.1, grown, at.0) (adds part line [] (part_of (part ++ line)) (λ more. refl) (λ more. refl))
+pub adds_nothing : (part line : List ℕ) → Adds (part_of part) line [] (part_of (part ++ line))
+adds_nothing part line = record {
+  items = λ more. ap frame (sym (append_assoc part line more));
+  left = λ more. ap rest (sym (append_assoc part line more));
+}
 
-pub closed_view : (ended : Bool) (part : List ℕ) (left : Left) → cond ended closed (part_of part) ≡ left → ended ≡ is_closed left
-closed_view true part left e = ap is_closed e
-closed_view false part left e = ap is_closed e
+-- a body that isn't whole yet
+pub adds_body : (a : Awaited) (body next : List ℕ) (found : List Item) (left : Left) → Adds (body_of a (body ++ next)) [] found left
+    → Adds (body_of a body) next found left
+adds_body a body next found left h = record {
+  items = λ more. ap (frame_body a) (sym (append_assoc body next more)) ∙ h.items more;
+  left = λ more. ap (rest_body a) (sym (append_assoc body next more)) ∙ h.left more;
+}
+
+pub adds_same : (left : Left) → Adds left [] [] left
+adds_same left = record { items = λ more. refl; left = λ more. refl }
+
+-- a whole body
+pub adds_whole : (a : Awaited) (body : List ℕ) (c : Bool) → a.close ≡ c → length body ≡ a.length
+    → Adds (body_of a body) [] (Request a.head body c ∷ []) (cond c closed (part_of []))
+adds_whole a body c says size = record {
+  items = λ more. whole_items a body more (omega arith) ∙ rw (says, sym size, take-length body, drop-length body) (go_items c more);
+  left = λ more. whole_left a body more (omega arith) ∙ rw (says, sym size, drop-length body) (go_left c more);
+}
+  where
+    go_items : (c : Bool) (more : List ℕ) → Request a.head body c ∷ cond c [] (frame more) ≡ (Request a.head body c ∷ []) ++ frame_from (cond c closed (part_of [])) more
+    go_items true more = refl
+    go_items false more = refl
+
+    go_left : (c : Bool) (more : List ℕ) → cond c closed (rest more) ≡ rest_from (cond c closed (part_of [])) more
+    go_left true more = refl
+    go_left false more = refl

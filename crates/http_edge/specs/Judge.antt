@@ -1,7 +1,8 @@
--- What a head block comes to: a request, or a framing fault (RFC 9112, sections 3.2, 6.1, 6.2 and 9.3).
-use Rattle.std.specs.Prelude.{ℕ, Bool, true, false, ◌&&◌, ◌||◌, not, List, [], length, map, count_by, if◌then◌else◌, ◌==◌, nat_lt, nat_le, Option, Some, None, bytes_eq, codes}
-use Rattle.std.specs.List.{list_any, slice_split}
-use Rattle.std.specs.Char.{to_ascii_lowercase}
+-- What a head block comes to: a request that its body completes, or a framing fault (RFC 9112, sections 3.2, 6.1, 6.2 and 9.3).
+use Rattle.std.specs.Prelude.{ℕ, Bool, true, false, ◌&&◌, ◌||◌, not, List, [], ◌∷◌, length, map, filter, count_by, if◌then◌else◌, ◌==◌, nat_lt, nat_le, Option, Some, None, Result, Ok, Err, bytes_eq, codes}
+use Rattle.std.specs.List.{list_any, list_all, slice_split}
+use Rattle.std.specs.Char.{to_ascii_lowercase, is_ascii_digit}
+use Rattle.std.specs.Str.Parse.{digits_value}
 use Rattle.httparse.specs.Ascii.{comma}
 use Rattle.httparse.specs.Grammar.{RequestHead, field_value, trim_ows}
 use Rattle.httparse.specs.Grammar as grammar
@@ -12,6 +13,9 @@ use Rattle.http_edge.specs.declared.item.FramingFault.{FramingFault}
 use Rattle.http_edge.specs.declared.item.FramingFault.TheVariants.{BadHead, BadHost, TransferCoding, BadLength, TooLong}
 use Rattle.http_edge.specs.declared.item.Item.{Item}
 use Rattle.http_edge.specs.declared.item.Item.TheVariants.{Request, Fault}
+use Rattle.http_edge.specs.declared.verdict.Awaited.{Awaited}
+use Rattle.http_edge.specs.declared.verdict.Verdict.{Verdict}
+use Rattle.http_edge.specs.declared.verdict.Verdict.TheVariants.{Taken, Refused}
 
 -- the number of a framing fault
 abbrev pub fault_number : FramingFault → ℕ
@@ -49,7 +53,7 @@ count_named name fields = count_by (λ f. eq_ignore_case f.name name) fields
 
 -- ---- the checks, in their order
 
--- HTTP/1.1 has just one Host field, HTTP/1.0 at most one; its value isn't looked at
+-- HTTP/1.1 has exactly one Host field, HTTP/1.0 at most one; its value isn't looked at
 abbrev pub has_good_hosts : ℕ → ℕ → Bool
 has_good_hosts minor hosts = nat_le hosts 1 && (minor == 0 || nat_le 1 hosts)
 
@@ -64,13 +68,28 @@ lists_token token value = list_any (λ piece. eq_ignore_case (trim_ows piece) to
 unfoldable pub asks_close : Field → Bool
 asks_close f = eq_ignore_case f.name (codes "connection") && lists_token (codes "close") f.value
 
--- the first check that a head with this minor version fails; a message with a body isn't taken
-unfoldable pub fault_of : Head → ℕ → Option FramingFault
-fault_of head minor =
-    if not (has_good_hosts minor (count_named (codes "host") head.fields)) then Some BadHost
-    else (if nat_lt 0 (count_named (codes "transfer-encoding") head.fields)
-    || nat_lt 0 (count_named (codes "content-length") head.fields) then Some TransferCoding
-    else None)
+-- a Content-Length field
+abbrev pub is_length : Field → Bool
+is_length f = eq_ignore_case f.name (codes "content-length")
+
+-- the most bytes of a body
+abbrev pub most_body_bytes : ℕ
+most_body_bytes = 4194304
+
+-- the number that a value writes: one or more decimal digits, with any number of leading zeros
+unfoldable pub length_of : List ℕ → Result ℕ FramingFault
+length_of value =
+    if not (nat_lt 0 (length value) && list_all is_ascii_digit value) then Err BadLength
+    else (if nat_le (digits_value 10 value) most_body_bytes then Ok (digits_value 10 value) else Err TooLong)
+
+-- how many bytes the body has, by the Content-Length fields: none where no field says so
+abbrev pub length_by : List Field → Result ℕ FramingFault
+length_by [] = Ok 0
+length_by (f ∷ []) = length_of f.value
+length_by (f ∷ g ∷ fields) = Err BadLength
+
+unfoldable pub body_length : List Field → Result ℕ FramingFault
+body_length fields = length_by (filter is_length fields)
 
 -- HTTP/1.0 closes the connection, and HTTP/1.1 where a field asks for it
 abbrev pub closes_after : Head → ℕ → Bool
@@ -79,10 +98,17 @@ closes_after head minor = minor == 0 || list_any asks_close head.fields
 abbrev pub is_head_only : Head → Bool
 is_head_only head = bytes_eq head.method (codes "HEAD")
 
--- the item of a head with this minor version
-abbrev pub checked : Head → ℕ → Option FramingFault → Item
-checked head minor None = Request head [] (closes_after head minor)
-checked head minor (Some fault) = Fault fault (is_head_only head)
+-- a head whose body has the length
+abbrev pub with_length : Head → ℕ → Result ℕ FramingFault → Verdict
+with_length head minor (Err fault) = Refused fault (is_head_only head)
+with_length head minor (Ok n) = Taken (record { head = head; close = closes_after head minor; length = n })
+
+-- what a head with this minor version comes to, by the first check that it fails
+unfoldable pub checked : Head → ℕ → Verdict
+checked head minor =
+    if not (has_good_hosts minor (count_named (codes "host") head.fields)) then Refused BadHost (is_head_only head)
+    else (if nat_lt 0 (count_named (codes "transfer-encoding") head.fields) then Refused TransferCoding (is_head_only head)
+    else with_length head minor (body_length head.fields))
 
 -- ---- a head block
 
@@ -91,10 +117,14 @@ abbrev pub within_limit : Option RequestHead → Option (Head × ℕ)
 within_limit None = None
 within_limit (Some h) = if nat_le (length h.fields) 64 then Some (head_parts h, h.minor) else None
 
-abbrev pub item_of : Option (Head × ℕ) → Item
-item_of None = Fault BadHead false
-item_of (Some found) = checked found.0 found.1 (fault_of found.0 found.1)
+abbrev pub verdict_of : Option (Head × ℕ) → Verdict
+verdict_of None = Refused BadHead false
+verdict_of (Some found) = checked found.0 found.1
 
--- the item of a head block
-unfoldable pub judged : List ℕ → Item
-judged block = item_of (within_limit (head_of block))
+-- what a head block comes to
+unfoldable pub judged : List ℕ → Verdict
+judged block = verdict_of (within_limit (head_of block))
+
+-- the request that a head and its whole body are
+abbrev pub request : Awaited → List ℕ → Item
+request a body = Request a.head body a.close

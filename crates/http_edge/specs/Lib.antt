@@ -4,4 +4,6 @@ pub mod Frame
 pub mod Left
 pub mod Line
 pub mod Read
+pub mod Plain
+pub mod Value
 pub mod Reply

@@ -1,5 +1,5 @@
 -- The bytes of a reply (RFC 9112, sections 4 and 5; RFC 9110, section 15).
-use Rattle.std.specs.Prelude.{ℕ, Bool, List, [], ◌∷◌, ◌++◌, length, if◌then◌else◌, codes, decimal, flat_map}
+use Rattle.std.specs.Prelude.{◌≡◌, ℕ, Bool, List, [], ◌∷◌, ◌++◌, length, take, if◌then◌else◌, codes, decimal, flat_map}
 use Rattle.http_edge.specs.declared.field.Field.{Field}
 use Rattle.http_edge.specs.declared.reply.Status.{Status}
 use Rattle.http_edge.specs.declared.reply.Status.TheVariants as statuses
@@ -48,3 +48,7 @@ unfoldable pub rendered : Reply → Bool → Bool → List ℕ
 rendered reply head_only close =
     rendered_head reply.status reply.fields (length reply.body) close
     ++ (if head_only then [] else reply.body)
+
+-- after a write that may have stopped: what waited still stands at the front
+pub record IsKept (old new : List ℕ) : Type 0 where
+  pub front : take (length old) new ≡ old

@@ -1,7 +1,7 @@
-//! The fields of a head.
-ghost use Rattle.std.specs.Prelude.{◌≡◌, [], ◌∷◌, ◌++◌, IfOk, OnOk, OnErr};
+//! The fields of a request's head.
+ghost use Rattle.std.specs.Prelude.{◌≡◌, IfOk};
 
-use crate::bytes::Bytes;
+use octets::Bytes;
 use std::alloc::{AllocError, Global};
 use std::marker::Model;
 
@@ -40,15 +40,6 @@ impl Field {
 }
 
 impl Fields {
-    /// No fields. Takes no memory.
-    pub fn new(alloc: Global) -> Self
-        ensures { result ≡ [] }
-    {
-        Fields {
-            fields: Vec::new(alloc),
-        }
-    }
-
     /// The fields of a vector, which isn't copied.
     pub fn from_vec(fields: Vec<Field>) -> Self
         ensures { result ≡ fields.items }
@@ -56,27 +47,10 @@ impl Fields {
         Fields { fields }
     }
 
-    /// Puts a field behind the others. Without memory for it the fields stay as they were.
-    pub fn push(&mut self, field: Field) -> Result<(), AllocError>
-        ensures pushed { OnOk result (self.new ≡ self.old ++ field ∷ []) }
-        ensures refused { OnErr result (self.new ≡ self.old) }
-    {
-        self.fields.push(field)?;
-        Ok(())
-    }
-
     /// The fields as a slice.
     pub fn as_slice(&self) -> &[Field]
         ensures { result.now ≡ self.now }
     {
         self.fields.as_slice()
-    }
-
-    /// The vector that holds the fields, which isn't copied.
-    pub fn into_vec(self) -> Vec<Field>
-        ensures { result.items ≡ self }
-    {
-        let Fields { fields: vector } = self;
-        vector
     }
 }

@@ -4,11 +4,11 @@ ghost use Rattle.httparse.specs.Spans.{IsHeaderWithin, header_bytes};
 ghost use Rattle.http_edge.specs.Block.{head_of};
 ghost use Rattle.http_edge.specs.Judge.{field_from, within_limit};
 
-use crate::bytes::Bytes;
 use crate::field::{Field, Fields};
 use crate::item::Head;
 use httparse::Status;
 use httparse::spans::{EMPTY_HEADER_SPAN, HeaderSpan, RequestSpans, parse_request};
+use octets::Bytes;
 use std::alloc::{AllocError, Global};
 
 /// How many fields a head may have.

@@ -2,8 +2,8 @@
 ghost use Rattle.std.specs.Prelude.{◌≡◌};
 ghost use Rattle.http_edge.specs.Judge.{fault_number, closes};
 
-use crate::bytes::Bytes;
 use crate::field::Fields;
+use octets::Bytes;
 use thiserror::Error;
 
 /// The head of a request (RFC 9112, section 2.1): its method, its target as it was written, and its fields in order.
@@ -20,16 +20,16 @@ pub enum FramingFault {
     /// No request head with at most 64 fields, or 16,384 bytes without the end of one.
     #[error("bad request head")]
     BadHead = 19,
-    /// HTTP/1.1 without just one Host field, or HTTP/1.0 with more than one (RFC 9112, section 3.2).
+    /// HTTP/1.1 without exactly one Host field, or HTTP/1.0 with more than one (RFC 9112, section 3.2).
     #[error("bad Host field")]
     BadHost = 20,
-    /// A Transfer-Encoding or Content-Length field: messages with a body aren't taken.
+    /// A Transfer-Encoding field: bodies in a transfer coding aren't taken (RFC 9112, section 6.1).
     #[error("transfer coding not supported")]
     TransferCoding = 21,
-    /// A Content-Length field that isn't one number. Not given while messages with a body aren't taken.
+    /// More than one Content-Length field, or one that isn't a decimal number (RFC 9112, section 6.3).
     #[error("bad Content-Length field")]
     BadLength = 22,
-    /// A body that is too long. Not given while messages with a body aren't taken.
+    /// A body of more than 4,194,304 bytes.
     #[error("body too long")]
     TooLong = 23,
 }

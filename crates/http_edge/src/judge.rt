@@ -1,13 +1,16 @@
 //! The checks of a head block.
-ghost use Rattle.std.specs.Prelude.{◌≡◌, reverse, IfOk};
-ghost use Rattle.std.specs.List.{list_any};
+ghost use Rattle.std.specs.Prelude.{◌≡◌, ◌&&◌, true, length, reverse, count_by, nat_lt, nat_le, if◌then◌else◌, IfOk};
+ghost use Rattle.std.specs.List.{list_any, list_all, find};
+ghost use Rattle.std.specs.Option.{option_copied};
+ghost use Rattle.std.specs.Char.{is_ascii_digit};
+ghost use Rattle.std.specs.Str.Parse.{digits_value};
 ghost use Rattle.httparse.specs.Grammar.{skip_ows, trim_ows};
-ghost use Rattle.http_edge.specs.Judge.{eq_ignore_case, count_named, lists_token, asks_close, fault_of, checked, judged};
+ghost use Rattle.http_edge.specs.Judge.{eq_ignore_case, count_named, lists_token, asks_close, is_length, length_of, body_length, with_length, checked, judged};
 
-use crate::bytes::Bytes;
 use crate::field::Field;
 use crate::head::read_head;
-use crate::item::{FramingFault, Head, Item};
+use crate::item::{FramingFault, Head};
+use crate::verdict::{Awaited, Verdict};
 use httparse::is_space_or_tab;
 use std::alloc::{AllocError, Global};
 
@@ -81,50 +84,119 @@ fn any_asks_close(fields: &[Field]) -> bool
     fields.iter().any(|field| asks_close(field))
 }
 
-/// The first check that a head fails.
-#[tactic(auto, unfolding(crate::specs::Judge::fault_of))]
-fn fault_of(head: &Head, minor: u8) -> Option<FramingFault>
-    ensures { result ≡ fault_of head.now minor }
+fn is_length(field: &Field) -> bool
+    ensures { result ≡ is_length field.now }
+{
+    is_same(field.name.as_slice(), b"content-length")
+}
+
+/// How many Content-Length fields there are.
+fn count_lengths(fields: &[Field]) -> usize
+    ensures { result ≡ count_by is_length fields.now }
+{
+    fields.iter().filter(|field| is_length(field)).count()
+}
+
+/// The first Content-Length field.
+fn first_length(fields: &[Field]) -> Option<&Field>
+    ensures { option_copied result ≡ find is_length fields.now }
+{
+    fields.iter().find(|field| is_length(field))
+}
+
+/// Whether the value is one or more digits.
+fn is_number(value: &[u8]) -> bool
+    ensures { result ≡ (nat_lt 0 (length value.now) && list_all is_ascii_digit value.now) }
+{
+    !value.is_empty() && value.iter().all(|b| b.is_ascii_digit())
+}
+
+/// The number that the digits write, unless it is more than a body may have.
+fn small_number(digits: &[u8]) -> Option<usize>
+    requires { list_all is_ascii_digit digits.now ≡ true }
+    ensures { result ≡ (if nat_le (digits_value 10 digits.now) 4194304 then Some (digits_value 10 digits.now) else None) }
+{
+    let mut number: usize = 0;
+    for b in digits {
+        number = number * 10 + (*b - b'0') as usize;
+        if number > MOST_BODY_BYTES {
+            return None;
+        }
+    }
+    Some(number)
+}
+
+/// The number that a Content-Length field's value writes (RFC 9110, section 8.6).
+#[tactic(auto, unfolding(crate::specs::Judge::length_of))]
+fn length_of(value: &[u8]) -> Result<usize, FramingFault>
+    ensures { result ≡ length_of value.now }
+{
+    if !is_number(value) {
+        return Err(FramingFault::BadLength);
+    }
+    small_number(value).ok_or(FramingFault::TooLong)
+}
+
+/// How many bytes the body has (RFC 9112, section 6.2).
+fn body_length(fields: &[Field]) -> Result<usize, FramingFault>
+    ensures { result ≡ body_length fields.now }
+{
+    if count_lengths(fields) > 1 {
+        return Err(FramingFault::BadLength);
+    }
+    match first_length(fields) {
+        None => Ok(0),
+        Some(field) => length_of(field.value.as_slice()),
+    }
+}
+
+/// How many bytes a body has at most.
+const MOST_BODY_BYTES: usize = 4194304;
+
+/// The first check that a head fails, or how many bytes its body has.
+#[tactic(auto, unfolding(crate::specs::Judge::checked))]
+fn length_checked(head: &Head, minor: u8) -> Result<usize, FramingFault>
+    ensures { with_length head.now minor result ≡ checked head.now minor }
 {
     let fields = head.fields.as_slice();
     let hosts = count_named(b"host", fields);
     if !(hosts <= 1 && (minor == 0 || hosts >= 1)) {
-        return Some(FramingFault::BadHost);
+        return Err(FramingFault::BadHost);
     }
-    if count_named(b"transfer-encoding", fields) > 0 || count_named(b"content-length", fields) > 0 {
-        return Some(FramingFault::TransferCoding);
+    if count_named(b"transfer-encoding", fields) > 0 {
+        return Err(FramingFault::TransferCoding);
     }
-    None
+    body_length(fields)
 }
 
-/// The item of a head: a request without a body, or a fault.
-fn checked(alloc: Global, head: Head, minor: u8) -> Item
-    ensures { result ≡ checked head minor (fault_of head minor) }
+/// What a head comes to.
+fn checked(head: Head, minor: u8) -> Verdict
+    ensures { result ≡ checked head minor }
 {
-    match fault_of(&head, minor) {
-        Some(fault) => Item::Fault {
+    match length_checked(&head, minor) {
+        Err(fault) => Verdict::Refused {
             fault,
             head_only: head.method.as_slice() == b"HEAD".as_slice(),
         },
-        None => {
+        Ok(length) => {
             let close = minor == 0 || any_asks_close(head.fields.as_slice());
-            Item::Request {
+            Verdict::Taken(Awaited {
                 head,
-                body: Bytes::new(alloc),
                 close,
-            }
+                length,
+            })
         }
     }
 }
 
-/// The item of a whole head block.
+/// What a whole head block comes to.
 #[tactic(auto, unfolding(crate::specs::Judge::judged))]
-pub fn judged(alloc: Global, block: &[u8]) -> Result<Item, AllocError>
-    ensures { IfOk result (λ item. item ≡ judged block.now) }
+pub fn judged(alloc: Global, block: &[u8]) -> Result<Verdict, AllocError>
+    ensures { IfOk result (λ verdict. verdict ≡ judged block.now) }
 {
     match read_head(alloc, block)? {
-        Some((head, minor)) => Ok(checked(alloc, head, minor)),
-        None => Ok(Item::Fault {
+        Some((head, minor)) => Ok(checked(head, minor)),
+        None => Ok(Verdict::Refused {
             fault: FramingFault::BadHead,
             head_only: false,
         }),

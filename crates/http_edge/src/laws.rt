@@ -1,30 +1,36 @@
 //! What holds of the framing, whatever the bytes.
-ghost use Rattle.std.specs.Prelude.{◌≡◌, ◌<◌, ◌≤◌, ℕ, List, [], ◌∷◌, ◌++◌, length, All, Some, if◌then◌else◌};
-ghost use Rattle.std.specs.List.{list_any};
+ghost use Rattle.std.specs.Prelude.{◌≡◌, ◌<◌, ◌≤◌, ◌^◌, ℕ, List, [], ◌∷◌, ◌++◌, length, All, Some, true, decimal, if◌then◌else◌};
+ghost use Rattle.std.specs.List.{list_any, list_all};
 ghost use Rattle.httparse.specs.Grammar.{LineEnd, print_end, RequestHead, IsRequestHead, print_request, ReadsRequest};
 ghost use Rattle.http_edge.specs.Block.{head_of};
-ghost use Rattle.http_edge.specs.Judge.{closes, within_limit, item_of, judged};
+ghost use Rattle.http_edge.specs.Judge.{closes, within_limit, verdict_of, judged, request, most_body_bytes};
 ghost use Rattle.http_edge.specs.Frame.{frame, most_head_bytes};
-ghost use Rattle.http_edge.specs.Left.{Left, part_of, closed, is_closed, rest, frame_from, rest_from};
+ghost use Rattle.http_edge.specs.Left.{Left, part_of, body_of, is_closed, rest, frame_from, rest_from, frame_after};
+ghost use Rattle.http_edge.specs.declared.verdict.Awaited.{Awaited};
 ghost use Rattle.http_edge.specs.Read.{IsRead};
+ghost use Rattle.http_edge.specs.Plain.{is_line_byte};
 
-/// A second piece completes the items that it completes behind what the first leaves over.
+/// A second piece completes the items that it completes after what the first leaves over.
 pub fn pieces_join()
     ensures items { (s more : List ℕ) → frame (s ++ more) ≡ frame s ++ frame_from (rest s) more }
     ensures left { (s more : List ℕ) → rest (s ++ more) ≡ rest_from (rest s) more }
-    ensures items_from { (left : Left) (s more : List ℕ) → frame_from left (s ++ more) ≡ frame_from left s ++ frame_from (rest_from left s) more }
-    ensures left_from { (left : Left) (s more : List ℕ) → rest_from left (s ++ more) ≡ rest_from (rest_from left s) more }
+    ensures items_from { (left : Left) (s more : List ℕ)
+        → frame_from left (s ++ more) ≡ frame_from left s ++ frame_from (rest_from left s) more }
+    ensures left_from { (left : Left) (s more : List ℕ)
+        → rest_from left (s ++ more) ≡ rest_from (rest_from left s) more }
 {}
 
-/// What the bytes leave over: at first nothing; later an end behind an item that closes, or a beginning of a head block,
-/// which by itself completes nothing and is shorter than the longest block.
+/// What the bytes leave over: at first nothing; later an end, after an item that closes, or a beginning of a head block
+/// or of a body, which by itself completes nothing and is shorter than the longest.
 pub fn left_over()
     ensures items_first { frame [] ≡ [] }
     ensures left_first { rest [] ≡ part_of [] }
     ensures ended { (s : List ℕ) → is_closed (rest s) ≡ list_any closes (frame s) }
     ensures items_settled { (s : List ℕ) → frame_from (rest s) [] ≡ [] }
     ensures left_settled { (s : List ℕ) → rest_from (rest s) [] ≡ rest s }
-    ensures short { (s part : List ℕ) → rest s ≡ part_of part → length part < most_head_bytes }
+    ensures short_head { (s part : List ℕ) → rest s ≡ part_of part → length part < most_head_bytes }
+    ensures short_body { (s : List ℕ) (a : Awaited) (body : List ℕ) → rest s ≡ body_of a body
+        → (length body < a.length) × (a.length ≤ most_body_bytes) }
 {}
 
 /// `head_of` is the grammar of `httparse`, as a function.
@@ -33,16 +39,32 @@ pub fn head_is_of_the_grammar()
     ensures each { (block : List ℕ) (h : RequestHead) → ReadsRequest block h [] → head_of block ≡ Some h }
 {}
 
-/// A string that begins with a request head of the grammar, one that isn't too long, is framed as that head, and then
-/// as what follows it. Empty lines before it are dropped.
+/// A string that begins with a request head of the grammar, one that isn't too long, is framed by what that head comes
+/// to, and then by what follows it. Empty lines before it are dropped.
 pub fn head_comes_first()
-    ensures head { (h : RequestHead) (more : List ℕ) → IsRequestHead h → h.blank ≡ [] → length (print_request h) ≤ most_head_bytes
-        → frame (print_request h ++ more) ≡ judged (print_request h) ∷ (if closes (judged (print_request h)) then [] else frame more) }
-    ensures judged { (h : RequestHead) → IsRequestHead h → judged (print_request h) ≡ item_of (within_limit (Some h)) }
+    ensures head { (h : RequestHead) (more : List ℕ) → IsRequestHead h → h.blank ≡ []
+        → length (print_request h) ≤ most_head_bytes
+        → frame (print_request h ++ more) ≡ frame_after (judged (print_request h)) more }
+    ensures judged { (h : RequestHead) → IsRequestHead h
+        → judged (print_request h) ≡ verdict_of (within_limit (Some h)) }
     ensures blank { (end : LineEnd) (more : List ℕ) → frame (print_end end ++ more) ≡ frame more }
 {}
 
-/// Each request that stands in the bytes has a head of the grammar of `httparse` with at most 64 fields.
+/// The body of a request is the next bytes after its head, as many as it says; then come the next messages.
+pub fn body_comes_next()
+    ensures items { (a : Awaited) (body more : List ℕ) → length body ≡ a.length
+        → frame_from (body_of a []) (body ++ more) ≡ request a body ∷ (if a.close then [] else frame more) }
+    ensures short { (a : Awaited) (body : List ℕ) → length body < a.length
+        → frame_from (body_of a []) body ≡ [] }
+{}
+
+/// Each request that stands in the bytes has a head of the grammar of `httparse` with at most 64 fields, and a body as
+/// long as they say.
 pub fn requests_are_read()
     ensures { (s : List ℕ) → All IsRead (frame s) }
+{}
+
+/// The digits of a number hold no CR and no LF, so a reply's field may have them in its value.
+pub fn numbers_are_plain()
+    ensures { (n : ℕ) → n < 2 ^ 64 → list_all is_line_byte (decimal n) ≡ true }
 {}

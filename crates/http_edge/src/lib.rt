@@ -4,24 +4,35 @@
 //! that stand complete in them. [`render`] gives the bytes of a reply.
 #![tactic(auto)]
 
-mod bytes;
-mod conn;
+/// The fields of a head.
 mod field;
-mod head;
+/// What a connection's bytes hold: requests and framing faults.
 mod item;
+/// What a head block comes to.
+mod verdict;
+/// Reading a head block.
+mod head;
+/// The checks of a head.
 mod judge;
-mod laws;
+/// A connection's bytes by lines.
 mod line;
+/// What a connection goes on with.
+mod state;
+/// A connection's bytes, as they come in pieces.
+mod conn;
+/// What holds of the framing, whatever the bytes.
+pub mod laws;
+/// The fields of a reply.
+mod reply_field;
+/// The bytes of a reply.
 mod reply;
 
-pub use bytes::Bytes;
 pub use conn::Conn;
 pub use field::{Field, Fields};
 pub use item::{FramingFault, Head, Item};
-pub use laws::{
-    head_comes_first, head_is_of_the_grammar, left_over, pieces_join, requests_are_read,
-};
-pub use reply::{Reply, Status, render};
+pub use reply::{Reply, Status, render, render_into};
+pub use reply_field::{ReplyField, ReplyFields};
+pub use verdict::Awaited;
 
 #[cfg(test)]
 mod tests;

@@ -2,8 +2,9 @@
 ghost use Rattle.std.specs.Prelude.{◌≡◌, ◌<◌, ◌++◌, length, IfOk};
 ghost use Rattle.http_edge.specs.Line.{IsLine, is_empty_line, completes};
 
-use crate::item::{FramingFault, Item};
+use crate::item::FramingFault;
 use crate::judge::judged;
+use crate::verdict::Verdict;
 use memchr::memchr;
 use std::alloc::{AllocError, Global};
 
@@ -30,17 +31,17 @@ pub fn is_empty_line(part: &[u8]) -> bool
     part == b"\n".as_slice() || part == b"\r\n".as_slice()
 }
 
-/// The item that a part's last line completes, or nothing where the part goes on.
+/// What a part comes to with its last line, or nothing where it goes on.
 #[tactic(auto, unfolding(crate::specs::Line::completes))]
-pub fn completed(alloc: Global, part: &[u8]) -> Result<Option<Item>, AllocError>
-    ensures { IfOk result (λ item. item ≡ completes part.now) }
+pub fn completed(alloc: Global, part: &[u8]) -> Result<Option<Verdict>, AllocError>
+    ensures { IfOk result (λ verdict. verdict ≡ completes part.now) }
 {
     if part.ends_with(b"\n\n") || part.ends_with(b"\n\r\n") {
-        let item = judged(alloc, part)?;
-        return Ok(Some(item));
+        let verdict = judged(alloc, part)?;
+        return Ok(Some(verdict));
     }
     if part.len() >= MOST_HEAD_BYTES {
-        return Ok(Some(Item::Fault {
+        return Ok(Some(Verdict::Refused {
             fault: FramingFault::BadHead,
             head_only: false,
         }));

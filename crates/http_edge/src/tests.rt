@@ -1,8 +1,8 @@
 //! What the framing gives on known bytes, and how replies look.
 use crate::{
-    Bytes, Conn, Field, Fields, FramingFault, Item, Reply, Status, head_is_of_the_grammar,
-    left_over, pieces_join, render, requests_are_read,
+    Conn, FramingFault, Item, Reply, ReplyField, ReplyFields, Status, laws, render, render_into,
 };
+use octets::Bytes;
 use std::test::Fail;
 
 /// An item as a short text: method, target and number of fields of a request and `+`, or `.` where it closes; or the
@@ -28,7 +28,7 @@ fn put_item(rt: &HostRuntime, out: &mut Vec<u8>, item: &Item) -> Result<(), Fail
     Ok(())
 }
 
-/// Feeds one piece, and puts its items behind the others.
+/// Feeds one piece, and puts its items after the others.
 fn put_piece(
     rt: &HostRuntime,
     conn: &mut Conn,
@@ -42,7 +42,7 @@ fn put_piece(
     Ok(())
 }
 
-/// The items of a text in pieces of so many bytes, and `!` where the connection is closed behind it.
+/// The items of a text in pieces of so many bytes, and `!` where the connection is closed after it.
 fn framed(rt: &HostRuntime, text: &[u8], step: usize) -> Result<Vec<u8>, Fail> {
     let mut out = Vec::new(rt.alloc());
     let mut conn = Conn::new(rt.alloc());
@@ -89,7 +89,7 @@ fn any_cut_gives_the_same_items(rt: HostRuntime) -> Result<(), Fail> {
 
 #[test]
 fn heads_are_taken_or_refused(rt: HostRuntime) -> Result<(), Fail> {
-    let table: [(&[u8], &[u8]); 24] = [
+    let table: [(&[u8], &[u8]); 23] = [
         (b"GET / HTTP/1.1\r\nHost: g\r\n\r\n", b"GET / 1+"),
         (b"\r\n\n\r\nGET / HTTP/1.1\r\nHost: g\r\n\r\n", b"GET / 1+"),
         (b"\rGET / HTTP/1.1\r\nHost: g\r\n\r\n", b"19!"),
@@ -104,14 +104,10 @@ fn heads_are_taken_or_refused(rt: HostRuntime) -> Result<(), Fail> {
         (b"GET / HTTP/1.0\r\nHost: a\r\n\r\n", b"GET / 1.!"),
         (b"GET / HTTP/1.0\r\nHost: a\r\nHost: a\r\n\r\n", b"20!"),
         (
-            b"GET / HTTP/1.1\r\nHost: g\r\nContent-Length: 0\r\n\r\n",
-            b"21!",
-        ),
-        (
             b"HEAD / HTTP/1.1\r\nHost: g\r\nTransfer-Encoding: chunked\r\n\r\n",
             b"21h!",
         ),
-        (b"GET / HTTP/1.1\r\nContent-Length: 0\r\n\r\n", b"20!"),
+        (b"GET / HTTP/1.1\r\nContent-Length: x\r\n\r\n", b"20!"),
         (b"GET / HTTP/1.2\r\nHost: g\r\n\r\n", b"19!"),
         (b"HEAD /\r\n\r\n", b"19!"),
         (b"GET /\xff HTTP/1.1\r\nHost: g\r\n\r\n", b"19!"),
@@ -205,12 +201,12 @@ fn a_head_without_an_end_is_a_fault_at_16384_bytes(rt: HostRuntime) -> Result<()
         lines.extend_from_slice(b"a\n")?;
     }
     let (short, _) = lines.as_slice().split_at(16383.min(lines.len()));
-    let mut behind = Vec::new(rt.alloc());
-    behind.extend_from_slice(b"\r\n\n")?;
-    behind.extend_from_slice(short)?;
+    let mut after = Vec::new(rt.alloc());
+    after.extend_from_slice(b"\r\n\n")?;
+    after.extend_from_slice(short)?;
     assert_eq!(rt; framed(&rt, short, 1000)?.as_slice(), b"".as_slice());
     assert_eq!(rt;
-        framed(&rt, &behind, 1000)?.as_slice(),
+        framed(&rt, &after, 1000)?.as_slice(),
         b"".as_slice(),
         "empty lines don't count"
     );
@@ -233,7 +229,7 @@ fn a_request_has_its_parts(rt: HostRuntime) -> Result<(), Fail> {
         assert_eq!(rt; head.method.as_slice(), b"GET".as_slice());
         assert_eq!(rt; head.target.into_vec().as_slice(), b"/a?b".as_slice());
         assert_eq!(rt; body.as_slice().len(), 0);
-        let fields = head.fields.into_vec();
+        let fields = head.fields.as_slice();
         assert_eq!(rt; fields.len(), 2);
         assert_eq!(rt; fields[1].name.as_slice(), b"X-Y".as_slice());
         assert_eq!(rt; fields[1].value.as_slice(), b"c d".as_slice());
@@ -261,8 +257,160 @@ fn faults_have_their_numbers_and_words(rt: HostRuntime) -> Result<(), Fail> {
     Ok(())
 }
 
+#[test]
+fn a_body_is_the_same_however_it_is_cut(rt: HostRuntime) -> Result<(), Fail> {
+    let text =
+        b"PUT /uri HTTP/1.1\r\nHost: g\r\nContent-Length: 56\r\n\r\naaaaaaaaaaaaaaaaaaaaaaaaaaaaaaaaaaaaaaaaaaaaaaaaaaaaaaaaGET /b HTTP/1.1\r\nHost: g\r\n\r\n";
+    let want = b"PUT /uri 2aaaaaaaaaaaaaaaaaaaaaaaaaaaaaaaaaaaaaaaaaaaaaaaaaaaaaaaa+GET /b 1+";
+    for at in 0..text.len() {
+        let (front, back) = text.split_at(at);
+        assert_eq!(rt;
+            framed_in_two(&rt, front, back)?.as_slice(),
+            want.as_slice(),
+            "cut at {at}"
+        );
+    }
+    for step in 1..130 {
+        assert_eq!(rt;
+            framed(&rt, text, step)?.as_slice(),
+            want.as_slice(),
+            "step {step}"
+        );
+    }
+    Ok(())
+}
+
+#[test]
+fn lengths_are_decimal_numbers(rt: HostRuntime) -> Result<(), Fail> {
+    let table: [(&[u8], &[u8]); 19] = [
+        (b"Content-Length: 0\r\n", b"P / 2+19!"),
+        (b"Content-Length: 4\r\n", b"P / 2a b +"),
+        (b"content-LENGTH:\t0004 \t\r\n", b"P / 2a b +"),
+        (b"Content-Length: 00000000000000000004\r\n", b"P / 2a b +"),
+        (b"Content-Length: 99999999999999999999\r\n", b"23!"),
+        (b"Content-Length: 18446744073709551617\r\n", b"23!"),
+        (b"Content-Length: 4194305\r\n", b"23!"),
+        (b"Content-Length: 4194304\r\n", b""),
+        (b"Content-Length:\r\n", b"22!"),
+        (b"Content-Length: +1\r\n", b"22!"),
+        (b"Content-Length: -1\r\n", b"22!"),
+        (b"Content-Length: 1 1\r\n", b"22!"),
+        (b"Content-Length: 1,1\r\n", b"22!"),
+        (b"Content-Length: 0x4\r\n", b"22!"),
+        (b"Content-Length: 4.0\r\n", b"22!"),
+        (b"Content-Length: 4\r\nContent-Length: 4\r\n", b"22!"),
+        (b"Content-Length: 9999999\r\ncontent-length: x\r\n", b"22!"),
+        (
+            b"Transfer-Encoding: chunked\r\nContent-Length: x\r\n",
+            b"21!",
+        ),
+        (b"A: Content-Length: 4\r\n", b"P / 2+19!"),
+    ];
+    for (line, want) in table {
+        let mut text = Vec::new(rt.alloc());
+        text.extend_from_slice(b"P / HTTP/1.1\r\nHost: g\r\n")?;
+        text.extend_from_slice(line)?;
+        text.extend_from_slice(b"\r\na b \n\n")?;
+        assert_eq!(rt; framed(&rt, &text, 1000)?.as_slice(), want, "{line:?}");
+        assert_eq!(rt;
+            framed(&rt, &text, 1)?.as_slice(),
+            want,
+            "{line:?} by bytes"
+        );
+    }
+    Ok(())
+}
+
+#[test]
+fn requests_with_bodies_follow_each_other(rt: HostRuntime) -> Result<(), Fail> {
+    let text =
+        b"PUT /a HTTP/1.1\r\nHost: g\r\nContent-Length: 3\r\n\r\nfooGET /b HTTP/1.1\r\nHost: g\r\n\r\nPUT /c HTTP/1.1\nHost: g\nContent-Length: 0\n\n\r\nPUT /d HTTP/1.1\r\nHost: g\r\nContent-Length: 2\r\nConnection: close\r\n\r\n\n\nGET /e HTTP/1.1\r\nHost: g\r\n\r\n";
+    let want = b"PUT /a 2foo+GET /b 1+PUT /c 2+PUT /d 3\n\n.!";
+    for step in 1..220 {
+        assert_eq!(rt;
+            framed(&rt, text, step)?.as_slice(),
+            want.as_slice(),
+            "step {step}"
+        );
+    }
+    Ok(())
+}
+
+#[test]
+fn a_fault_of_a_head_request_has_no_body(rt: HostRuntime) -> Result<(), Fail> {
+    let table: [(&[u8], &[u8]); 3] = [
+        (
+            b"HEAD / HTTP/1.1\r\nHost: g\r\nContent-Length: x\r\n\r\n",
+            b"22h!",
+        ),
+        (
+            b"HEAD / HTTP/1.1\r\nHost: g\r\nContent-Length: 4194305\r\n\r\n",
+            b"23h!",
+        ),
+        (
+            b"HEAD / HTTP/1.1\r\nHost: g\r\nContent-Length: 1\r\n\r\naGET",
+            b"HEAD / 2a+",
+        ),
+    ];
+    for (text, want) in table {
+        assert_eq!(rt; framed(&rt, text, 1000)?.as_slice(), want, "{text:?}");
+    }
+    Ok(())
+}
+
+/// A PUT with a body of so many bytes, byte i being i mod 251.
+fn put_of(rt: &HostRuntime, length: usize) -> Result<Vec<u8>, Fail> {
+    let mut text = Vec::new(rt.alloc());
+    text.extend_from_slice(b"PUT /uri HTTP/1.1\r\nHost: g\r\nContent-Length: ")?;
+    text.extend_from_slice(length.to_string(rt.alloc())?.as_bytes())?;
+    text.extend_from_slice(b"\r\n\r\n")?;
+    for at in 0..length {
+        text.push((at % 251) as u8)?;
+    }
+    Ok(text)
+}
+
+/// The body of the one request of a text in pieces of so many bytes.
+fn body_of(rt: &HostRuntime, text: &[u8], step: usize) -> Result<Bytes, Fail> {
+    let mut conn = Conn::new(rt.alloc());
+    let mut found = None;
+    for piece in text.chunks(step.max(1)) {
+        for item in conn.feed(piece)? {
+            if let Item::Request { body, .. } = item {
+                found = Some(body);
+            }
+        }
+    }
+    match found {
+        Some(body) => Ok(body),
+        None => Err(Fail::from("no request")),
+    }
+}
+
+#[test]
+fn a_body_has_4194304_bytes_at_most(rt: HostRuntime) -> Result<(), Fail> {
+    let text = put_of(&rt, 4194304)?;
+    for step in [100, 65536, 5000000] {
+        let body = body_of(&rt, &text, step)?;
+        assert_eq!(rt; body.len(), 4194304, "step {step}");
+        assert!(rt; text.ends_with(body.as_slice()), "step {step}");
+    }
+    let longer = put_of(&rt, 4194305)?;
+    assert_eq!(rt; framed(&rt, &longer, 65536)?.as_slice(), b"23!".as_slice());
+    Ok(())
+}
+
+#[test]
+fn a_body_may_come_by_bytes(rt: HostRuntime) -> Result<(), Fail> {
+    let text = put_of(&rt, 200000)?;
+    let body = body_of(&rt, &text, 1)?;
+    assert_eq!(rt; body.len(), 200000);
+    assert!(rt; text.ends_with(body.as_slice()));
+    Ok(())
+}
+
 /// A reply with these fields and the body `hi`.
-fn reply_with(rt: &HostRuntime, status: Status, fields: Fields) -> Result<Reply, Fail> {
+fn reply_with(rt: &HostRuntime, status: Status, fields: ReplyFields) -> Result<Reply, Fail> {
     let body = Bytes::from_slice(rt.alloc(), b"hi")?;
     Ok(Reply {
         status,
@@ -273,9 +421,9 @@ fn reply_with(rt: &HostRuntime, status: Status, fields: Fields) -> Result<Reply,
 
 #[test]
 fn a_reply_is_rendered_to_the_byte(rt: HostRuntime) -> Result<(), Fail> {
-    let mut fields = Fields::new(rt.alloc());
-    fields.push(Field::from_slices(rt.alloc(), b"Content-Type", b"text/plain")?)?;
-    fields.push(Field::from_slices(rt.alloc(), b"Allow", b"POST, PUT")?)?;
+    let mut fields = ReplyFields::new(rt.alloc());
+    fields.push(ReplyField::constant(b"Content-Type", b"text/plain"))?;
+    fields.push(ReplyField::constant(b"Allow", b"POST, PUT"))?;
     let reply = reply_with(&rt, Status::MethodNotAllowed, fields)?;
     assert_eq!(rt;
         render(rt.alloc(), &reply, false, true)?.as_slice(),
@@ -285,11 +433,30 @@ fn a_reply_is_rendered_to_the_byte(rt: HostRuntime) -> Result<(), Fail> {
         render(rt.alloc(), &reply, true, false)?.as_slice(),
         b"HTTP/1.1 405 Method Not Allowed\r\nContent-Type: text/plain\r\nContent-Length: 2\r\nAllow: POST, PUT\r\n\r\n".as_slice()
     );
-    let bare = reply_with(&rt, Status::Ok, Fields::from_vec(Vec::new(rt.alloc())))?;
+    let bare = reply_with(&rt, Status::Ok, ReplyFields::new(rt.alloc()))?;
     assert_eq!(rt;
         render(rt.alloc(), &bare, false, false)?.as_slice(),
         b"HTTP/1.1 200 OK\r\nContent-Length: 2\r\n\r\nhi".as_slice()
     );
+    Ok(())
+}
+
+#[test]
+fn a_reply_is_put_after_what_waits_with_one_growth(rt: HostRuntime) -> Result<(), Fail> {
+    let mut fields = ReplyFields::new(rt.alloc());
+    fields.push(ReplyField::constant(b"Content-Type", b"text/plain"))?;
+    let value = Bytes::from_slice(rt.alloc(), b"bytes */6")?;
+    fields.push(ReplyField::made(b"Content-Range", value))?;
+    let reply = reply_with(&rt, Status::RangeNotSatisfiable, fields)?;
+    let mut out = Vec::from_slice(rt.alloc(), b"waits")?;
+    render_into(&mut out, &reply, false, true)?;
+    assert_eq!(rt;
+        out.as_slice(),
+        b"waitsHTTP/1.1 416 Range Not Satisfiable\r\nContent-Type: text/plain\r\nContent-Length: 2\r\nContent-Range: bytes */6\r\nConnection: close\r\n\r\nhi".as_slice()
+    );
+    let mut roomy = Vec::with_capacity(rt.alloc(), 200)?;
+    render_into(&mut roomy, &reply, false, true)?;
+    assert_eq!(rt; roomy.capacity(), 200);
     Ok(())
 }
 
@@ -312,7 +479,7 @@ fn each_status_has_its_phrase(rt: HostRuntime) -> Result<(), Fail> {
         want.extend_from_slice(b"HTTP/1.1 ")?;
         want.extend_from_slice(text)?;
         want.extend_from_slice(b"\r\nContent-Length: 2\r\n\r\nhi")?;
-        let reply = reply_with(&rt, status, Fields::new(rt.alloc()))?;
+        let reply = reply_with(&rt, status, ReplyFields::new(rt.alloc()))?;
         assert_eq!(rt;
             render(rt.alloc(), &reply, false, false)?.as_slice(),
             want.as_slice()
@@ -323,8 +490,11 @@ fn each_status_has_its_phrase(rt: HostRuntime) -> Result<(), Fail> {
 
 #[test]
 fn the_laws_are_called() {
-    pieces_join();
-    left_over();
-    head_is_of_the_grammar();
-    requests_are_read();
+    laws::pieces_join();
+    laws::left_over();
+    laws::head_is_of_the_grammar();
+    laws::head_comes_first();
+    laws::body_comes_next();
+    laws::requests_are_read();
+    laws::numbers_are_plain();
 }

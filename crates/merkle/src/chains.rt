@@ -23,8 +23,8 @@ pub fn chain(alloc: Global, leaves: &[[u8; 32]], place: usize) -> Result<Vec<[u8
     Ok(hashes)
 }
 
-// Appends the chain of the leaf at `place` in the subtree of this height whose first leaf has the index
-// `first`. These are its leaves; those that are missing at its end are padding leaves.
+/// Appends the chain of the leaf at `place` in the subtree of this height whose first leaf has the index
+/// `first`. These are its leaves; those that are missing at its end are padding leaves.
 fn push_chain(
     hashes: &mut Vec<[u8; 32]>,
     leaves: &[[u8; 32]],
@@ -69,7 +69,7 @@ pub fn check(root: &[u8; 32], place: usize, leaf: &[u8; 32], chain: &[[u8; 32]])
     rest == 0 && hash == *root
 }
 
-// The node over a hash at a place and the one beside it.
+/// The node over a hash at a place and the one beside it.
 fn joined(place: usize, hash: &[u8; 32], beside: &[u8; 32]) -> [u8; 32]
     ensures { result ≡ joined place hash.now beside.now }
 {

@@ -62,7 +62,7 @@ impl Tree {
     }
 }
 
-// How many nodes a tree of this height has.
+/// How many nodes a tree of this height has.
 fn node_count(height: usize) -> usize
     requires { height < 63 }
     ensures { result + 1 ≡ 2 ^ (height + 1) }
@@ -70,8 +70,8 @@ fn node_count(height: usize) -> usize
     leaf_count(height + 1) - 1
 }
 
-// Appends all nodes of the subtree of this height whose first leaf has the index `first`, and gives its root.
-// These are its leaves; those that are missing at its end are padding leaves.
+/// Appends all nodes of the subtree of this height whose first leaf has the index `first`, and gives its root.
+/// These are its leaves; those that are missing at its end are padding leaves.
 fn push_nodes(
     nodes: &mut Vec<[u8; 32]>,
     leaves: &[[u8; 32]],
@@ -97,7 +97,7 @@ fn push_nodes(
     Ok(top)
 }
 
-// Appends the chain of the leaf at `place` in the tree of this height with these nodes.
+/// Appends the chain of the leaf at `place` in the tree of this height with these nodes.
 fn push_beside(
     hashes: &mut Vec<[u8; 32]>,
     nodes: &[[u8; 32]],
@@ -126,7 +126,7 @@ fn push_beside(
     Ok(())
 }
 
-// The first `count` nodes, and the next as many.
+/// The first `count` nodes, and the next as many.
 fn parts(nodes: &[[u8; 32]], count: usize) -> (&[[u8; 32]], &[[u8; 32]])
     requires { length nodes.now ≡ 2 * count + 1 }
     ensures left { result.0.now ≡ take count nodes.now }

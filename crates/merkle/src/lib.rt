@@ -4,19 +4,21 @@
 //! hash of the pair of both halves' roots (Tahoe-LAFS, file encoding). A leaf is a hash of 32 bytes.
 #![tactic(auto)]
 
-mod chains;
+// How high a tree is.
 mod heights;
-mod kept;
-mod laws;
-#[cfg(test)]
-mod tests;
+// The root of a tree.
 mod trees;
+// The chain of a leaf, and whether it leads to a root.
+mod chains;
+// A tree whose nodes are kept.
+mod kept;
+// Laws of roots and chains.
+pub mod laws;
 
 pub use chains::{chain, check};
 pub use heights::height;
 pub use kept::Tree;
-pub use laws::{
-    chains_lead_to_the_root, hashes_have_32_bytes, heights_are_the_least, roots_fix_their_chains,
-    roots_fix_their_leaves, roots_go_by_halves,
-};
 pub use trees::root;
+
+#[cfg(test)]
+mod tests;

@@ -22,8 +22,8 @@ pub fn root(leaves: &[[u8; 32]]) -> [u8; 32]
     subtree_root(leaves, 0, height(leaves.len()))
 }
 
-// The root of the subtree of this height whose first leaf has the index `first`. These are its leaves;
-// those that are missing at its end are padding leaves.
+/// The root of the subtree of this height whose first leaf has the index `first`. These are its leaves;
+/// those that are missing at its end are padding leaves.
 pub(crate) fn subtree_root(leaves: &[[u8; 32]], first: usize, height: usize) -> [u8; 32]
     requires within { length leaves.now ≤ 2 ^ height }
     requires room { first + 2 ^ height ≤ 2 ^ 64 }
@@ -40,7 +40,7 @@ pub(crate) fn subtree_root(leaves: &[[u8; 32]], first: usize, height: usize) -> 
     )
 }
 
-// The leaf of a subtree of one leaf that has this index: a padding leaf where it is missing.
+/// The leaf of a subtree of one leaf that has this index: a padding leaf where it is missing.
 pub(crate) fn padded_leaf(leaves: &[[u8; 32]], index: usize) -> [u8; 32]
     ensures { result ≡ tree_root 0 (filled leaves.now index 0) }
 {
@@ -50,7 +50,7 @@ pub(crate) fn padded_leaf(leaves: &[[u8; 32]], index: usize) -> [u8; 32]
     }
 }
 
-// How many leaves a subtree of this height has.
+/// How many leaves a subtree of this height has.
 pub(crate) fn leaf_count(height: usize) -> usize
     requires { height < 64 }
     ensures { result ≡ 2 ^ height }
@@ -58,7 +58,7 @@ pub(crate) fn leaf_count(height: usize) -> usize
     1 << height
 }
 
-// The leaves of both halves, `half` being the number of the left one's with its padding.
+/// The leaves of both halves, `half` being the number of the left one's with its padding.
 pub(crate) fn halves(leaves: &[[u8; 32]], half: usize) -> (&[[u8; 32]], &[[u8; 32]])
     ensures left { result.0.now ≡ take half leaves.now }
     ensures right { result.1.now ≡ drop half leaves.now }
@@ -70,14 +70,14 @@ pub(crate) fn halves(leaves: &[[u8; 32]], half: usize) -> (&[[u8; 32]], &[[u8; 3
     }
 }
 
-// The node over two others.
+/// The node over two others.
 pub(crate) fn node(left: &[u8; 32], right: &[u8; 32]) -> [u8; 32]
     ensures { result ≡ node left.now right.now }
 {
     pair(NODE_TAG, left, right)
 }
 
-// The padding leaf at an index.
+/// The padding leaf at an index.
 fn empty_leaf(index: usize) -> [u8; 32]
     ensures { result ≡ empty_leaf index }
 {

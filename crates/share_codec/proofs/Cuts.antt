@@ -7,8 +7,17 @@ use Rattle.std.proofs.lemmas.Grind.{div_ceil_times}
 use Rattle.std.proofs.lemmas.Bool.{cases_lt}
 use Rattle.std.proofs.lemmas.Nat.{mul-le}
 use Rattle.std.proofs.Math.Nat.{mul-le-mul_right}
-use Rattle.share_codec.specs.declared.params.Params.{Params}
-use Rattle.share_codec.specs.Segments.{block_size, segment_size, segment_count, blocks_size, cut_blocks}
+use Rattle.octets.specs.Sharing.{IsSharing}
+use Rattle.share_codec.specs.Params.{ParamsValue}
+use Rattle.share_codec.specs.Segments.{block_size, segment_size, segment_count, segment_length, block_length, blocks_size, segments, cut_blocks}
+
+-- the numbers of a file that isn't empty
+pub record Filled (p : ParamsValue) : Type 0 where
+  pub some : 0 < p.k
+  pub size : 0 < p.size
+
+pub filled : (p : ParamsValue) → IsSharing p.k p.n → 0 < p.size → Filled p
+filled p sharing size = record { some = sharing.some; size = size }
 
 module _ {X : Type 0} where
   pub length-chunks : (n count : ℕ) (xs : List X) → length (first_chunks n count xs) ≡ count
@@ -51,30 +60,30 @@ some_product : (b k : ℕ) → 0 < b → 0 < k → 0 < b * k
 some_product b k more some = let h = mul-le 1 1 b k (omega arith) (omega arith) in omega arith
 
 -- the blocks of a share are as many as the segments, and only the last may be shorter
-pub blocks_fill : (p : Params) → 0 < p.size → 0 < block_size p → segment_count p * block_size p < blocks_size p + block_size p
+pub blocks_fill : (p : ParamsValue) → Filled p → 0 < block_size p → segment_count p * block_size p < blocks_size p + block_size p
 unfolding block_size segment_size segment_count blocks_size
 blocks_fill p some more =
     let k = p.k in
     let b = div_ceil (min 131072 p.size) k in
     let c = div_ceil p.size (b * k) in
-    let least : c * (b * k) < p.size + b * k = ceil_least p.size (b * k) (some_product b k more p.some) in
-    let covers : p.size ≤ div_ceil p.size k * k = ceil_covers p.size k p.some in
+    let least : c * (b * k) < p.size + b * k = ceil_least p.size (b * k) (some_product b k more some.some) in
+    let covers : p.size ≤ div_ceil p.size k * k = ceil_covers p.size k some.some in
     let sum : (div_ceil p.size k + b) * k ≡ div_ceil p.size k * k + b * k = grind arith in
     let product : c * (b * k) ≡ (c * b) * k = grind arith in
     times_below (c * b) (div_ceil p.size k + b) k (omega arith)
 
-pub blocks_within : (p : Params) → 0 < block_size p → blocks_size p ≤ segment_count p * block_size p
+pub blocks_within : (p : ParamsValue) → Filled p → 0 < block_size p → blocks_size p ≤ segment_count p * block_size p
 unfolding block_size segment_size segment_count blocks_size
-blocks_within p more =
+blocks_within p some more =
     let k = p.k in
     let b = div_ceil (min 131072 p.size) k in
     let c = div_ceil p.size (b * k) in
-    let covers : p.size ≤ c * (b * k) = ceil_covers p.size (b * k) (some_product b k more p.some) in
+    let covers : p.size ≤ c * (b * k) = ceil_covers p.size (b * k) (some_product b k more some.some) in
     let product : c * (b * k) ≡ (c * b) * k = grind arith in
-    ceil_within p.size k (c * b) p.some (omega arith)
+    ceil_within p.size k (c * b) some.some (omega arith)
 
 -- a share's numbers fit together
-pub fills : (p : Params) (b count len : ℕ) → b ≡ block_size p → count ≡ segment_count p → len ≡ blocks_size p → 0 < p.size → 0 < b → (0 < b) × (count * b < len + b)
+pub fills : (p : ParamsValue) (b count len : ℕ) → b ≡ block_size p → count ≡ segment_count p → len ≡ blocks_size p → Filled p → 0 < b → (0 < b) × (count * b < len + b)
 fills p b count len e f g some more =
     let fill : segment_count p * block_size p < blocks_size p + block_size p = blocks_fill p some (subst (λ n. 0 < n) e more) in
     (more, subst (λ n. count * n < len + n) (sym e) (subst (λ n. n * block_size p < len + block_size p) (sym f) (subst (λ n. segment_count p * block_size p < n + block_size p) (sym g) fill)))
@@ -109,18 +118,89 @@ map_more f (x ∷ xs) zero d below = refl
 map_more f (x ∷ xs) (suc i) d below = rw add-one (ap (λ ys. f x ∷ ys) (map_more f xs i d (omega arith) ∙ rw add-one refl))
 
 -- a file that isn't empty has segments, and each has blocks of some bytes
-pub some_block : (p : Params) → 0 < p.size → 0 < block_size p
+pub some_block : (p : ParamsValue) → Filled p → 0 < block_size p
 unfolding block_size
-some_block p some = let h : 0 < min 131072 p.size = omega arith in ceil_some (min 131072 p.size) p.k h p.some
+some_block p some = let h : 0 < min 131072 p.size = (let g = some.size in omega arith) in ceil_some (min 131072 p.size) p.k h some.some
 
-pub some_segment : (p : Params) → 0 < p.size → 0 < segment_size p
+pub some_segment : (p : ParamsValue) → Filled p → 0 < segment_size p
 unfolding segment_size
-some_segment p some = some_product (block_size p) p.k (some_block p some) p.some
+some_segment p some = some_product (block_size p) p.k (some_block p some) some.some
 
-pub some_segments : (p : Params) → 0 < p.size → 0 < segment_count p
+pub some_segments : (p : ParamsValue) → Filled p → 0 < segment_count p
 unfolding segment_count
-some_segments p some = ceil_some p.size (segment_size p) some (some_segment p some)
+some_segments p some = ceil_some p.size (segment_size p) some.size (some_segment p some)
 
-pub some_blocks : (p : Params) (joined : List ℕ) → 0 < p.size → 0 < length (cut_blocks p joined)
+pub some_blocks : (p : ParamsValue) (joined : List ℕ) → Filled p → 0 < length (cut_blocks p joined)
 unfolding cut_blocks
 some_blocks p joined some = subst (λ n. 0 < n) (sym (length-chunks (block_size p) (segment_count p) joined)) (some_segments p some)
+
+-- ---- what is known of a file's numbers, one by one
+
+pub filled_by : (p : ParamsValue) (k n : ℕ) → IsSharing k n → k ≡ p.k → 0 < p.size → Filled p
+filled_by p k n sharing e size = record { some = (let h = sharing.some in omega arith); size = size }
+
+pub filled_some : (p : ParamsValue) (k n : ℕ) → IsSharing k n → k ≡ p.k → 0 < p.k
+filled_some p k n sharing e = let h = sharing.some in omega arith
+
+pub sharing_by : (p : ParamsValue) (k n : ℕ) → IsSharing k n → k ≡ p.k → n ≡ p.n → IsSharing p.k p.n
+sharing_by p k n sharing e f = record {
+  some = (let h = sharing.some in omega arith);
+  enough = (let h = sharing.enough in omega arith);
+  limit = (let h = sharing.limit in omega arith);
+}
+
+pub block_size_by : (p : ParamsValue) (k size m r : ℕ) → k ≡ p.k → size ≡ p.size → m ≡ min size 131072 → r ≡ div_ceil m k → r ≡ block_size p
+unfolding block_size
+block_size_by p k size m r e f g h =
+    let turned : m ≡ min 131072 p.size = omega arith in
+    h ∙ (λ i. div_ceil (turned i) (e i))
+
+pub segment_size_by : (p : ParamsValue) (k b : ℕ) → k ≡ p.k → b ≡ block_size p → b * k ≡ segment_size p
+unfolding segment_size
+segment_size_by p k b e f = λ i. f i * e i
+
+pub segment_count_by : (p : ParamsValue) (size n r : ℕ) → size ≡ p.size → n ≡ segment_size p → r ≡ div_ceil size n → r ≡ segment_count p
+unfolding segment_count
+segment_count_by p size n r e f g = g ∙ (λ i. div_ceil (e i) (f i))
+
+pub blocks_size_by : (p : ParamsValue) (k size r : ℕ) → k ≡ p.k → size ≡ p.size → r ≡ div_ceil size k → r ≡ blocks_size p
+unfolding blocks_size
+blocks_size_by p k size r e f g = g ∙ (λ i. div_ceil (f i) (e i))
+
+pub segment_length_by : (p : ParamsValue) (at n size m : ℕ) → n ≡ segment_size p → size ≡ p.size → m ≡ min n (size - at * n) → m ≡ segment_length p at
+unfolding segment_length
+segment_length_by p at n size m e f g = g ∙ (λ i. min (e i) (f i - at * e i))
+
+-- ---- segments
+
+pub segment_starts : (p : ParamsValue) (at : ℕ) → Filled p → at < segment_count p → at * segment_size p < p.size
+unfolding segment_count
+segment_starts p at some below =
+    start_inside (segment_size p) (segment_count p) at p.size below (ceil_least p.size (segment_size p) (some_segment p some))
+
+pub starts_by : (p : ParamsValue) (at n : ℕ) → Filled p → at < segment_count p → n ≡ segment_size p → at * n < p.size
+starts_by p at n some below e =
+    let same : at * n ≡ at * segment_size p = ap (λ m. at * m) e in
+    let starts = segment_starts p at some below in
+    omega arith
+
+pub some_length : (p : ParamsValue) (at : ℕ) → Filled p → at < segment_count p → 0 < segment_length p at
+unfolding segment_length
+some_length p at some below =
+    let starts = segment_starts p at some below in
+    let size = some_segment p some in
+    omega arith
+
+pub segment_ends : (p : ParamsValue) (at : ℕ) → at * segment_size p < p.size → at * segment_size p + segment_length p at ≤ p.size
+unfolding segment_length
+segment_ends p at starts = omega arith
+
+pub ends_by : (p : ParamsValue) (at n m : ℕ) → n ≡ segment_size p → m ≡ segment_length p at → at * segment_size p < p.size → at * n + m ≤ p.size
+ends_by p at n m e f starts =
+    let same : at * n ≡ at * segment_size p = ap (λ m. at * m) e in
+    let ends = segment_ends p at starts in
+    omega arith
+
+pub length_as_min : (p : ParamsValue) (at n size : ℕ) → n ≡ segment_size p → size ≡ p.size → segment_length p at ≡ min n (size - at * n)
+unfolding segment_length
+length_as_min p at n size e f = λ i. min (sym e i) (sym f i - at * sym e i)

@@ -1,11 +1,11 @@
 -- The fronts of shares: how long they are, and that a share is its front and its blocks.
-use Rattle.std.proofs.Common.{◌≡◌, ℕ, suc, ◌+◌, ◌<◌, ◌≤◌, List, [], ◌∷◌, ◌++◌, length, drop, get_or, map, replicate, refl, sym, ap, ◌∙◌, subst, arith, length-append, append_assoc}
+use Rattle.std.proofs.Common.{◌≡◌, ℕ, suc, ◌+◌, ◌<◌, ◌≤◌, List, [], ◌∷◌, ◌++◌, length, drop, get_or, Vec, Global, map, replicate, refl, sym, ap, ◌∙◌, subst, arith, length-append, append_assoc}
 use Rattle.std.specs.Prelude.{All, codes}
 use Rattle.std.specs.List.{concat, range_with_len}
 use Rattle.std.proofs.Math.Seq.{drop-append_seam}
-use Rattle.std.proofs.lemmas.List.{length-map, length-replicate}
+use Rattle.std.proofs.lemmas.List.{length-map, get_or-map, length-replicate}
 use Rattle.std.proofs.lemmas.List.Elements.{All-map, All-replicate}
-use Rattle.std.proofs.lemmas.List.FromFn.{length-map-range_with_len}
+use Rattle.std.proofs.lemmas.List.FromFn.{length-map-range_with_len, get_or-map-range_with_len}
 use Rattle.tag_hash.specs.Decimal.{decimal_text}
 use Rattle.tag_hash.specs.Netstring.{netstring}
 use Rattle.tag_hash.specs.Tagged.{tagged}
@@ -13,15 +13,15 @@ use Rattle.erasure.specs.Blocks.{block_of}
 use Rattle.merkle.specs.Tree.{root}
 use Rattle.merkle.specs.Chain.{chain}
 use Rattle.merkle.specs.Height.{height}
-use Rattle.share_codec.specs.declared.params.Params.{Params}
+use Rattle.share_codec.specs.Params.{ParamsValue}
 use Rattle.share_codec.specs.declared.ueb.Ueb.{Ueb}
 use Rattle.share_codec.specs.Segments.{segment_size, segment_count, blocks_size, segments, primary_blocks}
 use Rattle.share_codec.specs.Tags.{block_hash, segment_hash, extension_hash}
-use Rattle.share_codec.specs.Texts.{share_text, the_version}
+use Rattle.share_codec.specs.Texts.{Texts, share_text, the_version}
 use Rattle.share_codec.specs.Ueb.{entry, ueb_text}
 use Rattle.share_codec.specs.Shares.{blocks, block_root, segment_hashes, share_leaves, roots_of, ueb_of, ueb_hash, texts, share}
 use Rattle.share_codec.specs.Drafts.{Begun, nothing_begun, all_begun, Shared, shared_of, front_text, blank_hash, blank_roots, blank_front, blocks_in, begun, finished}
-use Rattle.share_codec.proofs.Cuts.{some_segments}
+use Rattle.share_codec.proofs.Cuts.{Filled, some_segments}
 use Rattle.share_codec.proofs.Making.{range_same, length-segments, length-all_begun, at-all_begun}
 use Rattle.share_codec.proofs.Totals.{length-blocks}
 
@@ -53,7 +53,7 @@ sevenfold a b c d e f g x y h k = as_long a x (b ++ (c ++ (d ++ (e ++ (f ++ g)))
     (as_long c c (d ++ (e ++ (f ++ g))) (d ++ (y ++ (f ++ g))) refl
     (as_long d d (e ++ (f ++ g)) (y ++ (f ++ g)) refl (as_long e y (f ++ g) (f ++ g) k refl))))
 
-same_ueb : (p : Params) (one two : Ueb) → length one.crypttext_root ≡ length two.crypttext_root → length one.share_root ≡ length two.share_root
+same_ueb : (p : ParamsValue) (one two : Ueb) → length one.crypttext_root ≡ length two.crypttext_root → length one.share_root ≡ length two.share_root
     → length (ueb_text p one) ≡ length (ueb_text p two)
 unfolding ueb_text
 same_ueb p one two e f =
@@ -88,15 +88,15 @@ same_front one two i xs ys e f g h =
     (ap (λ n. length (decimal_text n ++ 58 ∷ [])) g)
 
 -- the hashes of a file
-pub segment_hashes_many : (p : Params) (bytes : List ℕ) → length (segment_hashes p bytes) ≡ segment_count p
+pub segment_hashes_many : (p : ParamsValue) (bytes : List ℕ) → length (segment_hashes p bytes) ≡ segment_count p
 unfolding segment_hashes
 segment_hashes_many p bytes = length-map (segments p bytes) segment_hash ∙ length-segments p bytes
 
-pub leaves_many : (p : Params) (bytes : List ℕ) → length (share_leaves p bytes) ≡ p.n
+pub leaves_many : (p : ParamsValue) (bytes : List ℕ) → length (share_leaves p bytes) ≡ p.n
 unfolding share_leaves
 leaves_many p bytes = length-map-range_with_len (λ i. block_root (blocks p bytes i)) 0 p.n
 
-module _ (lengths : HashLengths) (p : Params) (bytes : List ℕ) where
+module _ (lengths : HashLengths) (p : ParamsValue) (bytes : List ℕ) where
   segment_hashes_long : All (λ h. length h ≡ 32) (segment_hashes p bytes)
   unfolding segment_hashes
   segment_hashes_long = All-map (λ h. length h ≡ 32) segment_hash (segments p bytes) (λ k d below. lengths.tagged_long _ _)
@@ -137,7 +137,7 @@ netstring_is : (text : List ℕ) → netstring text ≡ decimal_text (length tex
 unfolding netstring
 netstring_is text = refl
 
-share_parts : (p : Params) (bytes : List ℕ) (i : ℕ) → length (concat (blocks p bytes i)) ≡ blocks_size p
+share_parts : (p : ParamsValue) (bytes : List ℕ) (i : ℕ) → length (concat (blocks p bytes i)) ≡ blocks_size p
     → front_text (shared_of p (roots_of p bytes) (segment_hashes p bytes)) i (chain (share_leaves p bytes) i) ++ (concat (blocks p bytes i) ++ 44 ∷ []) ≡ share p bytes i
 unfolding share texts share_text front_text shared_of ueb_of
 share_parts p bytes i long =
@@ -149,11 +149,11 @@ share_parts p bytes i long =
     ∙ ap (λ t. netstring the_version ++ (netstring (decimal_text i) ++ (extension ++ (hashes ++ (siblings ++ t)))))
     (ap (λ n. decimal_text n ++ 58 ∷ (all ++ 44 ∷ [])) (sym long) ∙ sym (netstring_is all))
 
-blocks_are : (p : Params) (bytes : List ℕ) (i : ℕ) → blocks_in p (segments p bytes) i ≡ blocks p bytes i
+blocks_are : (p : ParamsValue) (bytes : List ℕ) (i : ℕ) → blocks_in p (segments p bytes) i ≡ blocks p bytes i
 unfolding blocks_in blocks
 blocks_are p bytes i = refl
 
-pub finished_is : (lengths : HashLengths) (p : Params) (bytes : List ℕ) (i : ℕ) → length bytes ≡ p.size → 0 < p.size
+pub finished_is : (lengths : HashLengths) (p : ParamsValue) (bytes : List ℕ) (i : ℕ) → length bytes ≡ p.size → Filled p
     → finished (begun p (segments p bytes) i) (front_text (shared_of p (roots_of p bytes) (segment_hashes p bytes)) i (chain (share_leaves p bytes) i)) ≡ share p bytes i
 unfolding finished begun
 finished_is lengths p bytes i long some =
@@ -168,22 +168,22 @@ map_twice : {X Y Z : Type 0} (f : Y → Z) (g : X → Y) (xs : List X) → map f
 map_twice f g [] = refl
 map_twice f g (x ∷ xs) = ap (λ ys. f (g x) ∷ ys) (map_twice f g xs)
 
-roots_are : (p : Params) (bytes : List ℕ) → map (λ (d : Begun). root d.hashes) (all_begun p (segments p bytes)) ≡ share_leaves p bytes
+roots_are : (p : ParamsValue) (bytes : List ℕ) → map (λ (d : Begun). root d.hashes) (all_begun p (segments p bytes)) ≡ share_leaves p bytes
 unfolding all_begun share_leaves begun block_root blocks_in blocks
 roots_are p bytes = map_twice (λ (d : Begun). root d.hashes) (begun p (segments p bytes)) (range_with_len 0 p.n)
 
-hashes_many : (p : Params) (bytes : List ℕ) (i : ℕ) → length (begun p (segments p bytes) i).hashes ≡ segment_count p
+hashes_many : (p : ParamsValue) (bytes : List ℕ) (i : ℕ) → length (begun p (segments p bytes) i).hashes ≡ segment_count p
 unfolding begun blocks_in
 hashes_many p bytes i =
     length-map (blocks_in p (segments p bytes) i) block_hash
     ∙ length-map (segments p bytes) (λ segment. block_of (primary_blocks p.k segment) i) ∙ length-segments p bytes
 
-blank_within : (p : Params) (done : List (List ℕ)) (i : ℕ) → length (blank_front p i) ≤ length (begun p done i).bytes
+blank_within : (p : ParamsValue) (done : List (List ℕ)) (i : ℕ) → length (blank_front p i) ≤ length (begun p done i).bytes
 unfolding begun
 blank_within p done i = let sum = length-append (blank_front p i) (concat (blocks_in p done i)) in omega (arith, sum)
 
 -- what is known of the shares when all blocks stand in them
-module _ (p : Params) (bytes : List ℕ) (drafts : List Begun) (begun_all : drafts ≡ all_begun p (segments p bytes)) where
+module _ (p : ParamsValue) (bytes : List ℕ) (drafts : List Begun) (begun_all : drafts ≡ all_begun p (segments p bytes)) where
   pub draft_at : (i : ℕ) → i < length drafts → get_or drafts i nothing_begun ≡ begun p (segments p bytes) i
   draft_at i below =
       let many : length drafts ≡ p.n = ap length begun_all ∙ length-all_begun p (segments p bytes) in
@@ -192,7 +192,7 @@ module _ (p : Params) (bytes : List ℕ) (drafts : List Begun) (begun_all : draf
   pub drafts_many : length drafts ≡ p.n
   drafts_many = ap length begun_all ∙ length-all_begun p (segments p bytes)
 
-  pub some_hashes : 0 < p.size → (i : ℕ) → i < length drafts → 0 < length (get_or drafts i nothing_begun).hashes
+  pub some_hashes : Filled p → (i : ℕ) → i < length drafts → 0 < length (get_or drafts i nothing_begun).hashes
   some_hashes some i below =
       subst (λ (d : Begun). 0 < length d.hashes) (sym (draft_at i below)) (subst (λ n. 0 < n) (sym (hashes_many p bytes i)) (some_segments p some))
 
@@ -211,7 +211,7 @@ module _ (p : Params) (bytes : List ℕ) (drafts : List Begun) (begun_all : draf
         let fits : length (blank_front p i) ≤ length (begun p (segments p bytes) i).bytes = blank_within p (segments p bytes) i in
         omega (arith, long, all, fits)
 
-    pub all_made : length bytes ≡ p.size → 0 < p.size
+    pub all_made : length bytes ≡ p.size → Filled p
         → map (λ i. finished (get_or drafts i nothing_begun) (front_text heading i (chain tree i))) (range_with_len 0 (length drafts))
         ≡ map (λ i. share p bytes i) (range_with_len 0 p.n)
     all_made long some =
@@ -220,7 +220,7 @@ module _ (p : Params) (bytes : List ℕ) (drafts : List Begun) (begun_all : draf
         (λ i below. ap (λ (d : Begun). finished d (front_text heading i (chain tree i))) (draft_at i (omega (arith, drafts_many)))
         ∙ ap (finished (begun p (segments p bytes) i)) (front_at i) ∙ finished_is lengths p bytes i long some)
 
-pub heading_is : (p : Params) (bytes : List ℕ) (heading : Shared) (roots : Ueb) (hashes tree : List (List ℕ)) → heading ≡ shared_of p roots hashes
+pub heading_is : (p : ParamsValue) (bytes : List ℕ) (heading : Shared) (roots : Ueb) (hashes tree : List (List ℕ)) → heading ≡ shared_of p roots hashes
     → hashes ≡ segment_hashes p bytes → tree ≡ share_leaves p bytes → roots.crypttext_root ≡ root hashes → roots.share_root ≡ root tree
     → heading ≡ shared_of p (roots_of p bytes) (segment_hashes p bytes)
 unfolding roots_of
@@ -228,7 +228,28 @@ heading_is p bytes heading roots hashes tree e f g first second =
     let same : roots ≡ roots_of p bytes = (let one = first ∙ ap root f in let two = second ∙ ap root g in λ i. record { crypttext_root = one i; share_root = two i }) in
     e ∙ (λ i. shared_of p (same i) (f i))
 
-pub hash_is : (p : Params) (bytes : List ℕ) (heading : Shared) (hash : List ℕ) → heading ≡ shared_of p (roots_of p bytes) (segment_hashes p bytes)
+pub hash_is : (p : ParamsValue) (bytes : List ℕ) (heading : Shared) (hash : List ℕ) → heading ≡ shared_of p (roots_of p bytes) (segment_hashes p bytes)
     → hash ≡ extension_hash heading.extension → hash ≡ ueb_hash p bytes
 unfolding ueb_hash ueb_of shared_of
 hash_is p bytes heading hash e is = is ∙ ap (λ (h : Shared). extension_hash h.extension) e
+
+-- a share has bytes
+some_netstring : (text rest : List ℕ) → 0 < length (netstring text ++ rest)
+unfolding netstring
+some_netstring text rest =
+    let first = length-append (netstring text) rest in
+    let second = length-append (decimal_text (length text)) (58 ∷ (text ++ 44 ∷ [])) in
+    omega (arith, first, second)
+
+pub some_share : (p : ParamsValue) (bytes : List ℕ) (i : ℕ) → 0 < length (share p bytes i)
+unfolding share share_text
+some_share p bytes i = some_netstring (texts p bytes i).version _
+
+pub shares_some : (p : ParamsValue) (bytes : List ℕ) (made : List (Vec ℕ Global)) → map (λ (one : Vec ℕ Global). one.items) made ≡ map (λ i. share p bytes i) (range_with_len 0 p.n)
+    → All (λ (one : Vec ℕ Global). 0 < length one.items) made
+shares_some p bytes made e k d below =
+    let many : length made ≡ p.n = sym (length-map made (λ (one : Vec ℕ Global). one.items)) ∙ ap length e ∙ length-map-range_with_len (λ i. share p bytes i) 0 p.n in
+    let at : (get_or made k d).items ≡ share p bytes k =
+    sym (get_or-map (λ (one : Vec ℕ Global). one.items) made k d [] below) ∙ ap (λ (all : List (List ℕ)). get_or all k []) e
+    ∙ get_or-map-range_with_len (λ i. share p bytes i) 0 p.n k k [] (omega arith) (omega arith) in
+    subst (λ (t : List ℕ). 0 < length t) (sym at) (some_share p bytes k)

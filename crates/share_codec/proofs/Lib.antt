@@ -13,3 +13,4 @@ pub mod Rejoining
 pub mod Making
 pub mod Totals
 pub mod Fronts
+pub mod Goods

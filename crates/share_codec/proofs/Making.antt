@@ -11,11 +11,11 @@ use Rattle.erasure.specs.Code.{AreBytes, AreBlocks}
 use Rattle.erasure.specs.Blocks.{size_of, block_of}
 use Rattle.merkle.specs.Height.{height}
 use Rattle.merkle.specs.Chain.{chain}
-use Rattle.share_codec.specs.declared.params.Params.{Params}
+use Rattle.share_codec.specs.Params.{ParamsValue}
 use Rattle.share_codec.specs.Segments.{segment_size, segment_count, segments, padded, primary_blocks}
 use Rattle.share_codec.specs.Tags.{block_hash, segment_hash}
 use Rattle.share_codec.specs.Drafts.{Begun, Shared, shared_of, front_text, blank_hash, blank_roots, nothing_begun, with_block, with_blocks, blank_front, blocks_in, begun, all_begun}
-use Rattle.share_codec.proofs.Cuts.{length-chunks, ceil_least, start_inside, piece_at, some_segment}
+use Rattle.share_codec.proofs.Cuts.{Filled, length-chunks, ceil_least, start_inside, piece_at, some_segment}
 
 -- one more list, joined to those before it
 pub concat_more : (xss : List (List ℕ)) (i : ℕ) → i < length xss → concat (take i xss) ++ get_or xss i [] ≡ concat (take (i + 1) xss)
@@ -33,7 +33,7 @@ chunk_more n (suc count) xs =
     ∙ chunk_more n count (drop n xs) ∙ rw add-one refl))
 
 -- where a segment begins, and what it is
-pub segment_inside : (p : Params) (xs : List ℕ) (at n : ℕ) → length xs ≡ p.size → 0 < p.size → at < segment_count p → n ≡ segment_size p → at * n < length xs
+pub segment_inside : (p : ParamsValue) (xs : List ℕ) (at n : ℕ) → length xs ≡ p.size → Filled p → at < segment_count p → n ≡ segment_size p → at * n < length xs
 unfolding segment_count
 segment_inside p xs at n long some below is =
     let least : segment_count p * segment_size p < p.size + segment_size p = ceil_least p.size (segment_size p) (some_segment p some) in
@@ -41,7 +41,7 @@ segment_inside p xs at n long some below is =
     let inside : at * segment_size p < p.size = start_inside (segment_size p) (segment_count p) at p.size below least in
     omega arith
 
-pub segment_piece : (p : Params) (xs : List ℕ) (at n m : ℕ) → at < segment_count p → n ≡ segment_size p → m ≡ min n (length xs - at * n)
+pub segment_piece : (p : ParamsValue) (xs : List ℕ) (at n m : ℕ) → at < segment_count p → n ≡ segment_size p → m ≡ min n (length xs - at * n)
     → take (at * n + m - at * n) (drop (at * n) xs) ≡ get_or (segments p xs) at []
 unfolding segments
 segment_piece p xs at n m below is part =
@@ -103,12 +103,12 @@ concat_push [] ys = append-nil ys
 concat_push (xs ∷ xss) ys = ap (λ zs. xs ++ zs) (concat_push xss ys) ∙ sym (append_assoc xs (concat xss) ys)
 
 -- shares that are being made, with one segment more
-pub blocks_more : (p : Params) (before : List (List ℕ)) (segment : List ℕ) (i : ℕ)
+pub blocks_more : (p : ParamsValue) (before : List (List ℕ)) (segment : List ℕ) (i : ℕ)
     → blocks_in p (before ++ segment ∷ []) i ≡ blocks_in p before i ++ block_of (primary_blocks p.k segment) i ∷ []
 unfolding blocks_in
 blocks_more p before segment i = map-append (λ s. block_of (primary_blocks p.k s) i) before (segment ∷ [])
 
-pub begun_more : (p : Params) (before : List (List ℕ)) (segment : List ℕ) (i : ℕ)
+pub begun_more : (p : ParamsValue) (before : List (List ℕ)) (segment : List ℕ) (i : ℕ)
     → with_block (begun p before i) (block_of (primary_blocks p.k segment) i) ≡ begun p (before ++ segment ∷ []) i
 unfolding with_block begun
 begun_more p before segment i =
@@ -120,19 +120,19 @@ begun_more p before segment i =
     sym (map-append block_hash (blocks_in p before i) (block ∷ [])) ∙ ap (map block_hash) more in
     λ j. record { bytes = bytes j; hashes = hashes j }
 
-pub length-all_begun : (p : Params) (done : List (List ℕ)) → length (all_begun p done) ≡ p.n
+pub length-all_begun : (p : ParamsValue) (done : List (List ℕ)) → length (all_begun p done) ≡ p.n
 unfolding all_begun
 length-all_begun p done = length-map-range_with_len (begun p done) 0 p.n
 
-all_begun-is : (p : Params) (done : List (List ℕ)) → map (begun p done) (range_with_len 0 p.n) ≡ all_begun p done
+all_begun-is : (p : ParamsValue) (done : List (List ℕ)) → map (begun p done) (range_with_len 0 p.n) ≡ all_begun p done
 unfolding all_begun
 all_begun-is p done = refl
 
-pub at-all_begun : (p : Params) (done : List (List ℕ)) (i : ℕ) → i < p.n → get_or (all_begun p done) i nothing_begun ≡ begun p done i
+pub at-all_begun : (p : ParamsValue) (done : List (List ℕ)) (i : ℕ) → i < p.n → get_or (all_begun p done) i nothing_begun ≡ begun p done i
 unfolding all_begun
 at-all_begun p done i below = get_or-map-range_with_len (begun p done) 0 p.n i i nothing_begun below (omega arith)
 
-pub all_begun_more : (p : Params) (before : List (List ℕ)) (segment : List ℕ)
+pub all_begun_more : (p : ParamsValue) (before : List (List ℕ)) (segment : List ℕ)
     → with_blocks (all_begun p before) (primary_blocks p.k segment) ≡ all_begun p (before ++ segment ∷ [])
 unfolding with_blocks
 all_begun_more p before segment =
@@ -143,7 +143,7 @@ all_begun_more p before segment =
     (λ i below. ap (λ (d : Begun). with_block d (block_of primary i)) (at-all_begun p before i below) ∙ begun_more p before segment i)
     ∙ all_begun-is p (before ++ segment ∷ [])
 
-pub coded_more : (p : Params) (all : List (List ℕ)) (i : ℕ) (segment : List ℕ) (old new : List Begun) → old ≡ all_begun p (take i all)
+pub coded_more : (p : ParamsValue) (all : List (List ℕ)) (i : ℕ) (segment : List ℕ) (old new : List Begun) → old ≡ all_begun p (take i all)
     → segment ≡ get_or all i [] → i < length all → new ≡ with_blocks old (primary_blocks p.k segment) → new ≡ all_begun p (take (i + 1) all)
 coded_more p all i segment old new e is below made =
     made ∙ ap (λ (ds : List Begun). with_blocks ds (primary_blocks p.k segment)) e ∙ all_begun_more p (take i all) segment
@@ -154,22 +154,22 @@ pub hashed_more : (all : List (List ℕ)) (i : ℕ) (segment hash : List ℕ) (o
 hashed_more all i segment hash old new e made hashed is below =
     made ∙ ap (λ hs. hs ++ hash ∷ []) e ∙ ap (λ h. map segment_hash (take i all) ++ h ∷ []) (hashed ∙ ap segment_hash is) ∙ sym (map_more segment_hash all i [] below)
 
-pub length-segments : (p : Params) (bytes : List ℕ) → length (segments p bytes) ≡ segment_count p
+pub length-segments : (p : ParamsValue) (bytes : List ℕ) → length (segments p bytes) ≡ segment_count p
 unfolding segments
 length-segments p bytes = length-chunks (segment_size p) (segment_count p) bytes
 
 -- a share more that is begun
-pub first_begun : (p : Params) (i : ℕ) (text : List ℕ) (draft : Begun) → text ≡ blank_front p i → draft ≡ record { bytes = text; hashes = [] } → draft ≡ begun p [] i
+pub first_begun : (p : ParamsValue) (i : ℕ) (text : List ℕ) (draft : Begun) → text ≡ blank_front p i → draft ≡ record { bytes = text; hashes = [] } → draft ≡ begun p [] i
 unfolding begun blocks_in
 first_begun p i text draft front e = e ∙ (let bytes : text ≡ blank_front p i ++ [] = front ∙ sym (append-nil (blank_front p i)) in λ j. record { bytes = bytes j; hashes = [] })
 
-pub blank_is : (p : Params) (i : ℕ) (heading : Shared) (siblings : List (List ℕ)) (text : List ℕ) → heading ≡ shared_of p blank_roots (replicate (segment_count p) blank_hash)
+pub blank_is : (p : ParamsValue) (i : ℕ) (heading : Shared) (siblings : List (List ℕ)) (text : List ℕ) → heading ≡ shared_of p blank_roots (replicate (segment_count p) blank_hash)
     → siblings ≡ replicate (height p.n) blank_hash → text ≡ front_text heading i siblings → text ≡ blank_front p i
 unfolding blank_front
 blank_is p i heading siblings text e f g =
     g ∙ ap (λ (h : Shared). front_text h i siblings) e ∙ ap (front_text (shared_of p blank_roots (replicate (segment_count p) blank_hash)) i) f
 
-pub all_blank : (p : Params) (drafts : List Begun) → drafts ≡ map (begun p []) (range_with_len 0 p.n) → drafts ≡ all_begun p []
+pub all_blank : (p : ParamsValue) (drafts : List Begun) → drafts ≡ map (begun p []) (range_with_len 0 p.n) → drafts ≡ all_begun p []
 all_blank p drafts e = e ∙ all_begun-is p []
 
 -- a list that was made of a function on a range, and one more element of it

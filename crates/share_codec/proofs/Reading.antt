@@ -1,12 +1,11 @@
 -- What the tests of a share told.
 use Rattle.std.proofs.Common.{◌≡◌, ◌≢◌, ℕ, List, Bool, true, false, not, length, refl, sym, ap, ◌∙◌, subst}
-use Rattle.std.specs.Prelude.{IsTrue, nat_eq, IsOkUnless, IfErr}
+use Rattle.std.specs.Prelude.{IsTrue, nat_eq, IfErr}
 use Rattle.std.specs.Cmp.Lexicographic.{pointwise, told_text, same_text, other_text}
 use Rattle.std.specs.declared.result.Result.{Result}
 use Rattle.std.specs.declared.result.Result.TheVariants.{Ok, Err}
-use Rattle.merkle.specs.Height.{height}
 use Rattle.merkle.specs.Leads.{Leads}
-use Rattle.share_codec.specs.declared.params.Params.{Params}
+use Rattle.share_codec.specs.Params.{ParamsValue}
 use Rattle.share_codec.specs.declared.ueb.Ueb.{Ueb}
 use Rattle.share_codec.specs.declared.fault.ShareFault.{ShareFault}
 use Rattle.share_codec.specs.declared.fault.ShareFault.TheVariants.{Torn, Version, Number, UebHash, Parameters, CrypttextTree, ShareTree, NoMemory}
@@ -15,9 +14,10 @@ use Rattle.share_codec.specs.Ueb.{ueb_text}
 use Rattle.share_codec.specs.Tags.{extension_hash}
 use Rattle.share_codec.specs.Texts.{Texts, digests}
 use Rattle.share_codec.specs.Shares.{block_root}
-use Rattle.share_codec.specs.Meets.{IsSix, IsNumber, IsExtension, HasCrypttextTree, HasShareTree, IsLed, MeetsBy, Meets}
+use Rattle.share_codec.specs.Meets.{IsSix, IsNumber, IsExtension, HasCrypttextTree, HasShareTree, MeetsBy, Meets}
 use Rattle.share_codec.specs.GoodShare.{GoodShare, IsReadFrom}
-use Rattle.share_codec.specs.Causes.{Cause}
+use Rattle.share_codec.specs.Causes.{IsMeasured, Cause}
+use Rattle.share_codec.proofs.Formed.{equal, equal_is}
 use Rattle.share_codec.proofs.Netstrings.{NetstringsPart}
 use Rattle.share_codec.proofs.Six.{six_unique}
 use Rattle.share_codec.proofs.Entries.{at1, at2, at3, at4, ueb_text-is, behind1, behind2, behind3, behind4, behind5}
@@ -52,7 +52,7 @@ refuted P never = (λ h. absurd (never_true h), λ h. absurd (never h))
 same_texts : NetstringsPart → (s : List ℕ) (t u : Texts) → IsSix s t → IsSix s u → t ≡ u
 same_texts parts s t u one two = six_unique parts t u (sym one.text ∙ two.text)
 
-pub same_roots : NetstringsPart → (p : Params) (text : List ℕ) (one two : Ueb) → text ≡ ueb_text p one → text ≡ ueb_text p two → one ≡ two
+pub same_roots : NetstringsPart → (p : ParamsValue) (text : List ℕ) (one two : Ueb) → text ≡ ueb_text p one → text ≡ ueb_text p two → one ≡ two
 same_roots parts p text one two e f =
     let first : one.crypttext_root ≡ two.crypttext_root =
     value_of_entry parts text _ one.crypttext_root two.crypttext_root (behind1 p one) (behind1 p two) (e ∙ ueb_text-is p one) (f ∙ ueb_text-is p two) in
@@ -63,7 +63,7 @@ same_roots parts p text one two e f =
     let second : one.share_root ≡ two.share_root = value_of_entry parts (behind4 p one) _ one.share_root two.share_root (behind5 p one) (behind5 p two) refl r4 in
     λ i. record { crypttext_root = first i; share_root = second i }
 
-module _ (parts : NetstringsPart) (s : List ℕ) (number : ℕ) (p : Params) (ueb : List ℕ) where
+module _ (parts : NetstringsPart) (s : List ℕ) (number : ℕ) (p : ParamsValue) (ueb : List ℕ) where
   -- a string that meets a cap has none of the faults
   pub no_cause : (fault : ShareFault) → Cause s number p ueb fault → Meets s number p ueb → fault ≡ NoMemory
   no_cause Torn h (t, roots, by) = absurd (h t by.six)
@@ -85,25 +85,28 @@ module _ (parts : NetstringsPart) (s : List ℕ) (number : ℕ) (p : Params) (ue
       absurd (other (subst (λ (r : Ueb). HasShareTree p number u r) tops_are (subst (λ (x : Texts). HasShareTree p number x roots) same by.share_tree)))
   no_cause NoMemory h m = refl
 
-  pub unless_memory : {T : Type 0} (r : Result T ShareFault) → IfErr r (Cause s number p ueb) → Meets s number p ueb → IsOkUnless r NoMemory
-  unless_memory (Ok x) h m = tt
-  unless_memory (Err fault) h m = no_cause fault h m
-
 -- what a test of a chain told
-pub led : (p : Params) (number : ℕ) (siblings top : List ℕ) (roots : Ueb) (blocks found : List (List ℕ)) (count : ℕ) (r : Bool)
-    → found ≡ digests siblings → length found ≡ count → count ≡ height p.n → top ≡ block_root blocks
-    → (IsTrue r → Leads roots.share_root number top found) × (Leads roots.share_root number top found → IsTrue r)
-    → (IsTrue r → IsLed p number siblings roots blocks) × (IsLed p number siblings roots blocks → IsTrue r)
-led p number siblings top roots blocks found count r e long high is test = (
-  λ h. record {
-    count = sym (ap length e) ∙ long ∙ high;
-    top = subst (λ t. Leads roots.share_root number t (digests siblings)) is (subst (λ f. Leads roots.share_root number top f) e (test.0 h));
-  },
-  λ h. test.1 (subst (λ f. Leads roots.share_root number top f) (sym e) (subst (λ t. Leads roots.share_root number t (digests siblings)) (sym is) h.top)),
+pub led : (number : ℕ) (siblings top share_root : List ℕ) (blocks found : List (List ℕ)) (r : Bool)
+    → found ≡ digests siblings → top ≡ block_root blocks
+    → (IsTrue r → Leads share_root number top found) × (Leads share_root number top found → IsTrue r)
+    → (IsTrue r → Leads share_root number (block_root blocks) (digests siblings)) × (Leads share_root number (block_root blocks) (digests siblings) → IsTrue r)
+led number siblings top share_root blocks found r e is test = (
+  λ h. subst (λ t. Leads share_root number t (digests siblings)) is (subst (λ f. Leads share_root number top f) e (test.0 h)),
+  λ h. test.1 (subst (λ f. Leads share_root number top f) (sym e) (subst (λ t. Leads share_root number t (digests siblings)) (sym is) h)),
 )
 
+-- a test of two numbers settles what stands and falls with them
+pub counted : (m n : ℕ) (P : Type 0) → (m ≡ n → P) → (P → m ≡ n) → (IsTrue (nat_eq m n) → P) × (P → IsTrue (nat_eq m n))
+counted m n P there back = (λ h. there (equal_is m n h), λ h. equal m n (back h))
+
+-- memory was refused where nothing was wrong so far
+pub cause_memory : {T : Type 0} (r : Result T ShareFault) (s : List ℕ) (number : ℕ) (p : ParamsValue) (ueb : List ℕ) (e : ShareFault) → r ≡ Err e → e ≡ NoMemory
+    → (t : Texts) (roots : Ueb) → IsMeasured s number p ueb t roots → IfErr r (Cause s number p ueb)
+cause_memory {T} r s number p ueb e is memory t roots measured =
+    subst (λ (q : Result T ShareFault). IfErr q (Cause s number p ueb)) (sym (is ∙ ap Err memory)) (t, roots, measured)
+
 -- what was told of all parts, together
-pub read_made : (s : List ℕ) (number : ℕ) (p : Params) (ueb : List ℕ) (t : Texts) (roots : Ueb) (good : GoodShare)
+pub read_made : (s : List ℕ) (number : ℕ) (p : ParamsValue) (ueb : List ℕ) (t : Texts) (roots : Ueb) (good : GoodShare)
     → good ≡ record { number = number; ueb = roots; blocks = cut_blocks p t.blocks } → MeetsBy s number p ueb t roots → IsReadFrom s number p ueb good
 read_made s number p ueb t roots good e meets =
     subst (IsReadFrom s number p ueb) (sym e) (record { texts = t; meets = meets; numbered = refl; cut = refl })

@@ -1,11 +1,11 @@
--- Shares that are being made, of which the blocks stand and the hashes in front of them don't yet.
+-- Shares that are being made, of which the blocks stand and the hashes before them don't yet.
 use Rattle.std.specs.Prelude.{ℕ, List, [], ◌∷◌, ◌++◌, length, drop, map, replicate, slice_index_or}
 use Rattle.std.specs.List.{concat, range_with_len}
 use Rattle.tag_hash.specs.Decimal.{decimal_text}
 use Rattle.tag_hash.specs.Netstring.{netstring}
 use Rattle.erasure.specs.Blocks.{block_of}
 use Rattle.merkle.specs.Height.{height}
-use Rattle.share_codec.specs.declared.params.Params.{Params}
+use Rattle.share_codec.specs.Params.{ParamsValue}
 use Rattle.share_codec.specs.declared.ueb.Ueb.{Ueb}
 use Rattle.share_codec.specs.Segments.{segment_count, blocks_size, primary_blocks}
 use Rattle.share_codec.specs.Tags.{block_hash}
@@ -19,10 +19,10 @@ pub record Shared : Type 0 where
   pub hashes : List ℕ
   pub blocks_size : ℕ
 
-unfoldable pub shared_of : Params → Ueb → List (List ℕ) → Shared
+unfoldable pub shared_of : ParamsValue → Ueb → List (List ℕ) → Shared
 shared_of p roots hashes = record { extension = ueb_text p roots; hashes = concat hashes; blocks_size = blocks_size p }
 
--- what a share of this number and these siblings has in front of its blocks
+-- what a share of this number and these siblings has before its blocks
 unfoldable pub front_text : Shared → ℕ → List (List ℕ) → List ℕ
 front_text shared number siblings =
     netstring the_version
@@ -40,7 +40,7 @@ unfoldable pub blank_roots : Ueb
 blank_roots = record { crypttext_root = blank_hash; share_root = blank_hash }
 
 -- a front as long as the one of share i
-unfoldable pub blank_front : Params → ℕ → List ℕ
+unfoldable pub blank_front : ParamsValue → ℕ → List ℕ
 blank_front p i = front_text (shared_of p blank_roots (replicate (segment_count p) blank_hash)) i (replicate (height p.n) blank_hash)
 
 -- a share that is being made: its bytes so far, and the hashes of its blocks so far
@@ -61,16 +61,16 @@ with_blocks drafts primary =
     map (λ i. with_block (slice_index_or drafts i nothing_begun) (block_of primary i)) (range_with_len 0 (length drafts))
 
 -- block i of each of these segments
-unfoldable pub blocks_in : Params → List (List ℕ) → ℕ → List (List ℕ)
+unfoldable pub blocks_in : ParamsValue → List (List ℕ) → ℕ → List (List ℕ)
 blocks_in p segments i = map (λ segment. block_of (primary_blocks p.k segment) i) segments
 
 -- share i when the blocks of these segments stand in it
-unfoldable pub begun : Params → List (List ℕ) → ℕ → Begun
+unfoldable pub begun : ParamsValue → List (List ℕ) → ℕ → Begun
 begun p segments i = record { bytes = blank_front p i ++ concat (blocks_in p segments i); hashes = map block_hash (blocks_in p segments i) }
 
-unfoldable pub all_begun : Params → List (List ℕ) → List Begun
+unfoldable pub all_begun : ParamsValue → List (List ℕ) → List Begun
 all_begun p segments = map (λ i. begun p segments i) (range_with_len 0 p.n)
 
--- with the front that it lacked, and the comma behind its blocks
+-- with the front that it lacked, and the comma after its blocks
 unfoldable pub finished : Begun → List ℕ → List ℕ
 finished draft front = front ++ (drop (length front) draft.bytes ++ 44 ∷ [])

@@ -1,8 +1,10 @@
+pub mod Params
 pub mod Segments
 pub mod Tags
 pub mod Ueb
 pub mod Texts
 pub mod Shares
+pub mod Formed
 pub mod Meets
 pub mod Causes
 pub mod GoodShare

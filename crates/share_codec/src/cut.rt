@@ -1,26 +1,11 @@
-//! How a file is cut into segments, and a segment into primary blocks.
-ghost use Rattle.std.specs.Prelude.{◌≡◌, ◌≤◌, ◌<◌, ◌-◌, ◌*◌, ◌++◌, [], length, replicate, slice_index_or, IfOk};
+//! How a segment is padded and cut into primary blocks.
+ghost use Rattle.std.specs.Prelude.{◌≡◌, ◌≤◌, ◌-◌, ◌*◌, ◌++◌, length, replicate, IfOk};
 ghost use Rattle.std.specs.Simd.{first_chunks};
 ghost use Rattle.erasure.specs.Given.{contents_of};
-ghost use Rattle.share_codec.specs.Segments.{segments, segment_count};
 
-use crate::params::Params;
 use std::alloc::{AllocError, Global};
 
-/// A segment of a file, the last one of which may be shorter than the others.
-pub(crate) fn segment_at<'a>(params: &Params, crypttext: &'a [u8], index: usize) -> &'a [u8]
-    requires size { length crypttext.now ≡ params.now.size }
-    requires some { 0 < params.now.size }
-    requires inside { index < segment_count params.now }
-    ensures { result.now ≡ slice_index_or (segments params.now crypttext.now) index [] }
-{
-    let size = params.segment_size();
-    let start = index * size;
-    let end = start + size.min(crypttext.len() - start);
-    &crypttext[start..end]
-}
-
-/// A segment with zeros behind it, `size` bytes in all.
+/// A segment with zeros after it, `size` bytes in all.
 pub(crate) fn padded(alloc: Global, segment: &[u8], size: usize) -> Result<Vec<u8>, AllocError>
     requires { length segment.now ≤ size }
     ensures { IfOk result (λ bytes. bytes.items ≡ segment.now ++ replicate (size - length segment.now) 0) }

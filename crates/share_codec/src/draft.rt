@@ -27,7 +27,7 @@ impl Model for Draft {
 impl Draft {
     ghost use Rattle.share_codec.specs.Drafts.{with_block, finished};
 
-    /// A share without blocks, with memory for all of them and the comma behind them.
+    /// A share without blocks, with memory for all of them and the comma after them.
     pub(crate) fn new(alloc: Global, params: &Params, front: &[u8]) -> Result<Self, AllocError>
         requires some { 0 < params.now.size }
         requires fits { params.now.size < 2 ^ 63 }
@@ -73,7 +73,7 @@ impl Draft {
     }
 }
 
-// Writes over the first bytes.
+/// Writes over the first bytes.
 fn write_front(bytes: &mut [u8], front: &[u8])
     requires { length front.now ≤ length bytes.old }
     ensures { bytes.new ≡ front.now ++ drop (length front.now) bytes.old }

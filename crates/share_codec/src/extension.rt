@@ -7,8 +7,9 @@ use crate::netstring::{split_netstring, strip};
 use crate::params::Params;
 use crate::ueb::Ueb;
 use std::alloc::{AllocError, Global};
-use tag_hash::{Decimal, netstrings_are_read_back, push_netstring};
+use tag_hash::{Decimal, laws, push_netstring};
 
+/// The keys, in the order in which their entries stand.
 const CRYPTTEXT_ROOT: &[u8; 19] = b"crypttext_root_hash";
 
 const NEEDED_SHARES: &[u8; 13] = b"needed_shares";
@@ -43,6 +44,7 @@ pub(crate) fn extension_text(
     Ok(text)
 }
 
+/// Appends an entry.
 fn push_entry(text: &mut Vec<u8>, key: &[u8], value: &[u8]) -> Result<(), AllocError>
     ensures { OnOk result (text.new.items ≡ text.old.items ++ entry key.now value.now) }
 {
@@ -51,6 +53,7 @@ fn push_entry(text: &mut Vec<u8>, key: &[u8], value: &[u8]) -> Result<(), AllocE
     push_netstring(text, value)
 }
 
+/// Appends an entry whose value is a number.
 fn push_number(text: &mut Vec<u8>, key: &[u8], number: u64) -> Result<(), AllocError>
     ensures { OnOk result (text.new.items ≡ text.old.items ++ entry key.now (decimal_text number)) }
 {
@@ -64,7 +67,7 @@ pub(crate) fn read_extension(params: &Params, text: &[u8]) -> Option<Ueb>
     ensures { MatchOption result ((roots : Ueb) → AreRoots roots → text.now ≢ ueb_text params.now roots)
         (λ roots. AreRoots roots × (text.now ≡ ueb_text params.now roots)) }
 {
-    netstrings_are_read_back();
+    laws::netstrings_are_read_back();
     let (crypttext_root, rest) = split_root(text, CRYPTTEXT_ROOT)?;
     let rest = strip_number(rest, NEEDED_SHARES, params.k as u64)?;
     let rest = strip_number(rest, SEGMENT_COUNT, params.segment_count() as u64)?;
@@ -82,7 +85,7 @@ pub(crate) fn read_extension(params: &Params, text: &[u8]) -> Option<Ueb>
     }
 }
 
-// The value of the entry of this key that a text begins with, and what follows it.
+/// The value of the entry of this key that a text begins with, and what follows it.
 fn split_entry<'a>(text: &'a [u8], key: &[u8]) -> Option<(&'a [u8], &'a [u8])>
     ensures { MatchOption result ((value rest : List ℕ) → text.now ≢ entry key.now value ++ rest)
         (λ parts. text.now ≡ entry key.now parts.0.now ++ parts.1.now) }
@@ -92,12 +95,12 @@ fn split_entry<'a>(text: &'a [u8], key: &[u8]) -> Option<(&'a [u8], &'a [u8])>
     split_netstring(rest)
 }
 
-// What follows the entry of this key and number.
+/// What follows the entry of this key and number.
 fn strip_number<'a>(text: &'a [u8], key: &[u8], number: u64) -> Option<&'a [u8]>
     ensures { MatchOption result ((rest : List ℕ) → text.now ≢ entry key.now (decimal_text number) ++ rest)
         (λ rest. text.now ≡ entry key.now (decimal_text number) ++ rest.now) }
 {
-    netstrings_are_read_back();
+    laws::netstrings_are_read_back();
     let (value, rest) = split_entry(text, key)?;
     let digits = Decimal::new(number);
     if value == digits.as_bytes() {
@@ -107,12 +110,12 @@ fn strip_number<'a>(text: &'a [u8], key: &[u8], number: u64) -> Option<&'a [u8]>
     }
 }
 
-// The hash in the entry of this key that a text begins with, and what follows it.
+/// The hash in the entry of this key that a text begins with, and what follows it.
 fn split_root<'a>(text: &'a [u8], key: &[u8]) -> Option<([u8; 32], &'a [u8])>
     ensures { MatchOption result ((root rest : List ℕ) → length root ≡ 32 → text.now ≢ entry key.now root ++ rest)
         (λ parts. (length parts.0 ≡ 32) × (text.now ≡ entry key.now parts.0 ++ parts.1.now)) }
 {
-    netstrings_are_read_back();
+    laws::netstrings_are_read_back();
     let (value, rest) = split_entry(text, key)?;
     let root: &[u8; 32] = value.as_array()?;
     Some((*root, rest))

@@ -1,4 +1,4 @@
-//! What a share has in front of its blocks.
+//! What a share has before its blocks.
 ghost use Rattle.std.specs.Prelude.{◌≡◌, ◌<◌, IfOk, OnOk};
 ghost use Rattle.std.specs.List.{concat};
 ghost use Rattle.share_codec.specs.Drafts.{shared_of, front_text};
@@ -48,7 +48,7 @@ impl Heading {
         })
     }
 
-    /// What the share of this number, with these siblings, has in front of its blocks.
+    /// What the share of this number, with these siblings, has before its blocks.
     #[tactic(auto, unfolding(crate::specs::Drafts::front_text, crate::specs::Texts::the_version))]
     pub(crate) fn front(
         &self,
@@ -81,7 +81,7 @@ impl Heading {
     }
 }
 
-// Hashes in a row.
+/// Hashes in a row.
 fn joined(alloc: Global, hashes: &[[u8; 32]]) -> Result<Vec<u8>, AllocError>
     ensures { IfOk result (λ bytes. bytes.items ≡ concat hashes.now) }
 {

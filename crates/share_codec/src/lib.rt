@@ -7,29 +7,38 @@
 //! from bad by a cap's numbers and the hash of the extension block alone.
 #![tactic(auto)]
 
-mod cut;
-mod draft;
-mod extension;
-mod fault;
-mod front;
-mod laws;
-mod make;
-mod netstring;
+/// The numbers of an encoded file, and how it is cut.
 mod params;
-mod parts;
+/// What a URI extension block tells beside these numbers.
+mod ueb;
+/// How the shares of a file are made.
+mod make;
+/// How a segment is padded and cut into primary blocks.
+mod cut;
+/// Shares that are being made.
+mod draft;
+/// What a share has before its blocks.
+mod front;
+/// How a string is told to be a good share.
 mod read;
+/// Good shares.
 mod share;
+/// Why a string is no good share.
+mod fault;
+/// How a share is split into its six texts.
 mod split;
+/// The six texts of a share.
+mod parts;
+/// The text of the URI extension block.
+mod extension;
+/// What bytes begin with.
+mod netstring;
+/// What holds of the definitions.
+pub mod laws;
 #[cfg(test)]
 mod tests;
-mod ueb;
 
 pub use fault::ShareFault;
-pub use laws::{
-    any_shares_determine, good_shares_are_made, made_shares_are_read_back,
-    made_shares_meet_their_fields, segments_are_joined_again, uses_of_verifying_are_of_the_texts,
-    uses_of_verifying_are_uses_of_making,
-};
 pub use make::make_shares;
 pub use params::Params;
 pub use read::read_share;

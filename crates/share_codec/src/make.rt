@@ -1,5 +1,5 @@
 //! How the shares of a file are made, in one pass over its crypttext.
-ghost use Rattle.std.specs.Prelude.{◌≡◌, ◌≤◌, ◌<◌, ◌*◌, ◌^◌, ◌++◌, ℕ, List, [], ◌∷◌, length, map, replicate, slice_index_or, IfOk, OnOk};
+ghost use Rattle.std.specs.Prelude.{◌≡◌, ◌≤◌, ◌<◌, ◌*◌, ◌^◌, ◌++◌, ℕ, List, [], ◌∷◌, length, map, replicate, slice_index_or, All, IfOk, OnOk};
 ghost use Rattle.std.specs.List.{range_with_len};
 ghost use Rattle.std.specs.Simd.{first_chunks};
 ghost use Rattle.erasure.specs.Blocks.{size_of, block_of};
@@ -11,16 +11,19 @@ ghost use Rattle.share_codec.specs.Segments.{segments, primary_blocks};
 ghost use Rattle.share_codec.specs.Shares.{share, ueb_hash, segment_hashes};
 ghost use Rattle.share_codec.specs.Drafts.{nothing_begun, blank_hash, with_block, with_blocks, all_begun, finished, front_text};
 
-use crate::cut::{cut, padded, segment_at};
+use crate::cut::{cut, padded};
 use crate::draft::Draft;
 use crate::front::Heading;
+use crate::laws;
 use crate::params::Params;
 use crate::ueb::Ueb;
-use erasure::{Code, blocks_are_the_code};
-use merkle::{Tree, chains_lead_to_the_root, hashes_have_32_bytes};
+use erasure::Code;
+use merkle::Tree;
+use merkle::laws::{chains_lead_to_the_root, hashes_have_32_bytes};
 use std::alloc::{AllocError, Global};
-use tag_hash::{tagged, texts_fix_their_parts};
+use tag_hash::tagged;
 
+/// The tag of the hash of a segment of the crypttext.
 const SEGMENT_TAG: &[u8; 28] = b"webgate_crypttext_segment_v1";
 
 /// The `n` shares of a file that isn't empty, by their numbers, and the hash of their URI extension block, which its
@@ -37,9 +40,11 @@ pub fn make_shares(
     requires some { 0 < params.now.size }
     ensures shares { IfOk result (λ made.
         map (λ share. share.items) made.0.items ≡ map (λ i. share params.now crypttext.now i) (range_with_len 0 params.now.n)) }
+    ensures some { IfOk result (λ made. All (λ share. 0 < length share.items) made.0.items) }
     ensures hash { IfOk result (λ made. made.1 ≡ ueb_hash params.now crypttext.now) }
 {
-    texts_fix_their_parts();
+    laws::params_are_a_sharing(params);
+    tag_hash::laws::texts_fix_their_parts();
     hashes_have_32_bytes();
     chains_lead_to_the_root();
     let (drafts, hashes) = code(alloc, params, crypttext)?;
@@ -53,7 +58,7 @@ pub fn make_shares(
     Ok((shares, heading.extension_hash()))
 }
 
-// The shares with their blocks but without their fronts, and the hashes of the segments.
+/// The shares with their blocks but without their fronts, and the hashes of the segments.
 fn code(
     alloc: Global,
     params: &Params,
@@ -69,7 +74,7 @@ fn code(
     Ok((drafts, hashes))
 }
 
-// Shares without blocks, each with a front of its length in which zeros stand for all hashes.
+/// Shares without blocks, each with a front of its length in which zeros stand for all hashes.
 fn begin(alloc: Global, params: &Params) -> Result<Vec<Draft>, AllocError>
     requires some { 0 < params.now.size }
     requires fits { params.now.size < 2 ^ 63 }
@@ -90,7 +95,7 @@ fn begin(alloc: Global, params: &Params) -> Result<Vec<Draft>, AllocError>
     Ok(drafts)
 }
 
-// Goes over the segments: gives their hashes, and appends their blocks to the shares.
+/// Goes over the segments: gives their hashes, and appends their blocks to the shares.
 fn code_all(
     alloc: Global,
     params: &Params,
@@ -107,21 +112,21 @@ fn code_all(
     let count = params.segment_count();
     let mut hashes = Vec::with_capacity(alloc, count)?;
     for index in 0..count {
-        let segment = segment_at(params, crypttext, index);
+        let segment = params.segment(crypttext, index);
         hashes.push(tagged(SEGMENT_TAG, segment))?;
         code_segment(alloc, params, &code, segment, drafts)?;
     }
     Ok(hashes)
 }
 
-// The code of a file's blocks.
+/// The code of a file's blocks.
 fn code_of(params: &Params) -> Code
     ensures { (result.k ≡ params.now.k) × (result.n ≡ params.now.n) }
 {
     Code::new(params.k, params.n).unwrap()
 }
 
-// Appends the blocks of a segment to the shares. A copy is made only of one that has to be padded.
+/// Appends the blocks of a segment to the shares. A copy is made only of one that has to be padded.
 fn code_segment(
     alloc: Global,
     params: &Params,
@@ -143,7 +148,7 @@ fn code_segment(
     }
 }
 
-// Appends to the shares the blocks of a padded segment, of `size` bytes each.
+/// Appends to the shares the blocks of a padded segment, of `size` bytes each.
 fn code_padded(
     alloc: Global,
     params: &Params,
@@ -161,7 +166,7 @@ fn code_padded(
     take_blocks(alloc, params, code, &primary, drafts)
 }
 
-// Appends to each share the block of its number.
+/// Appends to each share the block of its number.
 fn take_blocks(
     alloc: Global,
     params: &Params,
@@ -182,7 +187,7 @@ fn take_blocks(
     Ok(())
 }
 
-// Appends to a share the block of its number, a primary one from where it stands.
+/// Appends to a share the block of its number, a primary one from where it stands.
 fn take_block(
     alloc: Global,
     params: &Params,
@@ -197,7 +202,7 @@ fn take_block(
     requires number { number < params.now.n }
     ensures { OnOk result (draft.new ≡ with_block draft.old (block_of (contents_of primary.now) number)) }
 {
-    blocks_are_the_code();
+    erasure::laws::blocks_are_the_code();
     if number < params.k {
         return draft.take(primary[number as usize]);
     }
@@ -205,7 +210,7 @@ fn take_block(
     draft.take(&block)
 }
 
-// Block `number` of the code.
+/// Block `number` of the code.
 fn encode(alloc: Global, code: &Code, primary: &[&[u8]], number: u16) -> Result<Vec<u8>, AllocError>
     requires count { length primary.now ≡ code.now.k }
     requires blocks { AreBlocks (size_of (contents_of primary.now)) (contents_of primary.now) }
@@ -218,7 +223,7 @@ fn encode(alloc: Global, code: &Code, primary: &[&[u8]], number: u16) -> Result<
     }
 }
 
-// The roots of the trees over the blocks of each share.
+/// The roots of the trees over the blocks of each share.
 fn leaves(alloc: Global, drafts: &[Draft]) -> Result<Vec<[u8; 32]>, AllocError>
     requires { (i : ℕ) → i < length drafts.now → 0 < length (slice_index_or drafts.now i nothing_begun).hashes }
     ensures { IfOk result (λ leaves. leaves.items ≡ map (λ draft. root draft.hashes) drafts.now) }
@@ -230,7 +235,7 @@ fn leaves(alloc: Global, drafts: &[Draft]) -> Result<Vec<[u8; 32]>, AllocError>
     Ok(leaves)
 }
 
-// Writes the fronts.
+/// Writes the fronts.
 fn finish(
     alloc: Global,
     drafts: Vec<Draft>,
@@ -255,7 +260,7 @@ fn finish(
     Ok(shares)
 }
 
-// So many hashes of zeros.
+/// So many hashes of zeros.
 #[tactic(auto, unfolding(crate::specs::Drafts::blank_hash))]
 fn blanks(alloc: Global, count: usize) -> Result<Vec<[u8; 32]>, AllocError>
     ensures { IfOk result (λ hashes. hashes.items ≡ replicate count blank_hash) }

@@ -2,7 +2,7 @@
 ghost use Rattle.std.specs.Prelude.{◌≡◌, ◌≢◌, ◌++◌, ℕ, List, MatchOption};
 ghost use Rattle.tag_hash.specs.Netstring.{netstring};
 
-use tag_hash::{netstrings_are_read_back, read_netstring};
+use tag_hash::{laws, read_netstring};
 
 /// What follows a prefix; `None` where the bytes don't begin with it.
 pub(crate) fn strip<'a>(bytes: &'a [u8], prefix: &[u8]) -> Option<&'a [u8]>
@@ -16,7 +16,7 @@ pub(crate) fn split_netstring(bytes: &[u8]) -> Option<(&[u8], &[u8])>
     ensures { MatchOption result ((value rest : List ℕ) → bytes.now ≢ netstring value ++ rest)
         (λ parts. bytes.now ≡ netstring parts.0.now ++ parts.1.now) }
 {
-    netstrings_are_read_back();
+    laws::netstrings_are_read_back();
     match read_netstring(bytes, 0) {
         Ok((span, next)) => Some((&bytes[span.start..span.start + span.len], &bytes[next..])),
         Err(_) => None,

@@ -3,12 +3,14 @@ ghost use Rattle.std.specs.Prelude.{◌≡◌, ◌<◌, [], length, map, slice_i
 ghost use Rattle.share_codec.specs.Segments.{blocks_size, cut_blocks};
 ghost use Rattle.share_codec.specs.Tags.{block_hash};
 
+use crate::laws;
 use crate::params::Params;
 use crate::ueb::Ueb;
 use std::alloc::{AllocError, Global};
 use std::marker::Model;
 use tag_hash::tagged;
 
+/// The tag of the hash of a block.
 pub(crate) const BLOCK_TAG: &[u8; 16] = b"webgate_block_v1";
 
 /// A good share: its number, what its extension block says, and a block of each segment, which stay where they are.
@@ -71,6 +73,7 @@ impl<'a> Share<'a> {
         requires all { length blocks.now ≡ blocks_size params.now }
         ensures { result ≡ record { number = number; ueb = ueb; blocks = cut_blocks params.now blocks.now } }
     {
+        laws::params_are_a_sharing(params);
         Share {
             number,
             ueb,

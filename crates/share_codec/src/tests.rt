@@ -1,81 +1,70 @@
+//! What the clauses do not show: shares that were made by another program, and how far memory is asked for.
 ghost use Rattle.std.specs.Prelude.{◌≡◌, ◌<◌, ◌≤◌, length, IfOk};
+ghost use Rattle.octets.specs.Sharing.{IsSharing};
 
 use super::*;
+use crate::extension::extension_text;
+use crate::read::EXTENSION_TAG;
+use hex::{FromHex, FromHexError};
+use sha2::{Digest, Sha256};
 use std::alloc::{AllocError, Global};
 use std::test::Fail;
-use tag_hash::TagHasher;
+use tag_hash::{TagHasher, push_netstring, read_netstring, tagged};
 
 /// Share 4 of 56 letters `a` under the empty secret, any 3 of 10 shares giving them back.
-const SHARE_OF_TEN: [u8; 394] = [
-    0x31, 0x3a, 0x31, 0x2c, 0x31, 0x3a, 0x34, 0x2c, 0x31, 0x38, 0x39, 0x3a, 0x63, 0x72, 0x79, 0x70,
-    0x74, 0x74, 0x65, 0x78, 0x74, 0x5f, 0x72, 0x6f, 0x6f, 0x74, 0x5f, 0x68, 0x61, 0x73, 0x68, 0x3a,
-    0x33, 0x32, 0x3a, 0x6e, 0x0b, 0x9c, 0xe1, 0xd0, 0xab, 0x57, 0x4c, 0x4a, 0xd9, 0x08, 0x35, 0x41,
-    0x2f, 0xf3, 0x8f, 0x16, 0xf5, 0x94, 0x85, 0xda, 0x1a, 0xbf, 0xe9, 0x1c, 0x2d, 0x35, 0x92, 0x18,
-    0x3e, 0xf9, 0xb6, 0x2c, 0x6e, 0x65, 0x65, 0x64, 0x65, 0x64, 0x5f, 0x73, 0x68, 0x61, 0x72, 0x65,
-    0x73, 0x3a, 0x31, 0x3a, 0x33, 0x2c, 0x6e, 0x75, 0x6d, 0x5f, 0x73, 0x65, 0x67, 0x6d, 0x65, 0x6e,
-    0x74, 0x73, 0x3a, 0x31, 0x3a, 0x31, 0x2c, 0x73, 0x65, 0x67, 0x6d, 0x65, 0x6e, 0x74, 0x5f, 0x73,
-    0x69, 0x7a, 0x65, 0x3a, 0x32, 0x3a, 0x35, 0x37, 0x2c, 0x73, 0x68, 0x61, 0x72, 0x65, 0x5f, 0x72,
-    0x6f, 0x6f, 0x74, 0x5f, 0x68, 0x61, 0x73, 0x68, 0x3a, 0x33, 0x32, 0x3a, 0xdc, 0x59, 0xf8, 0xd9,
-    0xd8, 0x29, 0x72, 0xfe, 0x84, 0x22, 0xd5, 0x63, 0xd8, 0xb9, 0x6c, 0xe4, 0xb7, 0xc1, 0x25, 0x38,
-    0x1e, 0x3c, 0xcb, 0xa9, 0xa9, 0x8c, 0x2f, 0xb2, 0xda, 0xb1, 0x0b, 0xad, 0x2c, 0x73, 0x69, 0x7a,
-    0x65, 0x3a, 0x32, 0x3a, 0x35, 0x36, 0x2c, 0x74, 0x6f, 0x74, 0x61, 0x6c, 0x5f, 0x73, 0x68, 0x61,
-    0x72, 0x65, 0x73, 0x3a, 0x32, 0x3a, 0x31, 0x30, 0x2c, 0x2c, 0x33, 0x32, 0x3a, 0x6e, 0x0b, 0x9c,
-    0xe1, 0xd0, 0xab, 0x57, 0x4c, 0x4a, 0xd9, 0x08, 0x35, 0x41, 0x2f, 0xf3, 0x8f, 0x16, 0xf5, 0x94,
-    0x85, 0xda, 0x1a, 0xbf, 0xe9, 0x1c, 0x2d, 0x35, 0x92, 0x18, 0x3e, 0xf9, 0xb6, 0x2c, 0x31, 0x32,
-    0x38, 0x3a, 0xd5, 0xe6, 0x60, 0x38, 0x50, 0xbf, 0x6c, 0xcf, 0xd1, 0x8c, 0x04, 0xaa, 0xe4, 0xcb,
-    0xd8, 0x8a, 0xc5, 0xaa, 0x7f, 0xc3, 0x4d, 0xe7, 0xcf, 0x03, 0xb9, 0xf8, 0x67, 0xbc, 0x08, 0x41,
-    0x6c, 0x1a, 0xed, 0xcf, 0x3a, 0x3e, 0x94, 0x6c, 0x24, 0x73, 0xab, 0xe3, 0xf9, 0xbb, 0x77, 0x1e,
-    0x1f, 0xca, 0x45, 0xe9, 0xf9, 0xf0, 0x8e, 0xe7, 0x86, 0x43, 0x5f, 0x16, 0x39, 0x59, 0x41, 0x3b,
-    0xdc, 0xbc, 0x2f, 0xb9, 0x31, 0xf4, 0x93, 0x8a, 0x1d, 0x40, 0xeb, 0x38, 0x65, 0x0d, 0x47, 0x46,
-    0x13, 0x0d, 0xe3, 0xfa, 0xa5, 0x73, 0x75, 0xd4, 0x6b, 0x0f, 0x2b, 0x5f, 0x5a, 0xfe, 0x79, 0x9d,
-    0x3b, 0x1c, 0x6c, 0x60, 0x9d, 0xf3, 0xb1, 0xac, 0x78, 0x3c, 0x22, 0x8c, 0xbe, 0xf5, 0x3a, 0xa3,
-    0x02, 0xf0, 0x08, 0x51, 0x89, 0x3b, 0x95, 0xfa, 0x93, 0x2c, 0x78, 0x60, 0x54, 0x57, 0x16, 0x35,
-    0x00, 0x70, 0x2c, 0x31, 0x39, 0x3a, 0x5e, 0xb1, 0x12, 0xf1, 0x83, 0x8f, 0xba, 0x81, 0x25, 0x0f,
-    0xb5, 0x01, 0xe9, 0x6b, 0xa9, 0x61, 0x53, 0x71, 0xc9, 0x2c,
+const SHARE_OF_TEN: &str =
+    "313a312c313a342c3138393a6372797074746578745f726f6f745f686173683a33323a6e0b9ce1d0ab574c4a\
+    d90835412ff38f16f59485da1abfe91c2d3592183ef9b62c6e65656465645f7368617265733a313a332c6e75\
+    6d5f7365676d656e74733a313a312c7365676d656e745f73697a653a323a35372c73686172655f726f6f745f\
+    686173683a33323adc59f8d9d82972fe8422d563d8b96ce4b7c125381e3ccba9a98c2fb2dab10bad2c73697a\
+    653a323a35362c746f74616c5f7368617265733a323a31302c2c33323a6e0b9ce1d0ab574c4ad90835412ff3\
+    8f16f59485da1abfe91c2d3592183ef9b62c3132383ad5e6603850bf6ccfd18c04aae4cbd88ac5aa7fc34de7\
+    cf03b9f867bc08416c1aedcf3a3e946c2473abe3f9bb771e1fca45e9f9f08ee786435f163959413bdcbc2fb9\
+    31f4938a1d40eb38650d4746130de3faa57375d46b0f2b5f5afe799d3b1c6c609df3b1ac783c228cbef53aa3\
+    02f00851893b95fa932c78605457163500702c31393a5eb112f1838fba81250fb501e96ba9615371c92c";
+
+/// The SHA-256 hashes of all ten.
+const HASHES_OF_TEN: [&str; 10] = [
+    "99c4b185fb7aaffaa6de3df84779ddf2ef2d774d089dd0a1e41d4e4919c85577",
+    "2d805269e9e16597e53d0fc83f17ca2eefc80d8f5dc55c8aef53c0fde0085055",
+    "c6ea3b0dfc1a2ee2823a3363fbf1b8ac75593cc66a1f2d4f0903e1ac938a1cfd",
+    "85c99dc10f91a2b3a2a8e4f75e3192d66377b978873c1c37aa72270900b464e5",
+    "8cd47c0b02cfa69e99df73f5666acea71a3f0ec3af51788730efb8b3b7e78b90",
+    "63edfde6a14f337516cdc11e3a8ba9d46d4726c32ba46819a6116249b10f6ae5",
+    "75945adf13084f624d3d2fda483b83a940f25331d02f578f8fccf7f3f46dc4b8",
+    "10ff6345ad76f574a12e4b4e1364206de51d2bf60a6f8a2d9b750a1afc29173b",
+    "6adeb3b4c247e300d3c49ee03e152b3f8ff4dcddfe5beb954f9b1465e44902a8",
+    "c2fec88d16409796402d51d61b0efec12fdba247567a30629e03c4bc3ffd1357",
 ];
 
-/// The hash of its extension block.
-const UEB_HASH_OF_TEN: [u8; 32] = [
-    0x8b, 0xbd, 0xd2, 0x37, 0x6d, 0xe6, 0x6f, 0x65, 0xec, 0xc5, 0x43, 0x5a, 0x45, 0x28, 0x90, 0x00,
-    0xdd, 0xb4, 0xdd, 0xe3, 0x27, 0xe6, 0x50, 0x27, 0x72, 0x8f, 0xc0, 0xb9, 0x77, 0xe7, 0xe4, 0x1c,
-];
+/// The hash of their extension block.
+const UEB_HASH_OF_TEN: &str = "8bbdd2376de66f65ecc5435a45289000ddb4dde327e65027728fc0b977e7e41c";
 
 /// The crypttext of these letters.
-const CRYPTTEXT_OF_TEN: [u8; 56] = [
-    0x77, 0x67, 0x53, 0x58, 0x3a, 0xe3, 0xf9, 0xbf, 0xee, 0x6d, 0x92, 0xd0, 0x58, 0x19, 0x7b, 0x61,
-    0x40, 0xaf, 0x13, 0x38, 0x89, 0xf1, 0xed, 0xc0, 0xae, 0x55, 0x42, 0xa5, 0x90, 0x2d, 0x97, 0x88,
-    0x90, 0x4c, 0xaa, 0x50, 0x8f, 0x3e, 0xab, 0x66, 0x08, 0x90, 0x8c, 0x9c, 0xe7, 0x9c, 0xd6, 0x20,
-    0xa3, 0xc0, 0xcf, 0xf7, 0x56, 0xdf, 0x91, 0xa3,
-];
+const CRYPTTEXT_OF_TEN: &str =
+    "776753583ae3f9bfee6d92d058197b6140af133889f1edc0ae5542a5902d9788904caa508f3eab6608908c9c\
+    e79cd620a3c0cff756df91a3";
 
-/// Share 0 of the same bytes with one share in all.
-const SHARE_OF_ONE: [u8; 300] = [
-    0x31, 0x3a, 0x31, 0x2c, 0x31, 0x3a, 0x30, 0x2c, 0x31, 0x38, 0x38, 0x3a, 0x63, 0x72, 0x79, 0x70,
-    0x74, 0x74, 0x65, 0x78, 0x74, 0x5f, 0x72, 0x6f, 0x6f, 0x74, 0x5f, 0x68, 0x61, 0x73, 0x68, 0x3a,
-    0x33, 0x32, 0x3a, 0x6a, 0xd8, 0x0f, 0xcc, 0xf2, 0x8a, 0x86, 0x4a, 0x09, 0xc7, 0x30, 0x6d, 0xcc,
-    0x7f, 0xac, 0x7a, 0x4d, 0xb0, 0x09, 0x6a, 0xb5, 0x36, 0x79, 0x08, 0x9b, 0x5e, 0xbe, 0x23, 0x4f,
-    0x93, 0x0a, 0xac, 0x2c, 0x6e, 0x65, 0x65, 0x64, 0x65, 0x64, 0x5f, 0x73, 0x68, 0x61, 0x72, 0x65,
-    0x73, 0x3a, 0x31, 0x3a, 0x31, 0x2c, 0x6e, 0x75, 0x6d, 0x5f, 0x73, 0x65, 0x67, 0x6d, 0x65, 0x6e,
-    0x74, 0x73, 0x3a, 0x31, 0x3a, 0x31, 0x2c, 0x73, 0x65, 0x67, 0x6d, 0x65, 0x6e, 0x74, 0x5f, 0x73,
-    0x69, 0x7a, 0x65, 0x3a, 0x32, 0x3a, 0x35, 0x36, 0x2c, 0x73, 0x68, 0x61, 0x72, 0x65, 0x5f, 0x72,
-    0x6f, 0x6f, 0x74, 0x5f, 0x68, 0x61, 0x73, 0x68, 0x3a, 0x33, 0x32, 0x3a, 0xa2, 0x04, 0x6a, 0xe7,
-    0x37, 0x79, 0xa8, 0x11, 0x32, 0xd6, 0x2b, 0x26, 0xb9, 0x8f, 0x05, 0xa6, 0x5f, 0xe9, 0x08, 0xf0,
-    0xbd, 0x2c, 0x69, 0x98, 0xca, 0x2e, 0xb1, 0x48, 0xae, 0x4e, 0x7c, 0x60, 0x2c, 0x73, 0x69, 0x7a,
-    0x65, 0x3a, 0x32, 0x3a, 0x35, 0x36, 0x2c, 0x74, 0x6f, 0x74, 0x61, 0x6c, 0x5f, 0x73, 0x68, 0x61,
-    0x72, 0x65, 0x73, 0x3a, 0x31, 0x3a, 0x31, 0x2c, 0x2c, 0x33, 0x32, 0x3a, 0x6a, 0xd8, 0x0f, 0xcc,
-    0xf2, 0x8a, 0x86, 0x4a, 0x09, 0xc7, 0x30, 0x6d, 0xcc, 0x7f, 0xac, 0x7a, 0x4d, 0xb0, 0x09, 0x6a,
-    0xb5, 0x36, 0x79, 0x08, 0x9b, 0x5e, 0xbe, 0x23, 0x4f, 0x93, 0x0a, 0xac, 0x2c, 0x30, 0x3a, 0x2c,
-    0x35, 0x36, 0x3a, 0xfd, 0x52, 0xce, 0xc5, 0x87, 0x21, 0x4f, 0x01, 0x37, 0x87, 0x89, 0x42, 0x58,
-    0x45, 0x5e, 0x6d, 0xc2, 0xc4, 0x15, 0x57, 0xaf, 0x1a, 0xe9, 0x83, 0xcc, 0x83, 0x36, 0xf7, 0x73,
-    0xba, 0x92, 0x2f, 0x0e, 0x68, 0x3e, 0xd0, 0x92, 0xa2, 0xf5, 0xb2, 0x94, 0x11, 0x2c, 0x81, 0x08,
-    0xc3, 0x5b, 0x4f, 0x23, 0x52, 0x02, 0xb7, 0xb3, 0x65, 0x7e, 0x6d, 0x2c,
-];
+/// Share 0 of the same letters with one share in all.
+const SHARE_OF_ONE: &str =
+    "313a312c313a302c3138383a6372797074746578745f726f6f745f686173683a33323a6ad80fccf28a864a09\
+    c7306dcc7fac7a4db0096ab53679089b5ebe234f930aac2c6e65656465645f7368617265733a313a312c6e75\
+    6d5f7365676d656e74733a313a312c7365676d656e745f73697a653a323a35362c73686172655f726f6f745f\
+    686173683a33323aa2046ae73779a81132d62b26b98f05a65fe908f0bd2c6998ca2eb148ae4e7c602c73697a\
+    653a323a35362c746f74616c5f7368617265733a313a312c2c33323a6ad80fccf28a864a09c7306dcc7fac7a\
+    4db0096ab53679089b5ebe234f930aac2c303a2c35363afd52cec587214f013787894258455e6dc2c41557af\
+    1ae983cc8336f773ba922f0e683ed092a2f5b294112c8108c35b4f235202b7b3657e6d2c";
 
 /// The hash of its extension block.
-const UEB_HASH_OF_ONE: [u8; 32] = [
-    0x72, 0x24, 0xe3, 0xec, 0xaf, 0xbd, 0xb7, 0x9e, 0xde, 0xe8, 0xc5, 0x67, 0xf6, 0x5d, 0x46, 0xf5,
-    0x8b, 0x14, 0xd8, 0x16, 0x8c, 0xec, 0xc7, 0xd0, 0x25, 0x27, 0xb6, 0x2d, 0x34, 0x34, 0x6e, 0x93,
-];
+const UEB_HASH_OF_ONE: &str = "7224e3ecafbdb79edee8c567f65d46f58b14d8168cecc7d02527b62d34346e93";
+
+fn share_of_ten() -> Result<[u8; 394], FromHexError> {
+    FromHex::from_hex(SHARE_OF_TEN)
+}
+
+fn hash_of(text: &str) -> Result<[u8; 32], FromHexError> {
+    FromHex::from_hex(text)
+}
 
 fn ten() -> Params
     ensures { result.size ≡ 56 }
@@ -90,142 +79,128 @@ fn fault_of(
     params: &Params,
     ueb: &[u8; 32],
 ) -> Option<ShareFault> {
-    match read_share(alloc, bytes, number, params, ueb) {
-        Ok(_) => None,
-        Err(fault) => Some(fault),
-    }
-}
-
-/// The share with the lowest bit of one byte changed.
-fn altered(place: usize) -> [u8; 394]
-    requires { place < 394 }
-{
-    let mut share = SHARE_OF_TEN;
-    share[place] ^= 1;
-    share
+    read_share(alloc, bytes, number, params, ueb).err()
 }
 
 #[test]
-fn a_share_of_ten_is_read(rt: HostRuntime) -> Result<(), Fail> {
-    let share = read_share(rt.alloc(), &SHARE_OF_TEN, 4, &ten(), &UEB_HASH_OF_TEN)?;
+fn a_share_of_another_program_is_read(rt: HostRuntime) -> Result<(), Fail> {
+    let bytes = share_of_ten()?;
+    let share = read_share(rt.alloc(), &bytes, 4, &ten(), &hash_of(UEB_HASH_OF_TEN)?)?;
     assert_eq!(rt; share.number(), 4);
     assert_eq!(rt; share.block_count(), 1);
-    assert_eq!(rt; share.block(0), &SHARE_OF_TEN[374..393]);
-    assert_eq!(rt;
-        share.ueb().crypttext_root.as_slice(),
-        &SHARE_OF_TEN[35..67]
-    );
+    assert_eq!(rt; share.block(0), &bytes[374..393]);
+    assert_eq!(rt; share.ueb().crypttext_root.as_slice(), &bytes[35..67]);
     Ok(())
 }
 
 #[test]
 fn one_share_in_all_has_no_siblings(rt: HostRuntime) -> Result<(), Fail> {
-    let share = read_share(
-        rt.alloc(),
-        &SHARE_OF_ONE,
-        0,
-        &Params::new(1, 1, 56),
-        &UEB_HASH_OF_ONE,
-    )?;
+    let bytes: [u8; 300] = FromHex::from_hex(SHARE_OF_ONE)?;
+    let params = Params::new(1, 1, 56);
+    let share = read_share(rt.alloc(), &bytes, 0, &params, &hash_of(UEB_HASH_OF_ONE)?)?;
     assert_eq!(rt; share.block_count(), 1);
     assert_eq!(rt; share.block(0).len(), 56);
     Ok(())
 }
 
 #[test]
-fn each_fault_has_its_cause(rt: HostRuntime) {
-    let alloc = rt.alloc();
-    let ueb = &UEB_HASH_OF_TEN;
+fn each_fault_has_its_cause(rt: HostRuntime) -> Result<(), Fail> {
+    let good = share_of_ten()?;
+    let ueb = hash_of(UEB_HASH_OF_TEN)?;
+    for (place, fault) in [
+        (1, ShareFault::Torn),
+        (2, ShareFault::Version),
+        (35, ShareFault::UebHash),
+        (205, ShareFault::CrypttextTree),
+        (242, ShareFault::ShareTree),
+        (392, ShareFault::ShareTree),
+    ] {
+        let mut bytes = good;
+        if place < bytes.len() {
+            bytes[place] ^= 1;
+        }
+        assert_eq!(rt;
+            fault_of(rt.alloc(), &bytes, 4, &ten(), &ueb),
+            Some(fault),
+            "at {place}"
+        );
+    }
+    for (number, params, fault) in [
+        (5, ten(), ShareFault::Number),
+        (4, Params::new(3, 4, 56), ShareFault::Number),
+        (4, Params::new(3, 10, 57), ShareFault::Parameters),
+        (4, Params::new(3, 10, 0), ShareFault::Parameters),
+        (4, Params::new(2, 10, 56), ShareFault::Parameters),
+    ] {
+        assert_eq!(rt;
+            fault_of(rt.alloc(), &good, number, &params, &ueb),
+            Some(fault)
+        );
+    }
+    let other = hash_of(UEB_HASH_OF_ONE)?;
     assert_eq!(rt;
-        fault_of(alloc, &SHARE_OF_TEN[..393], 4, &ten(), ueb),
-        Some(ShareFault::Torn)
-    );
-    assert_eq!(rt;
-        fault_of(alloc, &altered(1), 4, &ten(), ueb),
-        Some(ShareFault::Torn)
-    );
-    assert_eq!(rt;
-        fault_of(alloc, &altered(2), 4, &ten(), ueb),
-        Some(ShareFault::Version)
-    );
-    assert_eq!(rt;
-        fault_of(alloc, &SHARE_OF_TEN, 5, &ten(), ueb),
-        Some(ShareFault::Number)
-    );
-    assert_eq!(rt;
-        fault_of(alloc, &SHARE_OF_TEN, 4, &Params::new(3, 4, 56), ueb),
-        Some(ShareFault::Number)
-    );
-    assert_eq!(rt;
-        fault_of(alloc, &SHARE_OF_TEN, 4, &ten(), &UEB_HASH_OF_ONE),
+        fault_of(rt.alloc(), &good, 4, &ten(), &other),
         Some(ShareFault::UebHash)
     );
-    assert_eq!(rt;
-        fault_of(alloc, &altered(35), 4, &ten(), ueb),
-        Some(ShareFault::UebHash)
-    );
-    assert_eq!(rt;
-        fault_of(alloc, &SHARE_OF_TEN, 4, &Params::new(3, 10, 57), ueb),
-        Some(ShareFault::Parameters)
-    );
-    assert_eq!(rt;
-        fault_of(alloc, &SHARE_OF_TEN, 4, &Params::new(3, 10, 0), ueb),
-        Some(ShareFault::Parameters)
-    );
-    assert_eq!(rt;
-        fault_of(alloc, &SHARE_OF_TEN, 4, &Params::new(2, 10, 56), ueb),
-        Some(ShareFault::Parameters)
-    );
-    assert_eq!(rt;
-        fault_of(alloc, &altered(205), 4, &ten(), ueb),
-        Some(ShareFault::CrypttextTree)
-    );
-    assert_eq!(rt;
-        fault_of(alloc, &altered(242), 4, &ten(), ueb),
-        Some(ShareFault::ShareTree)
-    );
-    assert_eq!(rt;
-        fault_of(alloc, &altered(392), 4, &ten(), ueb),
-        Some(ShareFault::ShareTree)
-    );
+    Ok(())
 }
 
 #[test]
-fn what_is_no_netstring_is_torn(rt: HostRuntime) {
+fn what_is_not_six_netstrings_is_torn(rt: HostRuntime) -> Result<(), Fail> {
+    let ueb = hash_of(UEB_HASH_OF_TEN)?;
+    for text in [
+        "",
+        "1:1,1:4,0:,1:x,0:,0:,",
+        "01:1,1:4,0:,0:,0:,0:,",
+        "1:1,1:4,0:,0:,0:,0:,x",
+    ] {
+        assert_eq!(rt;
+            fault_of(rt.alloc(), text.as_bytes(), 4, &ten(), &ueb),
+            Some(ShareFault::Torn),
+            "{text}"
+        );
+    }
+    Ok(())
+}
+
+/// A string of a few bytes that says it is the only share of a file of `params.size` bytes, and the hash of its
+/// extension block.
+fn claimed(alloc: Global, params: &Params) -> Result<(Vec<u8>, [u8; 32]), AllocError>
+    requires { 0 < params.now.size }
+{
+    let roots = Ueb {
+        crypttext_root: [0; 32],
+        share_root: [0; 32],
+    };
+    let extension = extension_text(alloc, params, &roots)?;
+    let mut bytes = Vec::new(alloc);
+    push_netstring(&mut bytes, b"1")?;
+    push_netstring(&mut bytes, b"0")?;
+    push_netstring(&mut bytes, &extension)?;
+    push_netstring(&mut bytes, &[0; 32])?;
+    push_netstring(&mut bytes, b"")?;
+    push_netstring(&mut bytes, b"few")?;
+    Ok((bytes, tagged(EXTENSION_TAG, &extension)))
+}
+
+#[test]
+fn no_memory_is_asked_for_by_a_caps_numbers(rt: HostRuntime) -> Result<(), Fail> {
+    let params = Params::new(1, 1, u64::MAX);
+    let (bytes, ueb) = claimed(rt.alloc(), &params)?;
+    for (bytes, fault) in [
+        (b"1:1,".as_slice(), ShareFault::Torn),
+        (b"1:1,1:0,0:,0:,0:,0:,".as_slice(), ShareFault::UebHash),
+        (bytes.as_slice(), ShareFault::CrypttextTree),
+    ] {
+        assert_eq!(rt; fault_of(rt.alloc(), bytes, 0, &params, &ueb), Some(fault));
+    }
+    let params = Params::new(1, 1, 131_072);
+    let (bytes, ueb) = claimed(rt.alloc(), &params)?;
     assert_eq!(rt;
-        fault_of(rt.alloc(), b"", 4, &ten(), &UEB_HASH_OF_TEN),
-        Some(ShareFault::Torn)
+        fault_of(rt.alloc(), &bytes, 0, &params, &ueb),
+        Some(ShareFault::ShareTree)
     );
-    assert_eq!(rt;
-        fault_of(
-            rt.alloc(),
-            b"1:1,1:4,0:,1:x,0:,0:,",
-            4,
-            &ten(),
-            &UEB_HASH_OF_TEN
-        ),
-        Some(ShareFault::Torn)
-    );
-    assert_eq!(rt;
-        fault_of(
-            rt.alloc(),
-            b"01:1,1:4,0:,0:,0:,0:,",
-            4,
-            &ten(),
-            &UEB_HASH_OF_TEN
-        ),
-        Some(ShareFault::Torn)
-    );
-    assert_eq!(rt;
-        fault_of(
-            rt.alloc(),
-            b"1:1,1:4,0:,0:,0:,0:,x",
-            4,
-            &ten(),
-            &UEB_HASH_OF_TEN
-        ),
-        Some(ShareFault::Torn)
-    );
+    Ok(())
 }
 
 #[test]
@@ -235,6 +210,10 @@ fn segments_are_cut_by_the_lesser_of_131072_and_the_size(rt: HostRuntime) {
     assert_eq!(rt; big.segment_count(), 2);
     assert_eq!(rt; big.block_size(), 43_691);
     assert_eq!(rt; big.blocks_size(), 66_667);
+    if big.segment_count() == 2 {
+        assert_eq!(rt; big.segment_length(0), 131_073);
+        assert_eq!(rt; big.segment_length(1), 68_927);
+    }
     assert_eq!(rt; ten().segment_size(), 57);
     assert_eq!(rt; ten().block_size(), 19);
 }
@@ -268,23 +247,38 @@ fn hash_of_good(
 }
 
 #[test]
-fn ten_shares_of_a_small_file(rt: HostRuntime) -> Result<(), Fail> {
-    let (shares, hash) = make_shares(rt.alloc(), &ten(), &CRYPTTEXT_OF_TEN)?;
-    assert_eq!(rt; hash, UEB_HASH_OF_TEN);
+fn ten_shares_are_those_of_another_program(rt: HostRuntime) -> Result<(), Fail> {
+    let crypttext: [u8; 56] = FromHex::from_hex(CRYPTTEXT_OF_TEN)?;
+    let (shares, hash) = make_shares(rt.alloc(), &ten(), &crypttext)?;
+    assert_eq!(rt; hash, hash_of(UEB_HASH_OF_TEN)?);
     assert_eq!(rt; shares.len(), 10);
-    assert_eq!(rt; shares[4].as_slice(), SHARE_OF_TEN.as_slice());
+    for (share, expected) in shares.iter().zip(&HASHES_OF_TEN) {
+        assert_eq!(rt; Sha256::digest(share.as_slice()), hash_of(expected)?);
+    }
     hash_of_good(rt.alloc(), &shares, &ten(), &hash)?;
     Ok(())
 }
 
 #[test]
 fn one_share_in_all_has_the_whole_crypttext(rt: HostRuntime) -> Result<(), Fail> {
-    let crypttext = &SHARE_OF_ONE[243..299];
-    let (shares, hash) = make_shares(rt.alloc(), &Params::new(1, 1, 56), crypttext)?;
-    assert_eq!(rt; hash, UEB_HASH_OF_ONE);
+    let expected: [u8; 300] = FromHex::from_hex(SHARE_OF_ONE)?;
+    let (shares, hash) = make_shares(rt.alloc(), &Params::new(1, 1, 56), &expected[243..299])?;
+    assert_eq!(rt; hash, hash_of(UEB_HASH_OF_ONE)?);
     assert_eq!(rt; shares.len(), 1);
-    assert_eq!(rt; shares[0].as_slice(), SHARE_OF_ONE.as_slice());
+    assert_eq!(rt; shares[0].as_slice(), expected.as_slice());
     Ok(())
+}
+
+/// The lengths of the netstrings that a share is, from the first to the last byte.
+fn part_lengths(alloc: Global, share: &[u8]) -> Result<Vec<usize>, Fail> {
+    let mut lengths = Vec::new(alloc);
+    let mut at = 0;
+    for _ in 0..6 {
+        let (span, next) = read_netstring(share, at)?;
+        lengths.push(next.saturating_sub(at))?;
+        at = next.max(span.start);
+    }
+    Ok(lengths)
 }
 
 #[test]
@@ -294,22 +288,18 @@ fn shares_of_two_segments(rt: HostRuntime) -> Result<(), Fail> {
     let (shares, hash) = make_shares(rt.alloc(), &params, &crypttext)?;
     assert_eq!(rt;
         hash,
-        [
-            0x6d, 0x1a, 0x85, 0x25, 0x02, 0xa3, 0x2e, 0xc3, 0x4f, 0x12, 0xdf, 0xec, 0xd5, 0x41,
-            0xa7, 0xf2, 0x79, 0x8e, 0xdd, 0x08, 0x3b, 0x48, 0x48, 0x1a, 0x45, 0x66, 0x63, 0xd9,
-            0x8f, 0xb1, 0xd1, 0x85,
-        ]
+        hash_of("6d1a852502a32ec34f12dfecd541a7f2798edd083b48481a456663d98fb1d185")?
     );
     assert_eq!(rt; shares.len(), 10);
     assert_eq!(rt; shares[4].len(), 67_085);
     assert_eq!(rt; shares[4].capacity(), 67_085);
     assert_eq!(rt;
+        part_lengths(rt.alloc(), &shares[4])?.as_slice(),
+        [4, 4, 202, 68, 133, 66_674].as_slice()
+    );
+    assert_eq!(rt;
         hash_of_good(rt.alloc(), &shares, &params, &hash)?,
-        [
-            0xac, 0x11, 0x3e, 0x23, 0x4c, 0x45, 0x19, 0x15, 0xb0, 0x64, 0x20, 0x8f, 0x29, 0x61,
-            0x25, 0x33, 0xf8, 0xe6, 0x73, 0x08, 0xa7, 0x71, 0x9a, 0x22, 0x38, 0x21, 0xa9, 0x6c,
-            0x07, 0xbc, 0x22, 0x75,
-        ]
+        hash_of("ac113e234c451915b064208f29612533f8e67308a7719a223821a96c07bc2275")?
     );
     Ok(())
 }
@@ -321,20 +311,12 @@ fn a_last_segment_of_one_byte_is_padded(rt: HostRuntime) -> Result<(), Fail> {
     let (shares, hash) = make_shares(rt.alloc(), &params, &crypttext)?;
     assert_eq!(rt;
         hash,
-        [
-            0x08, 0xe5, 0x0e, 0x35, 0x7b, 0x81, 0x43, 0x3a, 0x74, 0x97, 0x47, 0xa0, 0x60, 0xe5,
-            0x63, 0xf3, 0xfe, 0xcc, 0x7d, 0x8a, 0x55, 0x65, 0x57, 0xae, 0xf2, 0x3d, 0x67, 0x2b,
-            0xec, 0xba, 0xcb, 0x69,
-        ]
+        hash_of("08e50e357b81433a749747a060e563f3fecc7d8a556557aef23d672becbacb69")?
     );
     assert_eq!(rt; shares.len(), 4);
     assert_eq!(rt;
         hash_of_good(rt.alloc(), &shares, &params, &hash)?,
-        [
-            0x29, 0xae, 0x7c, 0x89, 0xa9, 0x20, 0x38, 0xb0, 0x66, 0x77, 0xa3, 0xe2, 0xe9, 0xfa,
-            0x39, 0x99, 0xf5, 0x35, 0xa2, 0xd4, 0x58, 0x97, 0x11, 0xdb, 0xca, 0xc2, 0x4b, 0x2f,
-            0x50, 0x08, 0x88, 0xbd,
-        ]
+        hash_of("29ae7c89a92038b06677a3e2e9fa3999f535a2d4589711dbcac24b2f500888bd")?
     );
     Ok(())
 }
@@ -346,20 +328,12 @@ fn all_256_shares_are_needed(rt: HostRuntime) -> Result<(), Fail> {
     let (shares, hash) = make_shares(rt.alloc(), &params, &crypttext)?;
     assert_eq!(rt;
         hash,
-        [
-            0xa6, 0x3e, 0xe0, 0x34, 0x8d, 0x02, 0xab, 0xc7, 0xeb, 0x38, 0x99, 0x14, 0x04, 0x17,
-            0x36, 0x95, 0x68, 0xe5, 0x90, 0x30, 0x62, 0x5d, 0xb3, 0xa0, 0x37, 0xa2, 0x61, 0x9e,
-            0xb0, 0xf7, 0x05, 0xa4,
-        ]
+        hash_of("a63ee0348d02abc7eb3899140417369568e59030625db3a037a2619eb0f705a4")?
     );
     assert_eq!(rt; shares.len(), 256);
     assert_eq!(rt;
         hash_of_good(rt.alloc(), &shares, &params, &hash)?,
-        [
-            0xe8, 0xe9, 0x1a, 0xea, 0x2f, 0xf9, 0x0a, 0xa3, 0x2c, 0xce, 0x18, 0xae, 0x1a, 0x8a,
-            0xea, 0xc0, 0x4a, 0xfc, 0x1d, 0x2f, 0xd9, 0xd8, 0x73, 0xa7, 0x84, 0x39, 0xde, 0x89,
-            0xd8, 0x2d, 0x79, 0x04,
-        ]
+        hash_of("e8e91aea2ff90aa32cce18ae1a8aeac04afc1d2fd9d873a78439de89d82d7904")?
     );
     Ok(())
 }

@@ -4,5 +4,7 @@ pub mod MapLaws
 pub mod Numbers
 pub mod Put
 pub mod Shares
+pub mod SizeLaws
 pub mod Stored
 pub mod Toggle
+pub mod Toggles

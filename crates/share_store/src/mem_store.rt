@@ -1,5 +1,5 @@
 //! A store in memory: a vector of shares in rising order of storage index and number.
-ghost use Rattle.std.specs.Prelude.{◌≡◌, ◌<◌, ◌≤◌, ◌+◌, ◌^◌, All, IsTrue, IfOk, IfErr, slice_get, length, Some};
+ghost use Rattle.std.specs.Prelude.{◌≡◌, ◌<◌, ◌≤◌, ◌+◌, ◌^◌, All, IsTrue, true, IfOk, IfErr, slice_get, length, Some};
 ghost use Rattle.std.specs.FinMap as map;
 ghost use Rattle.std.specs.Rc.{rc_slice_items};
 ghost use Rattle.share_store.specs.Shares.{key_cmp, bytes_in};
@@ -9,7 +9,7 @@ ghost use Rattle.share_store.specs.Stored.{entries_of};
 ghost use Rattle.share_store.specs.Gap.{IsGap};
 ghost use Rattle.std.proofs.Common.{sym, ◌∙◌};
 
-use crate::{Share, Store, StoreError};
+use crate::{Share, Store, StoreFault};
 use std::alloc::{AllocError, Global};
 use std::rc::RcSlice;
 
@@ -28,7 +28,7 @@ pub struct MemStore {
 impl MemStore {
     /// An empty store that takes `room` bytes of shares. It takes memory from `alloc` as shares come.
     pub fn new(alloc: Global, room: u64) -> Self
-        ensures honest { ⟦<MemStore as Store>⟧.honest result }
+        ensures honest { IsTrue (⟦<MemStore as Store>⟧.honest result) }
         ensures shares { ⟦<MemStore as Store>⟧.shares result ≡ map.empty }
         ensures room { ⟦<MemStore as Store>⟧.room result ≡ room }
         ensures held { ⟦<MemStore as Store>⟧.held result ≡ 0 }
@@ -65,7 +65,7 @@ fn with_bit_changed(alloc: Global, bytes: &[u8], place: usize) -> Result<RcSlice
 }
 
 impl Store for MemStore {
-    ghost honest = { λ store. Unit {0} };
+    ghost honest = { λ store. true };
 
     ghost shares = { λ store. map.from_sorted (entries_of store.shares.items) };
 
@@ -114,13 +114,13 @@ impl Store for MemStore {
         index: [u8; 16],
         number: u16,
         bytes: RcSlice<u8>,
-    ) -> Result<bool, StoreError> {
+    ) -> Result<bool, StoreFault> {
         match place_of(&self.shares, &index, number) {
             Ok(_) => Ok(false),
             Err(at) => {
                 let len = bytes.len() as u64;
                 if len > self.room {
-                    return Err(StoreError::Full);
+                    return Err(StoreFault::Full);
                 }
                 let share = Share {
                     index,
@@ -135,7 +135,7 @@ impl Store for MemStore {
         }
     }
 
-    fn lose(&mut self, index: [u8; 16], number: u16) -> Result<bool, StoreError> {
+    fn lose(&mut self, index: [u8; 16], number: u16) -> Result<bool, StoreFault> {
         match place_of(&self.shares, &index, number) {
             Ok(at) => {
                 let len = self.shares[at].bytes.len() as u64;
@@ -148,7 +148,7 @@ impl Store for MemStore {
         }
     }
 
-    fn toggle(&mut self, index: [u8; 16], number: u16, place: u64) -> Result<bool, StoreError> {
+    fn toggle(&mut self, index: [u8; 16], number: u16, place: u64) -> Result<bool, StoreFault> {
         match place_of(&self.shares, &index, number) {
             Ok(at) => {
                 let share = &self.shares[at];

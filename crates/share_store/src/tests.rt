@@ -3,12 +3,7 @@ ghost use Rattle.std.specs.Prelude.{◌≡◌, IfOk};
 ghost use Rattle.std.specs.Prelude.{length as length_of};
 ghost use Rattle.std.specs.Rc.{rc_slice_items};
 
-mod fail_at;
-mod liar;
-
-use crate::{MemStore, Store, StoreError};
-use fail_at::FailAt;
-use liar::Liar;
+use crate::{FailAt, Liar, MemStore, Store, StoreFault};
 use std::alloc::Global;
 use std::rc::RcSlice;
 use std::test::Fail;
@@ -28,7 +23,7 @@ fn one_share_fills_the_room_and_gives_it_back(rt: HostRuntime) -> Result<(), Fai
     assert_eq!(rt; store.room(), 0);
     assert_eq!(rt; store.held(), 394);
     let other = share_of(rt.alloc(), 394)?;
-    assert!(rt; store.put(INDEX, 5, other) == Err(StoreError::Full));
+    assert!(rt; store.put(INDEX, 5, other) == Err(StoreFault::Full));
     assert!(rt; store.has(INDEX, 4)?);
     assert!(rt; !store.has(INDEX, 5)?);
     assert_eq!(rt; store.numbers(INDEX)?.as_slice(), [4].as_slice());
@@ -85,7 +80,7 @@ fn a_store_that_fails_says_so_and_keeps_what_stands(rt: HostRuntime) -> Result<(
     let inner = MemStore::new(rt.alloc(), 100);
     let mut store = FailAt::new(rt.alloc(), inner, 2, false);
     assert!(rt; store.put(INDEX, 0, share_of(rt.alloc(), 1)?)?);
-    assert!(rt; store.lose(INDEX, 0) == Err(StoreError::Down));
+    assert!(rt; store.lose(INDEX, 0) == Err(StoreFault::Down));
     assert_eq!(rt; store.failures(), 1);
     assert!(rt; store.has(INDEX, 0)?);
     Ok(())

@@ -14,13 +14,13 @@ use Rattle.tag_hash.proofs.Comparisons.{true_or_false, equal, unequal, equal_is,
 abbrev pub in_64_bits : ℕ → Result ℕ NetFault
 in_64_bits n = if nat_lt n (2 ^ 64) then Ok n else Err TooLong
 
-abbrev by_tests : Bool → Bool → Bool → Result ℕ NetFault → Result ℕ NetFault
+abbrev pub by_tests : Bool → Bool → Bool → Result ℕ NetFault → Result ℕ NetFault
 by_tests empty bare led value = cond empty (Err Short) (cond bare (Err NotDigits) (cond led (Err LeadingZero) value))
 
-abbrev led : List ℕ → Bool
+abbrev pub led : List ℕ → Bool
 led text = get_or text 0 0 == 48 && nat_lt 1 (digit_count text)
 
-announced_by : (text : List ℕ) (a b c : Bool) → (length text == 0) ≡ a → (digit_count text == 0) ≡ b → led text ≡ c → announced text ≡ by_tests a b c (in_64_bits (first_value text))
+pub announced_by : (text : List ℕ) (a b c : Bool) → (length text == 0) ≡ a → (digit_count text == 0) ≡ b → led text ≡ c → announced text ≡ by_tests a b c (in_64_bits (first_value text))
 unfolding announced
 announced_by text a b c first second third i = by_tests (first i) (second i) (third i) (in_64_bits (first_value text))
 
@@ -88,6 +88,13 @@ digit_count-colon (d ∷ ds) t all =
   where
     one_more : (n : ℕ) → 1 + n ≡ suc n
     one_more n = omega arith
+
+-- there are no more of them than bytes
+pub digits_within : (text : List ℕ) → digit_count text ≤ length text
+digits_within [] = omega arith
+digits_within (c ∷ text) = true_or_false (is_ascii_digit c) _
+    (λ passes. let e : digit_count (c ∷ text) ≡ 1 + digit_count text = ap (λ b. cond b (1 + digit_count text) 0) passes in let h = digits_within text in omega arith)
+    (λ fails. let e : digit_count (c ∷ text) ≡ 0 = ap (λ b. cond b (1 + digit_count text) 0) fails in omega arith)
 
 -- and they are digits
 pub first_digits : (text : List ℕ) → AllDigits 10 (take (digit_count text) text)

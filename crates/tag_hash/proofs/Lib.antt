@@ -1,7 +1,12 @@
 pub mod Announced
 pub mod Bytes
-pub mod DecimalLemmas
-pub mod HashLemmas
-pub mod NetstringLemmas
-pub mod Reading
 pub mod Comparisons
+pub mod DecimalLemmas
+pub mod Digests
+pub mod Firsts
+pub mod HashLemmas
+pub mod LaneLemmas
+pub mod NetstringLemmas
+pub mod PaddedMessage
+pub mod Reading
+pub mod Rotations

@@ -13,7 +13,7 @@ use Rattle.tag_hash.specs.declared.netstrings.Span.{Span}
 use Rattle.tag_hash.proofs.Comparisons.{equal, equal_is, below, below_is, both}
 use Rattle.tag_hash.proofs.DecimalLemmas.{decimal_text_digits, digits_value-decimal_text, first-decimal_text, decimal_text_digit, decimal_text-digits_value}
 use Rattle.tag_hash.proofs.NetstringLemmas.{netstring-append, length-netstring}
-use Rattle.tag_hash.proofs.Announced.{IsAnnounced, announced_value, announced_parts, in_64_bits, in_64_bits-below, digit_count-colon, first_digits}
+use Rattle.tag_hash.proofs.Announced.{IsAnnounced, announced_value, announced_parts, in_64_bits, in_64_bits-below, digit_count-colon, digits_within, first_digits}
 
 -- ---- the announcement of a decimal text
 
@@ -64,7 +64,7 @@ closed_ok bytes start size colon room comma =
     let second : (get_or bytes (start + size) 0 == 44) ≡ true = equal _ _ comma in
     rw (first, second)
 
-netstring_at_by : (bytes : List ℕ) (at count : ℕ) (said : Result ℕ NetFault) → digit_count (drop at bytes) ≡ count → announced (drop at bytes) ≡ said → netstring_at bytes at ≡ closed bytes (at + count + 1) said
+pub netstring_at_by : (bytes : List ℕ) (at count : ℕ) (said : Result ℕ NetFault) → digit_count (drop at bytes) ≡ count → announced (drop at bytes) ≡ said → netstring_at bytes at ≡ closed bytes (at + count + 1) said
 unfolding netstring_at
 netstring_at_by bytes at count said counted says i = closed bytes (at + counted i + 1) (says i)
 
@@ -121,11 +121,11 @@ record IsClosed (bytes : List ℕ) (start size : ℕ) (span : Span) (place : ℕ
   has : span.len ≡ size
   ends : place ≡ start + size + 1
 
-first_of_both : (a b : Bool) → (a && b) ≡ true → a ≡ true
+pub first_of_both : (a b : Bool) → (a && b) ≡ true → a ≡ true
 first_of_both true b e = refl
 first_of_both false b e = e
 
-second_of_both : (a b : Bool) → (a && b) ≡ true → b ≡ true
+pub second_of_both : (a b : Bool) → (a && b) ≡ true → b ≡ true
 second_of_both true b e = e
 second_of_both false b e = cc
 
@@ -156,15 +156,16 @@ closed_parts bytes start size span place e =
     closed_by bytes start size span place (get_or bytes (start - 1) 0 == 58 && nat_lt (start + size) (length bytes)) (get_or bytes (start + size) 0 == 44) refl refl e
 
 -- the text from a place on, cut where a number ends
-cut_at : (xs : List ℕ) (n : ℕ) → n < length xs → xs ≡ take n xs ++ get_or xs n 0 ∷ drop (n + 1) xs
+pub cut_at : (xs : List ℕ) (n : ℕ) → n < length xs → xs ≡ take n xs ++ get_or xs n 0 ∷ drop (n + 1) xs
 cut_at xs n inside =
     let next : suc n ≡ n + 1 = omega arith in
     sym (take-append-drop n xs) ∙ ap (λ t. take n xs ++ t) (drop-cons xs n 0 inside ∙ ap (λ m. get_or xs n 0 ∷ drop m xs) next)
 
-digits_of_size : (text : List ℕ) (size : ℕ) → IsAnnounced text size → digit_count text < length text → decimal_text size ≡ take (digit_count text) text
-digits_of_size text size said inside =
+pub digits_of_size : (text : List ℕ) (size : ℕ) → IsAnnounced text size → decimal_text size ≡ take (digit_count text) text
+digits_of_size text size said =
     let k = digit_count text in
     let ds = take k text in
+    let within : k ≤ length text = digits_within text in
     let long : length ds ≡ k = omega (arith, length-take k text) in
     let small : digits_value 10 ds < 2 ^ 64 = subst (λ n. n < 2 ^ 64) (sym said.value) said.small in
     let lone : get_or ds 0 0 ≡ 48 → length ds ≡ 1 = λ led. let few = said.alone (sym (get_or-take k text 0 0 said.digits) ∙ led) in let many = said.digits in omega arith in
@@ -189,7 +190,7 @@ only_netstring bytes at start size is said colon room comma =
     let further : start + (size + 1) ≡ start + size + 1 = omega arith in
     let rest_here : drop (size + 1) body ≡ drop (start + size + 1) bytes = drop-drop (size + 1) start bytes ∙ ap (λ n. drop n bytes) further in
     let taken : length (take size body) ≡ size = omega (arith, length-take size body) in
-    let digits : take k text ≡ decimal_text (length (take size body)) = sym (digits_of_size text size said inside) ∙ ap decimal_text (sym taken) in
+    let digits : take k text ≡ decimal_text (length (take size body)) = sym (digits_of_size text size said) ∙ ap decimal_text (sym taken) in
     cut_at text k inside
     ∙ (λ i. digits i ++ colon_here i ∷ body_here i)
     ∙ ap (λ t. decimal_text (length (take size body)) ++ 58 ∷ t) (cut_at body size fits ∙ (λ i. take size body ++ comma_here i ∷ rest_here i))

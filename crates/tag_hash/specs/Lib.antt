@@ -1,8 +1,10 @@
 pub mod Collisions
 pub mod Decimal
+pub mod Faults
 pub mod Netstring
 pub mod NetstringAt
 pub mod Pair
 pub mod Tagged
 pub mod TagHasher
 pub mod Use
+pub mod Lanes

@@ -29,7 +29,7 @@ announced text =
     else (if slice_index text 0 == 48 && nat_lt 1 (digit_count text) then Err LeadingZero
     else (if nat_lt (first_value text) (2 ^ 64) then Ok (first_value text) else Err TooLong)))
 
--- the span of so many bytes behind a colon, if a comma closes them; `start` is the place behind the colon
+-- the span of so many bytes after a colon, if a comma closes them; `start` is the place after the colon
 abbrev pub closed : List ℕ → ℕ → Result ℕ NetFault → Result (Span × ℕ) NetFault
 closed bytes start (Err fault) = Err fault
 closed bytes start (Ok size) =

@@ -4,6 +4,7 @@ ghost use Rattle.tag_hash.specs.Decimal.{decimal_text};
 
 use std::marker::Model;
 
+/// The digits of the greatest number of 64 bits.
 const MOST_DIGITS: usize = 20;
 
 /// The decimal text of a number: its digits in ASCII, without leading zeros.

@@ -28,14 +28,16 @@ impl TagHasher {
 
     /// Appends a piece to the value.
     pub fn update(&mut self, piece: &[u8])
-        ensures { (tag value : List ℕ) → HasTaken self.old tag value → HasTaken self.new tag (value ++ piece.now) }
+        ensures { (tag value : List ℕ) → HasTaken self.old tag value →
+            HasTaken self.new tag (value ++ piece.now) }
     {
         self.inner.update(piece);
     }
 
     /// Appends the netstring of a piece to the value.
     pub fn update_netstring(&mut self, piece: &[u8])
-        ensures { (tag value : List ℕ) → HasTaken self.old tag value → HasTaken self.new tag (value ++ netstring piece.now) }
+        ensures { (tag value : List ℕ) → HasTaken self.old tag value →
+            HasTaken self.new tag (value ++ netstring piece.now) }
     {
         update_netstring(&mut self.inner, piece);
     }
@@ -57,7 +59,7 @@ impl TagHasher {
 }
 
 /// The tagged hash of `value`, 32 bytes: SHA-256 of SHA-256 of the netstring of `tag` and of `value`
-/// behind it. It hashes `value` once, where it lies, and takes no memory.
+/// after it. It hashes `value` once, where it lies, and takes no memory.
 pub fn tagged(tag: &[u8], value: &[u8]) -> [u8; 32]
     ensures { result ≡ tagged tag.now value.now }
 {
@@ -84,7 +86,7 @@ pub fn pair(tag: &[u8], first: &[u8], second: &[u8]) -> [u8; 32]
     hasher.finish()
 }
 
-// Feeds the netstring of these bytes.
+/// Feeds the netstring of these bytes.
 fn update_netstring(hasher: &mut Sha256, bytes: &[u8])
     ensures { (message : List ℕ) → Holds256 hasher.old message → Holds256 hasher.new (message ++ netstring bytes.now) }
 {
@@ -95,6 +97,7 @@ fn update_netstring(hasher: &mut Sha256, bytes: &[u8])
     hasher.update(b",");
 }
 
+/// The first 16 bytes of a digest.
 fn first_half(digest: [u8; 32]) -> [u8; 16]
     ensures { result ≡ take 16 digest }
 {

@@ -13,7 +13,9 @@ use thiserror::Error;
 /// A part of a list of bytes: the place of its first byte, and how many bytes it has.
 #[derive(Clone, Copy, Debug, PartialEq, Eq)]
 pub struct Span {
+    /// The place of its first byte.
     pub start: usize,
+    /// How many bytes it has.
     pub len: usize,
 }
 
@@ -26,10 +28,10 @@ pub enum NetFault {
     /// A 0 stands before another digit.
     #[error("a netstring's length has no leading zero")]
     LeadingZero,
-    /// The bytes end before the netstring does, or no colon stands behind the digits.
+    /// The bytes end before the netstring does, or no colon stands after the digits.
     #[error("a netstring is cut short")]
     Short,
-    /// Another byte than a comma stands behind the announced bytes.
+    /// Another byte than a comma stands after the announced bytes.
     #[error("a netstring ends with a comma")]
     NoComma,
     /// The length is no number of 64 bits.
@@ -71,21 +73,22 @@ pub fn push_netstring(text: &mut Vec<u8>, bytes: &[u8]) -> Result<(), AllocError
 /// 64 bits is taken, and nothing is read past the end.
 pub fn read_netstring(bytes: &[u8], at: usize) -> Result<(Span, usize), NetFault>
     ensures exact { result ≡ netstring_at bytes.now at }
-    ensures inside { IfOk result (λ read. (read.0.start + read.0.len + 1 ≡ read.1) × (read.1 ≤ length bytes.now)) }
+    ensures inside { IfOk result (λ read. (read.0.start + read.0.len + 1 ≡ read.1)
+        × (read.1 ≤ length bytes.now)) }
 {
     let text = rest_from(bytes, at);
     let size = announced(text)?;
     closed(bytes, at + digit_count(text) + 1, size)
 }
 
-// What stands from the place `at` on, nothing past the end.
+/// What stands from the place `at` on, nothing past the end.
 fn rest_from(bytes: &[u8], at: usize) -> &[u8]
     ensures { result.now ≡ drop at bytes.now }
 {
     if at < bytes.len() { &bytes[at..] } else { &[] }
 }
 
-// The span of `size` bytes from `start` on, if a colon stands before it and a comma behind it.
+/// The span of `size` bytes from `start` on, if a colon stands before it and a comma after it.
 fn closed(bytes: &[u8], start: usize, size: usize) -> Result<(Span, usize), NetFault>
     requires { 0 < start }
     ensures { result ≡ closed bytes.now start (Ok size) }
@@ -100,7 +103,7 @@ fn closed(bytes: &[u8], start: usize, size: usize) -> Result<(Span, usize), NetF
     Ok((Span { start, len: size }, end + 1))
 }
 
-// The number of bytes that a text announces.
+/// The number of bytes that a text announces.
 fn announced(text: &[u8]) -> Result<usize, NetFault>
     ensures { result ≡ announced text.now }
 {
@@ -117,7 +120,7 @@ fn announced(text: &[u8]) -> Result<usize, NetFault>
     value_of(&text[..digits]).ok_or(NetFault::TooLong)
 }
 
-// How many digits a text begins with.
+/// How many digits a text begins with.
 fn digit_count(text: &[u8]) -> usize
     ensures count { result ≡ digit_count text.now }
     ensures within { result ≤ length text.now }
@@ -125,7 +128,7 @@ fn digit_count(text: &[u8]) -> usize
     text.iter().take_while(|byte| byte.is_ascii_digit()).count()
 }
 
-// The number that digits write, if it is one of 64 bits.
+/// The number that digits write, if it is one of 64 bits.
 fn value_of(digits: &[u8]) -> Option<usize>
     requires { list_all is_ascii_digit digits.now ≡ true }
     ensures { result ≡ (if nat_lt (digits_value 10 digits.now) (2 ^ 64) then Some (digits_value 10 digits.now) else None) }

@@ -7,5 +7,5 @@ use Rattle.base32_text.proofs.encoder.encode.Goals as goal
 pub returns : goal.returns
 returns c =
     let e : string_bytes c.push_encoded.new.text ≡ spelling c.args.bytes.now =
-    c.in_ok-push_encoded.ensures ∙ ap (λ s. s ++ spelling c.args.bytes.now) c.new-text.ensures.bytes in
+    c.in_ok-push_encoded.ensures.ok ∙ ap (λ s. s ++ spelling c.args.bytes.now) c.new-text.ensures.bytes in
     rw e (spells_spelling c.args.bytes.now (all_fit _ c.type_inv.bytes))

@@ -7,6 +7,6 @@ use Rattle.caps.proofs.printer.literal_text.Goals as goal
 pub returns : goal.returns
 returns c =
     let e : string_bytes c.push_encoded.new.text ≡ c.args.beginning.now ++ spelling c.args.bytes.now =
-    c.in_ok-push_encoded.ensures
+    c.in_ok-push_encoded.ensures.ok
     ∙ ap (λ s. s ++ spelling c.args.bytes.now) (c.in_ok-push_str.ensures.bytes ∙ ap (λ s. s ++ c.args.beginning.now) c.in_ok-text.ensures.bytes) in
     (spelling c.args.bytes.now, e, spells_spelling c.args.bytes.now (all_fit c.args.bytes.now c.type_inv.bytes))

@@ -12,9 +12,9 @@ returns c =
     let ueb : List ℕ = spelling c.args.ueb.now in
     let rest : List ℕ = join_with_byte 58 (name ∷ ueb ∷ decimal c.args.k ∷ decimal c.args.n ∷ decimal c.args.size ∷ []) in
     let e1 : string_bytes c.push_str.new.self ≡ start = c.in_ok-push_str.ensures.bytes ∙ ap (λ s. s ++ start) c.in_ok-text.ensures.bytes in
-    let e2 : string_bytes c.push_encoded.new.text ≡ start ++ name = c.in_ok-push_encoded.ensures ∙ ap (λ s. s ++ name) e1 in
+    let e2 : string_bytes c.push_encoded.new.text ≡ start ++ name = c.in_ok-push_encoded.ensures.ok ∙ ap (λ s. s ++ name) e1 in
     let e3 : string_bytes c.push_str-2.new.self ≡ (start ++ name) ++ 58 ∷ [] = c.in_ok-push_str-2.ensures.bytes ∙ ap (λ s. s ++ 58 ∷ []) e2 in
-    let e4 : string_bytes c.push_encoded-2.new.text ≡ ((start ++ name) ++ 58 ∷ []) ++ ueb = c.in_ok-push_encoded-2.ensures ∙ ap (λ s. s ++ ueb) e3 in
+    let e4 : string_bytes c.push_encoded-2.new.text ≡ ((start ++ name) ++ 58 ∷ []) ++ ueb = c.in_ok-push_encoded-2.ensures.ok ∙ ap (λ s. s ++ ueb) e3 in
     let e5 : string_bytes c.push_number.new.text ≡ (((start ++ name) ++ 58 ∷ []) ++ ueb) ++ 58 ∷ decimal c.args.k =
     c.in_ok-push_number.ensures ∙ ap (λ d. string_bytes c.push_encoded-2.new.text ++ 58 ∷ decimal d) c.from.ensures
     ∙ ap (λ s. s ++ 58 ∷ decimal c.args.k) e4 in

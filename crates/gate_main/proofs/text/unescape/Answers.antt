@@ -14,4 +14,4 @@ loop-plain-preserved c =
     ∙ read_step c.loop-plain.bytes.items c.loop-plain.rest.now c.in-Some.plain.now c.in-Some.behind.now after c.in-Some-read_escape.byte _ c.in-Some.ensures c.in-Some-read_escape.ensures.read c.loop-plain.invariant
 
 pub returns : goal.returns
-returns c = ap Some (c.new.ensures ∙ c.in_ok-extend_from_slice-2.ensures.items) ∙ read_end c.loop-plain.bytes.items c.loop-plain.rest.now _ c.in_default.ensures c.loop-plain.invariant
+returns c = ap Some (c.from_vec.ensures ∙ c.in_ok-extend_from_slice-2.ensures.items) ∙ read_end c.loop-plain.bytes.items c.loop-plain.rest.now _ c.in_default.ensures c.loop-plain.invariant

@@ -4,7 +4,7 @@ use Rattle.std.proofs.lemmas.Option.{slice_get_read}
 use Rattle.std.specs.List.{flat_map}
 use Rattle.grid.specs.Image.{image_head, row_bytes, refused_field}
 use Rattle.grid.specs.RowsKept.{row_of}
-use Rattle.grid.specs.declared.error.GridError.TheVariants.{BadImage}
+use Rattle.grid.specs.declared.fault.GridFault.TheVariants.{BadImage}
 use Rattle.grid.specs.Written.{WritesBeginning}
 use Rattle.grid.proofs.ImageWrites.{stopped_before, stopped_in, written_more, get_mapped, drop_here, on_err, one_more, passed_cause, place_in_fields}
 use Rattle.grid.proofs.image_writer.write_rows.Goals as goal

@@ -1,4 +1,4 @@
-use Rattle.http_edge.proofs.FrameLemmas.{frame-nil, rest-nil, closed_where, items_settled, left_settled, left_short}
+use Rattle.http_edge.proofs.FrameLemmas.{frame-nil, rest-nil, closed_where, items_settled, left_settled, left_short, body_left_short}
 use Rattle.http_edge.proofs.laws.left_over.Goals as goal
 
 pub returns : goal.returns
@@ -8,5 +8,6 @@ returns c = record {
   ended = closed_where;
   items_settled = items_settled;
   left_settled = left_settled;
-  short = left_short;
+  short_head = left_short;
+  short_body = body_left_short;
 }

@@ -1,4 +1,4 @@
-use Rattle.http_edge.proofs.ReadLaws.{requests_read}
+use Rattle.http_edge.proofs.FrameLemmas.{requests_read}
 use Rattle.http_edge.proofs.laws.requests_are_read.Goals as goal
 
 pub returns : goal.returns

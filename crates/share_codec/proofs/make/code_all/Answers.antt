@@ -20,10 +20,10 @@ loop-index-preserved c =
     let many : length all ≡ segment_count c.args.params.now = length-segments c.args.params.now c.args.crypttext.now in
     let below : c.loop-index.index < length all = omega arith in
     record {
-      hashed = hashed_more all c.loop-index.index c.segment_at-segment.result.now c.tagged.result c.loop-index.hashes.items _ c.loop-index.invariant.hashed
-          c.in_ok-push.ensures.items c.tagged.ensures c.segment_at-segment.ensures below;
-      coded = coded_more c.args.params.now all c.loop-index.index c.segment_at-segment.result.now c.loop-index.drafts _ c.loop-index.invariant.coded
-          c.segment_at-segment.ensures below c.in_ok-code_segment.ensures;
+      hashed = hashed_more all c.loop-index.index c.segment-segment.result.now c.tagged.result c.loop-index.hashes.items _ c.loop-index.invariant.hashed
+          c.in_ok-push.ensures.items c.tagged.ensures c.segment-segment.ensures below;
+      coded = coded_more c.args.params.now all c.loop-index.index c.segment-segment.result.now c.loop-index.drafts _ c.loop-index.invariant.coded
+          c.segment-segment.ensures below c.in_ok-code_segment.ensures;
     }
 
 pub returns-clause-hashes : goal.returns-clause-hashes

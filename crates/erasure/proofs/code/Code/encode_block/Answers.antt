@@ -47,7 +47,7 @@ made c =
     let k : c.self.inside.k ≡ c.args.self.now.k = ap (λ s. s.k) c.self.view_is in
     let last : c.self.inside.k ≡ length blocks = omega (arith, k, c.requires.count, length-contents_of c.args.primary.now) in
     let whole : block_through (take c.self.inside.k c.self.inside.places) blocks c.place.result ≡ block_of blocks c.args.i =
-    ap (λ (ps : List ℕ). block_through ps blocks c.place.result) (c.self.invariant.3 ∙ ap first_places last)
+    ap (λ (ps : List ℕ). block_through ps blocks c.place.result) (c.self.invariant.1 ∙ ap first_places last)
     ∙ ap (block_through (first_places (length blocks)) blocks) c.place.ensures in
     if_ok c.block_at.result (λ b. b.items ≡ block_through (take c.self.inside.k c.self.inside.places) blocks c.place.result)
     (λ b. b.items ≡ block_of blocks c.args.i) (λ b e. e ∙ whole) c.block_at.ensures.block

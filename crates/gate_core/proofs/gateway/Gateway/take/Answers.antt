@@ -1,45 +1,46 @@
 use Rattle.std.proofs.Common.{None, refl, ap, sym, ◌∙◌, take}
-use Rattle.std.proofs.lemmas.Result.{on_err_weaker, IfOk-weaker}
-use Rattle.gate_core.specs.Events.{Take}
+use Rattle.std.specs.FinMap as map
+use Rattle.std.proofs.lemmas.Result.{on_ok_weaker, on_err_weaker, IfOk-weaker}
 use Rattle.gate_core.specs.Held.{waiting_in}
+use Rattle.gate_core.specs.Lefts.{taken}
 use Rattle.gate_core.proofs.Maps.{get_found, Changed-lent, Changed-others, Changed-same}
-use Rattle.gate_core.proofs.Arrivals.{Changed-came, same_state, take_refused, take_refused_none, headline}
+use Rattle.gate_core.proofs.Arrivals.{same_state, left_by, take_refused, take_refused_none, taken_came, if_taken}
 use Rattle.gate_core.proofs.gateway.Gateway.take.Goals as goal
 
 pub returns-clause-answer : goal.returns-clause-answer
-returns-clause-answer c =
-    let changed = Changed-lent c.args.self.now.connections _ _ c.args.id c.in-Some.taker.now c.take.new.self (ap (λ g. g.connections) c.self.view_is) c.in-Some.ensures.value (λ some. ((c.get_mut.follows.holds c.take.new.self).3 some).0) in
-    take_refused _ _ _ _ _ changed.found c.take.ensures.answer
+returns-clause-answer g c =
+    let changed = Changed-lent c.args.self.now.connections _ _ c.args.id c.in-Some.taker.now c.take.new.self (ap (λ s. s.connections) c.self.view_is) c.in-Some.ensures.value (λ some. ((c.get_mut.follows.holds c.take.new.self).3 some).0) in
+    take_refused c.args.self.now c.args.id _ _ _ changed.found c.take.ensures.answer
 
 pub returns-clause-given : goal.returns-clause-given
-returns-clause-given c =
-    let changed = Changed-lent c.args.self.now.connections _ _ c.args.id c.in-Some.taker.now c.take.new.self (ap (λ g. g.connections) c.self.view_is) c.in-Some.ensures.value (λ some. ((c.get_mut.follows.holds c.take.new.self).3 some).0) in
+returns-clause-given g c =
+    let changed = Changed-lent c.args.self.now.connections _ _ c.args.id c.in-Some.taker.now c.take.new.self (ap (λ s. s.connections) c.self.view_is) c.in-Some.ensures.value (λ some. ((c.get_mut.follows.holds c.take.new.self).3 some).0) in
     IfOk-weaker c.take.result _ _ (λ given is. is ∙ ap (λ o. take c.args.max (waiting_in o)) (sym changed.found)) c.take.ensures.given
 
+pub returns-clause-left : goal.returns-clause-left
+returns-clause-left g c held found =
+    let changed = Changed-lent c.args.self.now.connections _ _ c.args.id c.in-Some.taker.now c.take.new.self (ap (λ s. s.connections) c.self.view_is) c.in-Some.ensures.value (λ some. ((c.get_mut.follows.holds c.take.new.self).3 some).0) in
+    on_ok_weaker c.take.result (left_by c.args.self.now _ c.args.id _ _ (ap (λ s. s.settings) c.self.view_is) changed (taken c.args.max) held (ap (λ s. s.grid) c.self.view_is) found) c.take.ensures.left
+
 pub returns-clause-err : goal.returns-clause-err
-returns-clause-err c =
-    let changed = Changed-lent c.args.self.now.connections _ _ c.args.id c.in-Some.taker.now c.take.new.self (ap (λ g. g.connections) c.self.view_is) c.in-Some.ensures.value (λ some. ((c.get_mut.follows.holds c.take.new.self).3 some).0) in
-    on_err_weaker c.take.result (λ same. same_state c.args.self.now _ (Changed-same _ _ _ _ _ changed same)) c.take.ensures.err
+returns-clause-err g c =
+    let changed = Changed-lent c.args.self.now.connections _ _ c.args.id c.in-Some.taker.now c.take.new.self (ap (λ s. s.connections) c.self.view_is) c.in-Some.ensures.value (λ some. ((c.get_mut.follows.holds c.take.new.self).3 some).0) in
+    on_err_weaker c.take.result (λ same. same_state c.args.self.now _ (ap (λ s. s.settings) c.self.view_is) (Changed-same _ _ _ _ _ changed same) (ap (λ s. s.grid) c.self.view_is)) c.take.ensures.err
 
 pub returns-clause-nothing_there : goal.returns-clause-nothing_there
-returns-clause-nothing_there c none =
-    let changed = Changed-lent c.args.self.now.connections _ _ c.args.id c.in-Some.taker.now c.take.new.self (ap (λ g. g.connections) c.self.view_is) c.in-Some.ensures.value (λ some. ((c.get_mut.follows.holds c.take.new.self).3 some).0) in
+returns-clause-nothing_there g c none =
+    let changed = Changed-lent c.args.self.now.connections _ _ c.args.id c.in-Some.taker.now c.take.new.self (ap (λ s. s.connections) c.self.view_is) c.in-Some.ensures.value (λ some. ((c.get_mut.follows.holds c.take.new.self).3 some).0) in
     c.take.ensures.nothing_there (sym (ap waiting_in changed.found) ∙ none)
 
 pub returns-clause-others : goal.returns-clause-others
-returns-clause-others c =
-    let changed = Changed-lent c.args.self.now.connections _ _ c.args.id c.in-Some.taker.now c.take.new.self (ap (λ g. g.connections) c.self.view_is) c.in-Some.ensures.value (λ some. ((c.get_mut.follows.holds c.take.new.self).3 some).0) in
+returns-clause-others g c =
+    let changed = Changed-lent c.args.self.now.connections _ _ c.args.id c.in-Some.taker.now c.take.new.self (ap (λ s. s.connections) c.self.view_is) c.in-Some.ensures.value (λ some. ((c.get_mut.follows.holds c.take.new.self).3 some).0) in
     Changed-others _ _ _ _ _ changed
 
 pub returns-clause-came : goal.returns-clause-came
-returns-clause-came c =
-    let changed = Changed-lent c.args.self.now.connections _ _ c.args.id c.in-Some.taker.now c.take.new.self (ap (λ g. g.connections) c.self.view_is) c.in-Some.ensures.value (λ some. ((c.get_mut.follows.holds c.take.new.self).3 some).0) in
-    IfOk-weaker c.take.result _ _ (λ given step. Changed-came c.args.self.now _ _ _ _ (λ id. Take id given.items) (λ _. refl) changed step) c.take.ensures.at
-
-pub returns-clause-headline : goal.returns-clause-headline
-returns-clause-headline c =
-    let changed = Changed-lent c.args.self.now.connections _ _ c.args.id c.in-Some.taker.now c.take.new.self (ap (λ g. g.connections) c.self.view_is) c.in-Some.ensures.value (λ some. ((c.get_mut.follows.holds c.take.new.self).3 some).0) in
-    IfOk-weaker c.take.result _ _ (λ given step events came. headline _ _ (Changed-came c.args.self.now _ _ _ _ (λ id. Take id given.items) (λ _. refl) changed step events came)) c.take.ensures.at
+returns-clause-came g c =
+    let changed = Changed-lent c.args.self.now.connections _ _ c.args.id c.in-Some.taker.now c.take.new.self (ap (λ s. s.connections) c.self.view_is) c.in-Some.ensures.value (λ some. ((c.get_mut.follows.holds c.take.new.self).3 some).0) in
+    if_taken c.take.result _ _ _ (λ given step is. taken_came c.args.self.now _ c.args.id _ _ (ap (λ s. s.settings) c.self.view_is) changed c.came_goes_on.ensures.taken c.args.max given.items (ap (λ s. s.grid) c.self.view_is) step is) c.take.ensures.left c.take.ensures.given
 
 pub returns-in_default-clause-answer : goal.returns-in_default-clause-answer
-returns-in_default-clause-answer c = take_refused_none _ c.args.id _ _ (get_found c.args.self.now.connections _ c.args.id None (ap (λ g. g.connections) c.self.view_is) c.in_default.ensures.value) refl
+returns-in_default-clause-answer g c = take_refused_none c.args.self.now c.args.id _ _ (get_found c.args.self.now.connections _ c.args.id None (ap (λ s. s.connections) c.self.view_is) c.in_default.ensures.value) refl

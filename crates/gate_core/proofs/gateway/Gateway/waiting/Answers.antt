@@ -4,7 +4,7 @@ use Rattle.gate_core.proofs.Arrivals.{waiting_some, waiting_none}
 use Rattle.gate_core.proofs.gateway.Gateway.waiting.Goals as goal
 
 pub returns-in-Some : goal.returns-in-Some
-returns-in-Some c = let found = get_found c.args.self.now.connections _ c.args.id _ (ap (λ g. g.connections) c.self.view_is) c.in-Some.ensures.value in waiting_some c.args.self.now c.args.id _ _ found c.is_empty.ensures
+returns-in-Some g c = let found = get_found c.args.self.now.connections _ c.args.id _ (ap (λ s. s.connections) c.self.view_is) c.in-Some.ensures.value in waiting_some c.args.self.now c.args.id _ _ found c.is_empty.ensures
 
 pub returns-in-None : goal.returns-in-None
-returns-in-None c = waiting_none _ _ (get_found c.args.self.now.connections _ c.args.id None (ap (λ g. g.connections) c.self.view_is) c.in-None.ensures.value)
+returns-in-None g c = waiting_none c.args.self.now c.args.id (get_found c.args.self.now.connections _ c.args.id None (ap (λ s. s.connections) c.self.view_is) c.in-None.ensures.value)

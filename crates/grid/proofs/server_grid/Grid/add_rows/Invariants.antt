@@ -1,5 +1,6 @@
-use Rattle.std.proofs.Common.{◌≡◌, ◌++◌, ℕ, All, vec_len, map, take}
-use Rattle.grid.specs.Standing.{at_server}
+use Rattle.std.proofs.Common.{◌≡◌, ◌<◌, ◌^◌, ◌++◌, length, map, take}
+use Rattle.grid.specs.GridState.{maps_of, IsHonest, NoneFailed}
+use Rattle.grid.specs.Leaves.{Leaves, IsUnchanged}
 use Rattle.grid.specs.Found.{entries_at}
 use Rattle.grid.specs.RowsKept.{row_of}
 use Rattle.grid.proofs.server_grid.Grid.add_rows.Given as goal
@@ -7,10 +8,9 @@ use Rattle.grid.proofs.server_grid.Grid.add_rows.Given as goal
 -- the shares so far were found, and no store failed
 abbrev pub invariant-loop-at : goal.invariant-loop-at
 invariant-loop-at g l = record {
-  count : vec_len l.self.stores ≡ vec_len l.fn.self.stores;
-  calm : (s : ℕ) → at_server g.S.Store.failures l.self.stores.items s ≡ at_server g.S.Store.failures l.fn.self.stores.items s;
-  still : All g.S.Store.honest l.fn.self.stores.items → All g.S.Store.honest l.self.stores.items;
-  same : All g.S.Store.honest l.fn.self.stores.items → map g.S.Store.shares l.self.stores.items ≡ map g.S.Store.shares l.fn.self.stores.items;
-  found : All g.S.Store.honest l.fn.self.stores.items → map row_of l.rows.items
-      ≡ map row_of l.fn.rows.items ++ map (λ e. (l.server, e)) (take l.at (entries_at (map g.S.Store.shares l.fn.self.stores.items) l.server));
+  leaves : Leaves l.fn.self l.self;
+  calm : NoneFailed l.fn.self l.self;
+  unchanged : IsHonest l.fn.self → IsUnchanged l.fn.self l.self;
+  few : IsHonest l.fn.self → 0 < l.at → length (entries_at (maps_of l.fn.self) l.server) < 2 ^ 64;
+  found : IsHonest l.fn.self → map row_of l.rows.items ≡ map row_of l.fn.rows.items ++ map (λ e. (l.server, e)) (take l.at (entries_at (maps_of l.fn.self) l.server));
 }

@@ -1,34 +1,62 @@
-use Rattle.std.proofs.Common.{◌≡◌, ◌+◌, ◌++◌, ◌∙◌, ℕ, suc, ap, sym, arith, map, List, All, Some, subst}
+use Rattle.std.proofs.Common.{◌≡◌, ◌∙◌, ◌<◌, ◌+◌, ◌++◌, length, ℕ, suc, List, ap, sym, subst, arith, map, Some}
 use Rattle.std.specs.Rc.{rc_slice_items}
-use Rattle.grid.specs.Standing.{standing, at_server}
 use Rattle.share_store.specs.Shares.{Shares}
-use Rattle.grid.specs.Found.{entries_at, found_in, found_below, seen}
+use Rattle.grid.specs.GridState.{stood, maps_of, failures_at}
+use Rattle.grid.specs.Found.{AllBut, found_in, found_below, entries_at, seen}
+use Rattle.grid.proofs.Gather.{all_stand}
+use Rattle.grid.proofs.Missing.{more_may_miss, all_but_both, none_missing, given_too}
+use Rattle.grid.proofs.Puts.{leaves_both, unchanged_both}
 use Rattle.grid.proofs.server_grid.Grid.gather.Goals as goal
 
 pub loop-server-preserved : goal.loop-server-preserved
 loop-server-preserved g c =
-    let fails = g.S.Store.failures in
     let inv = c.loop-server.invariant in
     let one = c.in_ok-gather_at.ensures in
+    let old = c.args.self.now in
+    let mid = c.loop-server.self in
+    let new = c.gather_at.new.self in
+    let server = c.loop-server.server in
     record {
-      count = omega (arith, one.count, inv.count);
-      rises = λ s. omega (arith, one.rises s, inv.rises s);
-      still = λ all. one.honest (inv.still all);
-      same = λ all. one.same (inv.still all) ∙ inv.same all;
-      stands = λ all.
-          let P : List Shares → ℕ × ℕ × List ℕ → Type 0 = λ maps f. standing maps f.0 (c.args.index, f.1) ≡ Some f.2 in
-          let now = map (seen rc_slice_items) c.gather_at.new.found.items in
-          subst (λ (maps : List Shares). All (P maps) now) (inv.same all)
-          (one.stands (inv.still all) (subst (λ (maps : List Shares). All (P maps) (map (seen rc_slice_items) c.loop-server.found.items)) (sym (inv.same all)) (inv.stands all)));
-      found = λ all calm.
-          let before : (s : ℕ) → at_server fails c.loop-server.self.stores.items s ≡ at_server fails c.args.self.now.stores.items s = λ s. omega (arith, inv.rises s, one.rises s, calm s) in
-          let maps = map g.S.Store.shares c.args.self.now.stores.items in
-          let next : suc c.loop-server.server ≡ c.loop-server.server + 1 = omega arith in
-          one.found (inv.still all) (calm c.loop-server.server ∙ sym (before c.loop-server.server))
-          ∙ ap (λ fs. fs ++ found_in c.loop-server.server c.args.index (entries_at (map g.S.Store.shares c.loop-server.self.stores.items) c.loop-server.server)) (inv.found all before)
-          ∙ ap (λ ms. found_below maps c.args.index c.loop-server.server ++ found_in c.loop-server.server c.args.index (entries_at ms c.loop-server.server)) (inv.same all)
-          ∙ ap (found_below maps c.args.index) next;
+      leaves = leaves_both old mid new inv.leaves one.leaves;
+      unchanged = λ all. unchanged_both old mid new (inv.unchanged all) (one.unchanged (inv.leaves.honest all));
+      found = λ all.
+          let P : ℕ × ℕ × List ℕ → Type 0 = λ f. failures_at old f.0 < failures_at mid f.0 in
+          let M : ℕ × ℕ × List ℕ → Type 0 = λ f. failures_at mid f.0 < failures_at new f.0 in
+          let Q : ℕ × ℕ × List ℕ → Type 0 = λ f. failures_at old f.0 < failures_at new f.0 in
+          let before = found_below (maps_of old) c.args.index server in
+          let here = found_in server c.args.index (entries_at (maps_of old) server) in
+          let so_far = map (seen rc_slice_items) c.loop-server.found.items in
+          let more = one.found (inv.leaves.honest all) in
+          let found_here : AllBut M here more.0 = subst (λ (maps : List Shares). AllBut M (found_in server c.args.index (entries_at maps server)) more.0) (inv.unchanged all).maps more.2 in
+          let next : suc server ≡ server + 1 = omega arith in
+          subst (λ n. AllBut Q (found_below (maps_of old) c.args.index n) (map (seen rc_slice_items) c.gather_at.new.found.items)) next
+          (subst (AllBut Q (before ++ here)) (sym more.1)
+          (all_but_both Q before here so_far more.0
+          (more_may_miss P Q before so_far (λ f lt. omega (arith, lt, one.leaves.rises f.0)) (inv.found all))
+          (more_may_miss M Q here more.0 (λ f lt. omega (arith, lt, inv.leaves.rises f.0)) found_here)));
     }
 
-pub returns-in_err-gather_at-clause-same : goal.returns-in_err-gather_at-clause-same
-returns-in_err-gather_at-clause-same g c all = c.in_err-gather_at.ensures.same (c.loop-server.invariant.still all) ∙ c.loop-server.invariant.same all
+pub returns-in_err-gather_at-clause-leaves : goal.returns-in_err-gather_at-clause-leaves
+returns-in_err-gather_at-clause-leaves g c = leaves_both c.args.self.now c.loop-server.self c.gather_at.new.self c.loop-server.invariant.leaves c.in_err-gather_at.ensures.leaves
+
+pub returns-in_err-gather_at-clause-unchanged : goal.returns-in_err-gather_at-clause-unchanged
+returns-in_err-gather_at-clause-unchanged g c all =
+    let inv = c.loop-server.invariant in
+    unchanged_both c.args.self.now c.loop-server.self c.gather_at.new.self (inv.unchanged all) (c.in_err-gather_at.ensures.unchanged (inv.leaves.honest all))
+
+pub returns-clause-all : goal.returns-clause-all
+returns-clause-all g c all calm =
+    let old = c.args.self.now in
+    let new = c.loop-server.self in
+    let found = map (seen rc_slice_items) c.loop-server.found.items in
+    let never : (f : ℕ × ℕ × List ℕ) → failures_at old f.0 < failures_at new f.0 → ⊥ = λ f lt. omega (arith, lt, calm f.0) in
+    let whole : c.loop-server.server ≡ length old = omega (arith, c.loop-server-test.false, c.loop-server.auto.server-end, c.servers-server-end.ensures.servers) in
+    none_missing (λ f. failures_at old f.0 < failures_at new f.0) (found_below (maps_of old) c.args.index c.loop-server.server) found never (c.loop-server.invariant.found all)
+    ∙ ap (found_below (maps_of old) c.args.index) whole
+
+pub returns-clause-stands : goal.returns-clause-stands
+returns-clause-stands g c all =
+    let old = c.args.self.now in
+    let new = c.loop-server.self in
+    given_too (λ f. failures_at old f.0 < failures_at new f.0) (λ f. stood old f.0 (c.args.index, f.1) ≡ Some f.2) (found_below (maps_of old) c.args.index c.loop-server.server) (map (seen rc_slice_items) c.loop-server.found.items)
+    (all_stand (maps_of old) c.args.index c.loop-server.server) (c.loop-server.invariant.found all)

@@ -1,18 +1,14 @@
-use Rattle.std.proofs.Common.{◌≡◌, ◌≤◌, ℕ, All, vec_len, map, Some}
+use Rattle.std.proofs.Common.{◌<◌, map}
 use Rattle.std.specs.Rc.{rc_slice_items}
-use Rattle.grid.specs.Standing.{standing, at_server}
-use Rattle.grid.specs.Found.{seen, found_below}
+use Rattle.grid.specs.GridState.{maps_of, failures_at, IsHonest}
+use Rattle.grid.specs.Leaves.{Leaves, IsUnchanged}
+use Rattle.grid.specs.Found.{AllBut, found_below, seen}
 use Rattle.grid.proofs.server_grid.Grid.gather.Given as goal
 
+-- what stands at the servers so far was found, but for failures
 abbrev pub invariant-loop-server : goal.invariant-loop-server
-invariant-loop-server g l =
-    let all_honest = All g.S.Store.honest l.fn.self.stores.items in
-    record {
-      count : vec_len l.self.stores ≡ vec_len l.fn.self.stores;
-      rises : (s : ℕ) → at_server g.S.Store.failures l.fn.self.stores.items s ≤ at_server g.S.Store.failures l.self.stores.items s;
-      still : all_honest → All g.S.Store.honest l.self.stores.items;
-      same : all_honest → map g.S.Store.shares l.self.stores.items ≡ map g.S.Store.shares l.fn.self.stores.items;
-      stands : all_honest → All (λ f. standing (map g.S.Store.shares l.fn.self.stores.items) f.0 (l.index, f.1) ≡ Some f.2) (map (seen rc_slice_items) l.found.items);
-      found : all_honest → ((s : ℕ) → at_server g.S.Store.failures l.self.stores.items s ≡ at_server g.S.Store.failures l.fn.self.stores.items s) →
-          map (seen rc_slice_items) l.found.items ≡ found_below (map g.S.Store.shares l.fn.self.stores.items) l.index l.server;
-    }
+invariant-loop-server g l = record {
+  leaves : Leaves l.fn.self l.self;
+  unchanged : IsHonest l.fn.self → IsUnchanged l.fn.self l.self;
+  found : IsHonest l.fn.self → AllBut (λ f. failures_at l.fn.self f.0 < failures_at l.self f.0) (found_below (maps_of l.fn.self) l.index l.server) (map (seen rc_slice_items) l.found.items);
+}

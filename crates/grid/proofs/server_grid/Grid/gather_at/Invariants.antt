@@ -1,20 +1,19 @@
-use Rattle.std.proofs.Common.{◌≡◌, ◌≤◌, ◌++◌, ℕ, All, vec_len, map, take, Some}
+use Rattle.std.proofs.Common.{◌≡◌, ◌<◌, ◌++◌, ℕ, List, map, take, Some, slice_get}
 use Rattle.std.specs.Rc.{rc_slice_items}
-use Rattle.grid.specs.Standing.{standing, at_server}
-use Rattle.grid.specs.Found.{seen, found_in, entries_at}
+use Rattle.share_store.specs.Shares.{Entry}
+use Rattle.grid.specs.GridState.{stood, failures_at, IsHonest}
+use Rattle.grid.specs.Leaves.{Leaves, IsUnchanged}
+use Rattle.grid.specs.Found.{AllBut, seen}
+use Rattle.grid.proofs.Gather.{row}
 use Rattle.grid.proofs.server_grid.Grid.gather_at.Given as goal
 
--- what was found so far is of the shares before this one
-abbrev pub invariant-loop-at : goal.invariant-loop-at
-invariant-loop-at g l =
-    let all_honest = All g.S.Store.honest l.fn.self.stores.items in
-    record {
-      count : vec_len l.self.stores ≡ vec_len l.fn.self.stores;
-      rises : (s : ℕ) → at_server g.S.Store.failures l.fn.self.stores.items s ≤ at_server g.S.Store.failures l.self.stores.items s;
-      still : all_honest → All g.S.Store.honest l.self.stores.items;
-      same : all_honest → map g.S.Store.shares l.self.stores.items ≡ map g.S.Store.shares l.fn.self.stores.items;
-      stands : all_honest → All (λ f. standing (map g.S.Store.shares l.fn.self.stores.items) f.0 (l.index, f.1) ≡ Some f.2) (map (seen rc_slice_items) l.fn.found.items) →
-          All (λ f. standing (map g.S.Store.shares l.fn.self.stores.items) f.0 (l.index, f.1) ≡ Some f.2) (map (seen rc_slice_items) l.found.items);
-      found : all_honest → at_server g.S.Store.failures l.self.stores.items l.server ≡ at_server g.S.Store.failures l.fn.self.stores.items l.server →
-          map (seen rc_slice_items) l.found.items ≡ map (seen rc_slice_items) l.fn.found.items ++ found_in l.server l.index (take l.at (entries_at (map g.S.Store.shares l.fn.self.stores.items) l.server));
-    }
+-- of whatever shares have these numbers and stand there, those so far were given, but for failures
+abbrev pub invariant-loop-number : goal.invariant-loop-number
+invariant-loop-number g l = record {
+  leaves : Leaves l.fn.self l.self;
+  risen : failures_at l.fn.self l.server < failures_at l.initial.self l.server → failures_at l.fn.self l.server < failures_at l.self l.server;
+  unchanged : IsHonest l.fn.self → IsUnchanged l.fn.self l.self;
+  found : IsHonest l.fn.self → (es : List Entry) → l.number-items ≡ map (λ e. e.0.1) es → ((i : ℕ) (e : Entry) → slice_get es i ≡ Some e → stood l.fn.self l.server (l.index, e.0.1) ≡ Some e.1) →
+      (given : List (ℕ × ℕ × List ℕ)) × (map (seen rc_slice_items) l.found.items ≡ map (seen rc_slice_items) l.fn.found.items ++ given)
+      × AllBut (λ f. failures_at l.fn.self f.0 < failures_at l.self f.0) (map (row l.server) (take l.number-index es)) given;
+}

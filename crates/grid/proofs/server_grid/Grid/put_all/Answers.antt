@@ -1,55 +1,95 @@
-use Rattle.std.proofs.Common.{◌≡◌, ◌<◌, ◌+◌, ◌%◌, refl, arith, sym, ap, subst, ◌∙◌, Some, None, Err, slice_get, vec_len, map}
-use Rattle.std.proofs.lemmas.List.{length-map}
-use Rattle.std.proofs.lemmas.Option.{slice_get_read}
+use Rattle.std.proofs.Common.{◌≡◌, ◌<◌, ◌+◌, ◌%◌, refl, arith, sym, ap, subst, ◌∙◌, Some, None, Err, slice_get, map, length}
+use Rattle.std.proofs.lemmas.Option.{slice_get_read, slice_get-map}
+use Rattle.std.specs.Option.{option_map}
 use Rattle.std.specs.Rc.{rc_slice_items}
-use Rattle.grid.specs.Standing.{at_server, standing}
+use Rattle.grid.specs.declared.fault.GridFault.TheVariants.{NoMemory}
+use Rattle.grid.specs.Standing.{standing}
+use Rattle.grid.specs.GridState.{stood, room_at}
 use Rattle.grid.specs.Placement.{server_of}
-use Rattle.grid.specs.Changes.{put_at}
-use Rattle.grid.proofs.Standing.{placed_next, passed_on, passed_error}
+use Rattle.grid.specs.OneStore.{IsPutHere}
+use Rattle.grid.proofs.Puts.{put_next, put_still, leaves_both, calm_after, passed_on, passed_is, too_many, placed_past, taken_few}
 use Rattle.grid.proofs.server_grid.Grid.put_all.Goals as goal
 
 pub loop-i-preserved : goal.loop-i-preserved
-loop-i-preserved g c = record {
-  count = omega (arith, c.in_ok-put_one.ensures.count, c.loop-i.invariant.count);
-  calm = λ s.
-      let counts = c.in_ok-put_one.ensures.counts in
-      let not_risen : at_server g.S.Store.failures c.loop-i.self.stores.items s < at_server g.S.Store.failures c.put_one.new.self.stores.items s → ⊥ = λ rose. (let is = (counts.down s).1 rose in cc) in
-      grind (arith, counts.rises s, c.loop-i.invariant.calm s);
-  honest = λ all. c.in_ok-put_one.ensures.honest (c.loop-i.invariant.honest all);
-  stands = λ all.
-      let count = vec_len c.args.self.now.stores in
-      let step = c.in_ok-put_one.ensures.ok (c.loop-i.invariant.honest all) in
-      let server : (c.from.result + c.loop-i.i) % c.len.result ≡ server_of count c.args.index c.loop-i.i = rw (c.from.ensures, c.len.ensures, c.loop-i.invariant.count) refl in
-      let at : slice_get c.args.shares.now c.loop-i.i ≡ Some c.index-shares-i.result = slice_get_read c.args.shares.now _ c.loop-i.i c.index-shares-i.result refl c.loop-i-test.true c.index-shares-i.is in
-      step
-      ∙ ap (λ s. put_at s (c.args.index, c.loop-i.i) (rc_slice_items c.in_ok-clone.field-0) (standing (map g.S.Store.shares c.loop-i.self.stores.items))) server
-      ∙ ap (λ bytes. put_at (server_of count c.args.index c.loop-i.i) (c.args.index, c.loop-i.i) bytes (standing (map g.S.Store.shares c.loop-i.self.stores.items))) c.in_ok-clone.ensures.cases
-      ∙ ap (λ before. put_at (server_of count c.args.index c.loop-i.i) (c.args.index, c.loop-i.i) (rc_slice_items c.index-shares-i.result) before) (c.loop-i.invariant.stands all)
-      ∙ sym (placed_next rc_slice_items count c.args.index c.args.shares.now c.loop-i.i c.index-shares-i.result (standing (map g.S.Store.shares c.args.self.now.stores.items)) at);
-}
-
-pub returns-in_err-put_one-clause-err : goal.returns-in_err-put_one-clause-err
-returns-in_err-put_one-clause-err g c all =
-    let count = vec_len c.args.self.now.stores in
-    let put = c.in_err-put_one.ensures in
+loop-i-preserved g c =
+    let inv = c.loop-i.invariant in
+    let put = c.in_ok-_put.ensures in
+    let old = c.args.self.now in
     let i = c.loop-i.i in
-    let server : (c.from.result + i) % c.len.result ≡ server_of count c.args.index i = rw (c.from.ensures, c.len.ensures, c.loop-i.invariant.count) refl in
-    passed_on _ c.in_err-put_one.field-0.0 _ c.from_residual-in_err-put_one.ensures.1 (
-      i,
-      record {
-        in_range = omega (arith, length-map c.args.shares.now rc_slice_items);
-        stands = put.err (c.loop-i.invariant.honest all) ∙ c.loop-i.invariant.stands all;
-        full = λ s is. (put.full s (ap Err is)).0 ∙ server;
-        down = λ s is. put.down_here s (ap Err is) ∙ server;
-        none_stood = λ s is. subst (λ t. standing (map g.S.Store.shares c.put_one.new.self.stores.items) t (c.args.index, i) ≡ None) (sym (put.full s (ap Err is)).0) (put.full_only (c.loop-i.invariant.honest all) s (ap Err is));
-      },
-    )
+    let share = c.index-shares-i.result in
+    let server : (c.from.result + i) % c.servers-servers.result ≡ server_of (length old) c.args.index i = rw (c.from.ensures, c.servers-servers.ensures.servers) refl in
+    let at : slice_get (map rc_slice_items c.args.shares.now) i ≡ Some (rc_slice_items share) =
+    slice_get-map rc_slice_items c.args.shares.now i ∙ ap (option_map rc_slice_items) (slice_get_read c.args.shares.now _ i share refl c.loop-i-test.true c.index-shares-i.is) in
+    record {
+      leaves = leaves_both old c.loop-i.self c.put_one.new.self inv.leaves put.leaves;
+      calm = λ s. calm_after c.loop-i.self c.put_one.new.self _ put.leaves put.down s ∙ inv.calm s;
+      put = λ all.
+          put_next c.args.index (map rc_slice_items c.args.shares.now) i ((c.from.result + i) % c.servers-servers.result) (rc_slice_items share) old c.loop-i.self c.put_one.new.self at server (inv.put all)
+          (subst (λ bytes. IsPutHere ((c.from.result + i) % c.servers-servers.result) (c.args.index, i) bytes c.loop-i.self c.put_one.new.self) c.in_ok-clone.ensures.cases (put.ok (inv.leaves.honest all)));
+    }
 
-pub returns-in_err-put_one-clause-full : goal.returns-in_err-put_one-clause-full
-returns-in_err-put_one-clause-full g c s is =
-    let count = vec_len c.args.self.now.stores in
+pub returns-in_err-_put-clause-leaves : goal.returns-in_err-_put-clause-leaves
+returns-in_err-_put-clause-leaves g c = leaves_both c.args.self.now c.loop-i.self c.put_one.new.self c.loop-i.invariant.leaves c.in_err-_put.ensures.leaves
+
+pub returns-in_err-clone-clause-err : goal.returns-in_err-clone-clause-err
+returns-in_err-clone-clause-err g c =
     let i = c.loop-i.i in
-    let server : (c.from.result + i) % c.len.result ≡ server_of count c.args.index i = rw (c.from.ensures, c.len.ensures, c.loop-i.invariant.count) refl in
-    let at : slice_get c.args.shares.now i ≡ Some c.index-shares-i.result = slice_get_read c.args.shares.now _ i c.index-shares-i.result refl c.loop-i-test.true c.index-shares-i.is in
-    let full = c.in_err-put_one.ensures.full s (sym (passed_error _ c.in_err-put_one.field-0.0 c.from_residual-in_err-put_one.ensures.1) ∙ is) in
-    (i, (c.index-shares-i.result, at, full.0 ∙ server, rw (← c.in_ok-clone.ensures.cases) full.1))
+    let share = c.index-shares-i.result in
+    passed_on _ NoMemory _ c.from_residual.ensures.1
+    (record {
+      n = i;
+      share = rc_slice_items share;
+      at = slice_get-map rc_slice_items c.args.shares.now i ∙ ap (option_map rc_slice_items) (slice_get_read c.args.shares.now _ i share refl c.loop-i-test.true c.index-shares-i.is);
+      put = c.loop-i.invariant.put;
+      refusal = tt;
+      full = λ s is. cc;
+      none_stood = λ all s is. cc;
+      down = λ s is. cc;
+    })
+
+pub returns-in_err-_put-clause-err : goal.returns-in_err-_put-clause-err
+returns-in_err-_put-clause-err g c =
+    let inv = c.loop-i.invariant in
+    let put = c.in_err-_put.ensures in
+    let old = c.args.self.now in
+    let i = c.loop-i.i in
+    let share = c.index-shares-i.result in
+    let new = c.put_one.new.self in
+    let server : (c.from.result + i) % c.servers-servers.result ≡ server_of (length old) c.args.index i = rw (c.from.ensures, c.servers-servers.ensures.servers) refl in
+    passed_on _ c.in_err-_put.field-0.0 _ c.from_residual-in_err-_put.ensures.1
+    (record {
+      n = i;
+      share = rc_slice_items share;
+      at = slice_get-map rc_slice_items c.args.shares.now i ∙ ap (option_map rc_slice_items) (slice_get_read c.args.shares.now _ i share refl c.loop-i-test.true c.index-shares-i.is);
+      put = λ all. put_still c.args.index _ old c.loop-i.self new (inv.put all) (put.err (inv.leaves.honest all));
+      refusal = put.refusals;
+      full = λ s is.
+          let full = put.full s (ap Err is) in
+          (full.0 ∙ server, subst (λ k. room_at new k < length (rc_slice_items share)) (sym full.0) (subst (λ bytes. room_at new ((c.from.result + i) % c.servers-servers.result) < length bytes) c.in_ok-clone.ensures.cases full.1));
+      none_stood = λ all s is.
+          subst (λ k. stood new k (c.args.index, i) ≡ None) (sym (put.full s (ap Err is)).0) (put.full_only (inv.leaves.honest all) s (ap Err is));
+      down = λ s is. put.down_here s (ap Err is) ∙ server;
+    })
+
+pub returns-in_err-_put-clause-never_full : goal.returns-in_err-_put-clause-never_full
+returns-in_err-_put-clause-never_full g c all fits s is =
+    let inv = c.loop-i.invariant in
+    let put = c.in_err-_put.ensures in
+    let old = c.args.self.now in
+    let i = c.loop-i.i in
+    let share = c.index-shares-i.result in
+    let new = c.put_one.new.self in
+    let shares = map rc_slice_items c.args.shares.now in
+    let server : (c.from.result + i) % c.servers-servers.result ≡ server_of (length old) c.args.index i = rw (c.from.ensures, c.servers-servers.ensures.servers) refl in
+    let at : slice_get shares i ≡ Some (rc_slice_items share) =
+    slice_get-map rc_slice_items c.args.shares.now i ∙ ap (option_map rc_slice_items) (slice_get_read c.args.shares.now _ i share refl c.loop-i-test.true c.index-shares-i.is) in
+    let named = ap Err (passed_is _ c.in_err-_put.field-0.0 _ c.from_residual-in_err-_put.ensures.1 is) in
+    let full = put.full s named in
+    let same = put.err (inv.leaves.honest all) in
+    let so_far = inv.put all in
+    let none_new : stood new s (c.args.index, i) ≡ None = subst (λ k. stood new k (c.args.index, i) ≡ None) (sym full.0) (put.full_only (inv.leaves.honest all) s named) in
+    let none : stood old s (c.args.index, i) ≡ None =
+    sym (ap (λ f. f s (c.args.index, i)) so_far.stands ∙ placed_past (length old) c.args.index _ (stood old) s i (taken_few i shares _ at)) ∙ sym (ap (λ m. standing m s (c.args.index, i)) same.maps) ∙ none_new in
+    let short : room_at new s < length (rc_slice_items share) =
+    subst (λ k. room_at new k < length (rc_slice_items share)) (sym full.0) (subst (λ bytes. room_at new ((c.from.result + i) % c.servers-servers.result) < length bytes) c.in_ok-clone.ensures.cases full.1) in
+    too_many (length old) c.args.index (stood old) s shares i (room_at old s) (room_at c.loop-i.self s) (rc_slice_items share) at (full.0 ∙ server) none (so_far.rooms s) (fits s) (omega (arith, short, same.rooms s))

@@ -1,58 +1,65 @@
-use Rattle.std.proofs.Common.{refl, ap, ◌∙◌, Some, Err, unwrap_or}
+use Rattle.std.proofs.Common.{◌∙◌, ap, arith}
 use Rattle.std.specs.FinMap.{get}
 use Rattle.std.specs.Rc.{rc_slice_items}
-use Rattle.grid.specs.declared.error.GridError.TheVariants.{Down, NoMemory}
-use Rattle.grid.specs.Standing.{Standing}
-use Rattle.grid.proofs.Standing.{counts, standing_by_maps, standing-get, standing_same, standing_changed, get-put_once, store_at}
+use Rattle.grid.proofs.Calls.{call_in, honest_there, room_after, leaves_by, tells_down, put_there, unchanged_there, stood_after, on_err, ok_told, err_told, full_told, down_told, put_refusal_told}
 use Rattle.grid.proofs.server_grid.Grid.put_one.Goals as goal
 
-pub returns-in-Ok-clause-ok : goal.returns-in-Ok-clause-ok
-returns-in-Ok-clause-ok g c all =
-    let stores = c.args.self.now.stores in
-    let store = store_at g.S.Store.honest stores.items stores.len c.args.server c.index_mut.result.now stores.ok.0 c.requires.server c.index_mut.ensures.value all in
-    let put = c.in-Ok.ensures.shares store.is_honest in
-    standing_changed g.S.Store.shares stores.items c.args.server _ c.put.new.self store.in_range store.at
-    (c.args.index, c.args.number) (λ standing. Some (unwrap_or standing (rc_slice_items c.args.bytes)))
-    (λ q. ap (λ m. get m q) put ∙ get-put_once _ _ _ q)
+pub returns-clause-leaves : goal.returns-clause-leaves
+returns-clause-leaves g c =
+    let store = g.S.Store in
+    let stores = c.self.inside.stores in
+    let call = call_in store.shares store.room store.held store.failures store.honest stores.items c.args.self.now stores.len c.args.server c.index_mut.result.now c.put.new.self c.self.view_is stores.ok.0 c.requires.server c.index_mut.ensures.value in
+    leaves_by _ _ _ _ _ call c.put.ensures.rises c.put.ensures.honest c.put.ensures.room
 
-pub returns-in-Err-Full-clause-err : goal.returns-in-Err-Full-clause-err
-returns-in-Err-Full-clause-err g c all =
-    let stores = c.args.self.now.stores in
-    let store = store_at g.S.Store.honest stores.items stores.len c.args.server c.index_mut.result.now stores.ok.0 c.requires.server c.index_mut.ensures.value all in
-    standing_same g.S.Store.shares stores.items c.args.server _ c.put.new.self store.in_range store.at (c.in-Err-Full.ensures.err store.is_honest)
+pub returns-clause-down : goal.returns-clause-down
+returns-clause-down g c =
+    let store = g.S.Store in
+    let stores = c.self.inside.stores in
+    let call = call_in store.shares store.room store.held store.failures store.honest stores.items c.args.self.now stores.len c.args.server c.index_mut.result.now c.put.new.self c.self.view_is stores.ok.0 c.requires.server c.index_mut.ensures.value in
+    tells_down _ _ _ _ _ call c.put.result c.answer_of.result c.answer_of.ensures c.put.ensures.down
 
-pub returns-in-Err-Down-clause-err : goal.returns-in-Err-Down-clause-err
-returns-in-Err-Down-clause-err g c all =
-    let stores = c.args.self.now.stores in
-    let store = store_at g.S.Store.honest stores.items stores.len c.args.server c.index_mut.result.now stores.ok.0 c.requires.server c.index_mut.ensures.value all in
-    standing_same g.S.Store.shares stores.items c.args.server _ c.put.new.self store.in_range store.at (c.in-Err-Down.ensures.err store.is_honest)
+pub returns-clause-refusals : goal.returns-clause-refusals
+returns-clause-refusals g c = put_refusal_told c.args.server c.put.result c.answer_of.result c.answer_of.ensures
 
-pub returns-in-Err-NoMemory-clause-err : goal.returns-in-Err-NoMemory-clause-err
-returns-in-Err-NoMemory-clause-err g c all =
-    let stores = c.args.self.now.stores in
-    let store = store_at g.S.Store.honest stores.items stores.len c.args.server c.index_mut.result.now stores.ok.0 c.requires.server c.index_mut.ensures.value all in
-    standing_same g.S.Store.shares stores.items c.args.server _ c.put.new.self store.in_range store.at (c.in-Err-NoMemory.ensures.err store.is_honest)
+pub returns-clause-down_here : goal.returns-clause-down_here
+returns-clause-down_here g c = down_told c.args.server c.put.result c.answer_of.result c.answer_of.ensures
 
-pub returns-in-Err-Full-clause-full_only : goal.returns-in-Err-Full-clause-full_only
-returns-in-Err-Full-clause-full_only g c all s is =
-    let stores = c.args.self.now.stores in
-    let store = store_at g.S.Store.honest stores.items stores.len c.args.server c.index_mut.result.now stores.ok.0 c.requires.server c.index_mut.ensures.value all in
-    let put = c.in-Err-Full.ensures in
-    ap (λ (standing : Standing). standing c.args.server (c.args.index, c.args.number)) (standing_same g.S.Store.shares stores.items c.args.server _ c.put.new.self store.in_range store.at (put.err store.is_honest))
-    ∙ ap (λ (standing : Standing). standing c.args.server (c.args.index, c.args.number)) (standing_by_maps g.S.Store.shares stores.items)
-    ∙ standing-get g.S.Store.shares stores.items c.args.server _ store.at (c.args.index, c.args.number)
-    ∙ put.full_only store.is_honest (cc)
+pub returns-clause-full : goal.returns-clause-full
+returns-clause-full g c s is =
+    let store = g.S.Store in
+    let stores = c.self.inside.stores in
+    let call = call_in store.shares store.room store.held store.failures store.honest stores.items c.args.self.now stores.len c.args.server c.index_mut.result.now c.put.new.self c.self.view_is stores.ok.0 c.requires.server c.index_mut.ensures.value in
+    let full = full_told c.args.server c.put.result c.answer_of.result c.answer_of.ensures s is in
+    (full.0, omega (arith, c.put.ensures.full full.1, c.put.ensures.full_room full.1, room_after _ _ _ _ _ call))
 
-pub returns-in-Err-Down-clause-counts : goal.returns-in-Err-Down-clause-counts
-returns-in-Err-Down-clause-counts g c =
-    let stores = c.args.self.now.stores in
-    let put = c.in-Err-Down.ensures in
-    counts g.S.Store.failures stores.items stores.len c.args.server c.index_mut.result.now c.put.new.self (Err (Down c.args.server)) stores.ok.0 c.requires.server c.index_mut.ensures.value put.rises
-    (λ s is. (cc)) (λ is. put.down.0 (cc), λ rose. refl)
+pub returns-clause-full_only : goal.returns-clause-full_only
+returns-clause-full_only g c all s is =
+    let laws = g.met.S.Store in
+    let store = g.S.Store in
+    let stores = c.self.inside.stores in
+    let call = call_in store.shares store.room store.held store.failures store.honest stores.items c.args.self.now stores.len c.args.server c.index_mut.result.now c.put.new.self c.self.view_is stores.ok.0 c.requires.server c.index_mut.ensures.value in
+    let full = full_told c.args.server c.put.result c.answer_of.result c.answer_of.ensures s is in
+    let honest = honest_there _ _ _ _ _ call all in
+    stood_after _ _ _ _ _ call (c.args.index, c.args.number) ∙ ap (λ m. get m (c.args.index, c.args.number)) (on_err c.put.result _ _ full.1 (c.put.ensures.err honest)) ∙ c.put.ensures.full_only honest full.1
 
-pub returns-in-Err-NoMemory-clause-counts : goal.returns-in-Err-NoMemory-clause-counts
-returns-in-Err-NoMemory-clause-counts g c =
-    let stores = c.args.self.now.stores in
-    let put = c.in-Err-NoMemory.ensures in
-    counts g.S.Store.failures stores.items stores.len c.args.server c.index_mut.result.now c.put.new.self (Err NoMemory) stores.ok.0 c.requires.server c.index_mut.ensures.value put.rises
-    (λ s is. cc) (λ is. cc, λ rose. (let no = put.down.1 rose in cc))
+pub returns-clause-ok : goal.returns-clause-ok
+returns-clause-ok g c all =
+    let laws = g.met.S.Store in
+    let store = g.S.Store in
+    let stores = c.self.inside.stores in
+    let call = call_in store.shares store.room store.held store.failures store.honest stores.items c.args.self.now stores.len c.args.server c.index_mut.result.now c.put.new.self c.self.view_is stores.ok.0 c.requires.server c.index_mut.ensures.value in
+    let honest = honest_there _ _ _ _ _ call all in
+    ok_told c.args.server c.put.result c.answer_of.result _ _ c.answer_of.ensures
+    (put_there _ _ _ _ _ call (laws.held_is _ honest) (laws.held_is _ (c.put.ensures.honest honest)) (c.put.ensures.room honest) c.size_laws.ensures (c.args.index, c.args.number) (rc_slice_items c.args.bytes))
+    (c.put.ensures.shares honest)
+
+pub returns-clause-err : goal.returns-clause-err
+returns-clause-err g c all =
+    let laws = g.met.S.Store in
+    let store = g.S.Store in
+    let stores = c.self.inside.stores in
+    let call = call_in store.shares store.room store.held store.failures store.honest stores.items c.args.self.now stores.len c.args.server c.index_mut.result.now c.put.new.self c.self.view_is stores.ok.0 c.requires.server c.index_mut.ensures.value in
+    let honest = honest_there _ _ _ _ _ call all in
+    err_told c.args.server c.put.result c.answer_of.result _ _ c.answer_of.ensures
+    (unchanged_there _ _ _ _ _ call (laws.held_is _ honest) (laws.held_is _ (c.put.ensures.honest honest)) (c.put.ensures.room honest))
+    (c.put.ensures.err honest)

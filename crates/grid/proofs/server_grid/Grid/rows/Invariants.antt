@@ -1,5 +1,6 @@
-use Rattle.std.proofs.Common.{◌≡◌, ℕ, All, vec_len, map}
-use Rattle.grid.specs.Standing.{at_server}
+use Rattle.std.proofs.Common.{◌≡◌, map}
+use Rattle.grid.specs.GridState.{maps_of, IsHonest, NoneFailed}
+use Rattle.grid.specs.Leaves.{Leaves, IsUnchanged}
 use Rattle.grid.specs.Rows.{rows_below}
 use Rattle.grid.specs.RowsKept.{row_of}
 use Rattle.grid.proofs.server_grid.Grid.rows.Given as goal
@@ -7,9 +8,8 @@ use Rattle.grid.proofs.server_grid.Grid.rows.Given as goal
 -- the rows of the servers so far were found, and no store failed
 abbrev pub invariant-loop-server : goal.invariant-loop-server
 invariant-loop-server g l = record {
-  count : vec_len l.self.stores ≡ vec_len l.fn.self.stores;
-  calm : (s : ℕ) → at_server g.S.Store.failures l.self.stores.items s ≡ at_server g.S.Store.failures l.fn.self.stores.items s;
-  still : All g.S.Store.honest l.fn.self.stores.items → All g.S.Store.honest l.self.stores.items;
-  same : All g.S.Store.honest l.fn.self.stores.items → map g.S.Store.shares l.self.stores.items ≡ map g.S.Store.shares l.fn.self.stores.items;
-  found : All g.S.Store.honest l.fn.self.stores.items → map row_of l.rows.items ≡ rows_below (map g.S.Store.shares l.fn.self.stores.items) l.server;
+  leaves : Leaves l.fn.self l.self;
+  calm : NoneFailed l.fn.self l.self;
+  unchanged : IsHonest l.fn.self → IsUnchanged l.fn.self l.self;
+  found : IsHonest l.fn.self → map row_of l.rows.items ≡ rows_below (maps_of l.fn.self) l.server;
 }

@@ -1,27 +1,48 @@
-use Rattle.std.proofs.Common.{arith, ap, ◌∙◌}
-use Rattle.std.specs.Option.{option_map}
-use Rattle.std.specs.FinMap.{get}
-use Rattle.share_store.specs.Toggle.{toggled}
-use Rattle.grid.proofs.Standing.{standing_same, standing_changed, get-with_toggle, store_at}
+use Rattle.std.proofs.Common.{arith, ap, sym, ◌∙◌, nat_lt, length, unwrap_or, []}
+use Rattle.grid.proofs.Calls.{call_of, honest_there, stood_there, leaves_by, tells_down, spoiled_there, unchanged_there, if_ok_told, ok_told, err_told}
 use Rattle.grid.proofs.server_grid.Grid.spoil.Goals as goal
 
-pub returns-in-Ok-clause-ok : goal.returns-in-Ok-clause-ok
-returns-in-Ok-clause-ok g c all =
-    let stores = c.args.self.now.stores in
-    let store = store_at g.S.Store.honest stores.items stores.len c.args.server c.index_mut.result.now stores.ok.0 (omega arith) c.index_mut.ensures.value all in
-    let changed = c.in-Ok.ensures.shares store.is_honest in
-    standing_changed g.S.Store.shares stores.items c.args.server _ c.toggle.new.self store.in_range store.at
-    (c.args.index, c.args.number) (λ standing. option_map (λ bytes. toggled bytes c.args.place) standing)
-    (λ q. ap (λ m. get m q) changed ∙ get-with_toggle _ _ _ q)
+pub returns-clause-leaves : goal.returns-clause-leaves
+returns-clause-leaves g c =
+    let store = g.S.Store in
+    let stores = c.self.inside.stores in
+    let call = call_of store.shares store.room store.held store.failures store.honest stores.items c.args.self.now stores.len c.args.server c.index_mut.result.now c.toggle.new.self c.self.view_is stores.ok.0 (omega arith) c.index_mut.ensures.value in
+    leaves_by _ _ _ _ _ call c.toggle.ensures.rises c.toggle.ensures.honest c.toggle.ensures.room
 
-pub returns-in-Err-Down-clause-err : goal.returns-in-Err-Down-clause-err
-returns-in-Err-Down-clause-err g c all =
-    let stores = c.args.self.now.stores in
-    let store = store_at g.S.Store.honest stores.items stores.len c.args.server c.index_mut.result.now stores.ok.0 (omega arith) c.index_mut.ensures.value all in
-    standing_same g.S.Store.shares stores.items c.args.server _ c.toggle.new.self store.in_range store.at (c.in-Err-Down.ensures.err store.is_honest)
+pub returns-clause-down : goal.returns-clause-down
+returns-clause-down g c =
+    let store = g.S.Store in
+    let stores = c.self.inside.stores in
+    let call = call_of store.shares store.room store.held store.failures store.honest stores.items c.args.self.now stores.len c.args.server c.index_mut.result.now c.toggle.new.self c.self.view_is stores.ok.0 (omega arith) c.index_mut.ensures.value in
+    tells_down _ _ _ _ _ call c.toggle.result c.answer_of.result c.answer_of.ensures c.toggle.ensures.down
 
-pub returns-in-Err-NoMemory-clause-err : goal.returns-in-Err-NoMemory-clause-err
-returns-in-Err-NoMemory-clause-err g c all =
-    let stores = c.args.self.now.stores in
-    let store = store_at g.S.Store.honest stores.items stores.len c.args.server c.index_mut.result.now stores.ok.0 (omega arith) c.index_mut.ensures.value all in
-    standing_same g.S.Store.shares stores.items c.args.server _ c.toggle.new.self store.in_range store.at (c.in-Err-NoMemory.ensures.err store.is_honest)
+pub returns-clause-toggled : goal.returns-clause-toggled
+returns-clause-toggled g c all =
+    let store = g.S.Store in
+    let stores = c.self.inside.stores in
+    let call = call_of store.shares store.room store.held store.failures store.honest stores.items c.args.self.now stores.len c.args.server c.index_mut.result.now c.toggle.new.self c.self.view_is stores.ok.0 (omega arith) c.index_mut.ensures.value in
+    if_ok_told c.args.server c.toggle.result c.answer_of.result _ _ c.answer_of.ensures
+    (λ toggled is. is ∙ sym (ap (λ o. nat_lt c.args.place (length (unwrap_or o []))) (stood_there _ _ _ _ _ call (c.args.index, c.args.number))))
+    (c.toggle.ensures.toggled (honest_there _ _ _ _ _ call all))
+
+pub returns-clause-ok : goal.returns-clause-ok
+returns-clause-ok g c all =
+    let store = g.S.Store in
+    let laws = g.met.S.Store in
+    let stores = c.self.inside.stores in
+    let call = call_of store.shares store.room store.held store.failures store.honest stores.items c.args.self.now stores.len c.args.server c.index_mut.result.now c.toggle.new.self c.self.view_is stores.ok.0 (omega arith) c.index_mut.ensures.value in
+    let honest = honest_there _ _ _ _ _ call all in
+    ok_told c.args.server c.toggle.result c.answer_of.result _ _ c.answer_of.ensures
+    (spoiled_there _ _ _ _ _ call (laws.held_is _ honest) (laws.held_is _ (c.toggle.ensures.honest honest)) (c.toggle.ensures.room honest) c.size_laws.ensures (c.args.index, c.args.number) c.args.place)
+    (c.toggle.ensures.shares honest)
+
+pub returns-clause-err : goal.returns-clause-err
+returns-clause-err g c all =
+    let store = g.S.Store in
+    let laws = g.met.S.Store in
+    let stores = c.self.inside.stores in
+    let call = call_of store.shares store.room store.held store.failures store.honest stores.items c.args.self.now stores.len c.args.server c.index_mut.result.now c.toggle.new.self c.self.view_is stores.ok.0 (omega arith) c.index_mut.ensures.value in
+    let honest = honest_there _ _ _ _ _ call all in
+    err_told c.args.server c.toggle.result c.answer_of.result _ _ c.answer_of.ensures
+    (unchanged_there _ _ _ _ _ call (laws.held_is _ honest) (laws.held_is _ (c.toggle.ensures.honest honest)) (c.toggle.ensures.room honest))
+    (c.toggle.ensures.err honest)

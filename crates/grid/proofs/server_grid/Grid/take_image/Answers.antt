@@ -1,5 +1,5 @@
-use Rattle.std.proofs.Common.{rules, ◌≡◌, ◌∙◌, [], All, take, vec_len, map, sym, ap}
-use Rattle.grid.specs.Standing.{at_server}
+use Rattle.std.proofs.Common.{rules, ◌≡◌, ◌∙◌, [], take, length, sym, ap}
+use Rattle.grid.specs.GridState.{maps_of, room_at, IsHonest}
 use Rattle.grid.specs.Rows.{rows_of}
 use Rattle.grid.specs.ImageHeads.{shares_said}
 use Rattle.grid.specs.ImageReading.{image_said}
@@ -10,27 +10,27 @@ use Rattle.grid.proofs.server_grid.Grid.take_image.Goals as goal
 
 pub returns-in_err-came-clause-reads : goal.returns-in_err-came-clause-reads
 returns-in_err-came-clause-reads g c =
-    let stores = c.args.self.now.stores in
-    let good = All g.S.Store.honest stores.items × (rows_of (map g.S.Store.shares stores.items) ≡ []) in
-    reads_passed _ _ (image_said (vec_len stores)) (at_server g.S.Store.room stores.items) good (rows_of (map g.S.Store.shares stores.items)) _ c.in_err-came.field-0.0 c.from_residual.ensures.1
-    (no_front (g.R.Read.remaining c.args.reader.now) (g.R.Read.remaining c.fill.new.reader) (image_said (vec_len stores)) c.in_err-came.field-0.0 (at_server g.S.Store.room stores.items) good (rows_of (map g.S.Store.shares stores.items))
+    let old = c.args.self.now in
+    let good = IsHonest old × (rows_of (maps_of old) ≡ []) in
+    reads_passed _ _ (image_said (length old)) (room_at old) good (rows_of (maps_of old)) _ c.in_err-came.field-0.0 c.from_residual.ensures.1
+    (no_front (g.R.Read.remaining c.args.reader.now) (g.R.Read.remaining c.fill.new.reader) (image_said (length old)) c.in_err-came.field-0.0 (room_at old) good (rows_of (maps_of old))
     (λ good. good.1) c.in_err-came.ensures.refusals)
 
 pub returns-in-Ok-clause-reads : goal.returns-in-Ok-clause-reads
 returns-in-Ok-clause-reads g c =
-    let stores = c.args.self.now.stores in
-    let good = All g.S.Store.honest stores.items × (rows_of (map g.S.Store.shares stores.items) ≡ []) in
+    let old = c.args.self.now in
+    let good = IsHonest old × (rows_of (maps_of old) ≡ []) in
     let front = take c.in_ok-came.came c.fill.new.buffer in
     let came = front_of (g.R.Read.remaining c.args.reader.now) (g.R.Read.remaining c.fill.new.reader) 16 c.in_ok-came.came c.fill.new.buffer (search rules) c.in_ok-came.ensures.told in
-    counted (g.R.Read.remaining c.args.reader.now) (g.R.Read.remaining c.fill.new.reader) (vec_len stores) front
-    (λ said. Reads said c.take_rows.result (at_server g.S.Store.room c.take_rows.new.self.stores.items) good (rows_of (map g.S.Store.shares c.take_rows.new.self.stores.items)) (g.R.Read.remaining c.take_rows.new.reader))
-    c.in-Ok.count came (ap (λ n. shares_said n front) (sym c.len.ensures) ∙ sym c.in-Ok.ensures) c.take_rows.ensures.reads
+    counted (g.R.Read.remaining c.args.reader.now) (g.R.Read.remaining c.fill.new.reader) (length old) front
+    (λ said. Reads said c.take_rows.result (room_at c.take_rows.new.self) good (rows_of (maps_of c.take_rows.new.self)) (g.R.Read.remaining c.take_rows.new.reader))
+    c.in-Ok.count came (ap (λ n. shares_said n front) (sym c.servers.ensures.servers) ∙ sym c.in-Ok.ensures) c.take_rows.ensures.reads
 
 pub returns-in-Err-clause-reads : goal.returns-in-Err-clause-reads
 returns-in-Err-clause-reads g c =
-    let stores = c.args.self.now.stores in
-    let good = All g.S.Store.honest stores.items × (rows_of (map g.S.Store.shares stores.items) ≡ []) in
+    let old = c.args.self.now in
+    let good = IsHonest old × (rows_of (maps_of old) ≡ []) in
     let front = take c.in_ok-came.came c.fill.new.buffer in
     let came = front_of (g.R.Read.remaining c.args.reader.now) (g.R.Read.remaining c.fill.new.reader) 16 c.in_ok-came.came c.fill.new.buffer (search rules) c.in_ok-came.ensures.told in
-    bad_front (g.R.Read.remaining c.args.reader.now) (g.R.Read.remaining c.fill.new.reader) (g.R.Read.remaining c.fill.new.reader) (vec_len stores) front c.in-Err.place (at_server g.S.Store.room stores.items) good
-    (rows_of (map g.S.Store.shares stores.items)) (λ good. good.1) came (ap (λ n. shares_said n front) (sym c.len.ensures) ∙ sym c.in-Err.ensures)
+    bad_front (g.R.Read.remaining c.args.reader.now) (g.R.Read.remaining c.fill.new.reader) (g.R.Read.remaining c.fill.new.reader) (length old) front c.in-Err.place (room_at old) good
+    (rows_of (maps_of old)) (λ good. good.1) came (ap (λ n. shares_said n front) (sym c.servers.ensures.servers) ∙ sym c.in-Err.ensures)

@@ -1,0 +1,214 @@
+-- Lists, options and tests.
+use Rattle.std.proofs.Common.{◌≡◌, ◌⊎◌, inl, inr, ℕ, zero, suc, ◌+◌, ◌-◌, ◌<◌, ◌≤◌, length, take, List, [], ◌∷◌, ◌++◌, map, Bool, true, false, cond, Option, Some, None, refl, sym, ap, subst, ◌∙◌, arith, ⊎_elim}
+use Rattle.std.proofs.lemmas.List.{append-nil, take_at, length-take-le, get_or-take}
+use Rattle.std.specs.Prelude.{option_to_list, ◌||◌, filter, flat_map, Contains, All, AllPairs, IfSome, ◌≢◌, nat_eq}
+use Rattle.std.specs.List.{range_with_len, filter_map, cons_option}
+use Rattle.std.specs.Bool.{Decides}
+use Rattle.std.specs.Cmp.Lexicographic.{pointwise, bytes_decides}
+use Rattle.std.proofs.lemmas.List.Elements.{Contains-append_left, Contains-append_right, All-nil, All-cons, filter_map-append}
+use Rattle.std.proofs.lemmas.Slice.Eq.{slice_eq-Decides}
+
+pub true_or_false : (b : Bool) (P : Type 0) → (b ≡ true → P) → (b ≡ false → P) → P
+true_or_false true P first second = first refl
+true_or_false false P first second = second refl
+
+pub or_first : (a b : Bool) → a ≡ true → (a || b) ≡ true
+or_first true b e = refl
+or_first false b e = cc
+
+pub or_second : (a b : Bool) → b ≡ true → (a || b) ≡ true
+or_second true b e = refl
+or_second false b e = e
+
+pub or_false : (a : Bool) → (a || false) ≡ a
+or_false true = refl
+or_false false = refl
+
+-- ---- equal lists
+
+pub same_bytes : (xs ys : List ℕ) → pointwise nat_eq xs ys ≡ true → xs ≡ ys
+same_bytes xs ys = (bytes_decides xs ys).0
+
+pub bytes_same : (xs ys : List ℕ) → xs ≡ ys → pointwise nat_eq xs ys ≡ true
+bytes_same xs ys = (bytes_decides xs ys).1
+
+lists_decide : (xs ys : List ℕ) → Decides (pointwise nat_eq xs ys) (xs ≡ ys)
+lists_decide xs ys = bytes_decides xs ys
+
+pub same_lists : (xs ys : List (List ℕ)) → pointwise (pointwise nat_eq) xs ys ≡ true → xs ≡ ys
+same_lists xs ys = (slice_eq-Decides lists_decide xs ys (pointwise (pointwise nat_eq) xs ys) refl).0
+
+pub lists_same : (xs ys : List (List ℕ)) → xs ≡ ys → pointwise (pointwise nat_eq) xs ys ≡ true
+lists_same xs ys = (slice_eq-Decides lists_decide xs ys (pointwise (pointwise nat_eq) xs ys) refl).1
+
+-- ---- members
+
+module _ {X : Type 0} where
+  pub Contains-here : (x : X) (xs : List X) → Contains (x ∷ xs) x
+  Contains-here x xs = (0, grind arith, refl)
+
+  pub Contains-there : (y : X) (xs : List X) (x : X) → Contains xs x → Contains (y ∷ xs) x
+  Contains-there y xs x there = Contains-append_right (y ∷ []) xs x there
+
+  pub Contains-cons_cases : (y : X) (xs : List X) (x : X) → Contains (y ∷ xs) x → Contains xs x ⊎ (y ≡ x)
+  Contains-cons_cases y xs x (zero, below, is) = inr is
+  Contains-cons_cases y xs x (suc k, below, is) = inl (k, grind arith, is)
+
+module _ {X Y : Type 0} where
+  pub Contains-flat_map : (f : X → List Y) (xs : List X) (x : X) (y : Y) → Contains xs x → Contains (f x) y → Contains (flat_map f xs) y
+  Contains-flat_map f [] x y (k, below, is) here = grind arith
+  Contains-flat_map f (z ∷ xs) x y there here =
+      ⊎_elim
+      (λ more. Contains-append_right (f z) (flat_map f xs) y (Contains-flat_map f xs x y more here))
+      (λ same. Contains-append_left (f z) (flat_map f xs) y (subst (λ q. Contains (f q) y) (sym same) here))
+      (Contains-cons_cases z xs x there)
+
+pub Contains-range : (a n i : ℕ) → a ≤ i → i < a + n → Contains (range_with_len a n) i
+Contains-range a zero i low high = absurd (omega arith)
+Contains-range a (suc n) i low high =
+    ⊎_elim
+    (λ same. subst (λ j. Contains (range_with_len a (suc n)) j) same (Contains-here a (range_with_len (a + 1) n)))
+    (λ later. Contains-there a (range_with_len (a + 1) n) i (Contains-range (a + 1) n i later (omega arith)))
+    (split a i low)
+  where
+    split : (a i : ℕ) → a ≤ i → (a ≡ i) ⊎ (a + 1 ≤ i)
+    split a i low = grind arith
+
+pub All-range : (P : ℕ → Type 0) (a n : ℕ) → ((i : ℕ) → a ≤ i → i < a + n → P i) → All P (range_with_len a n)
+All-range P a zero each = All-nil P
+All-range P a (suc n) each =
+    All-cons P a (range_with_len (a + 1) n) (each a (omega arith) (omega arith)) (All-range P (a + 1) n (λ i low high. each i (omega arith) (omega arith)))
+
+cons_all : {X : Type 0} (P : X → Type 0) (o : Option X) (xs : List X) → IfSome o P → All P xs → All P (cons_option o xs)
+cons_all P None xs is all = all
+cons_all P (Some x) xs is all = All-cons P x xs is all
+
+pub All-filter_map : {X Y : Type 0} (P : Y → Type 0) (f : X → Option Y) (xs : List X) → ((x : X) → IfSome (f x) P) → All P (filter_map f xs)
+All-filter_map P f [] each = All-nil P
+All-filter_map P f (x ∷ xs) each = cons_all P (f x) (filter_map f xs) (each x) (All-filter_map P f xs each)
+
+-- ---- numbers that rise are apart
+
+abbrev pub AllAbove : ℕ → List ℕ → Type 0
+AllAbove a xs = All (λ x. a ≤ x) xs
+
+above_next : (a : ℕ) (xs : List ℕ) → AllAbove (a + 1) xs → AllAbove a xs
+above_next a xs above k d below = let h = above k d below in omega arith
+
+above_filtered : (p : ℕ → Bool) (a n : ℕ) → AllAbove a (filter p (range_with_len a n))
+above_filtered p a zero = All-nil (λ x. a ≤ x)
+above_filtered p a (suc n) =
+    let rest : AllAbove a (filter p (range_with_len (a + 1) n)) = above_next a _ (above_filtered p (a + 1) n) in
+    true_or_false (p a) _
+    (λ yes. subst (λ b. AllAbove a (cond b (a ∷ filter p (range_with_len (a + 1) n)) (filter p (range_with_len (a + 1) n)))) (sym yes)
+    (All-cons (λ x. a ≤ x) a (filter p (range_with_len (a + 1) n)) (omega arith) rest))
+    (λ no. subst (λ b. AllAbove a (cond b (a ∷ filter p (range_with_len (a + 1) n)) (filter p (range_with_len (a + 1) n)))) (sym no) rest)
+
+pairs_cons : (a : ℕ) (xs : List ℕ) → AllAbove (a + 1) xs → AllPairs (λ x y. x ≢ y) xs → AllPairs (λ x y. x ≢ y) (a ∷ xs)
+pairs_cons a xs above apart zero zero d lt below = absurd (omega arith)
+pairs_cons a xs above apart zero (suc j) d lt below = let h = above j d (omega arith) in λ e. omega arith
+pairs_cons a xs above apart (suc i) zero d lt below = absurd (omega arith)
+pairs_cons a xs above apart (suc i) (suc j) d lt below = apart i j d (omega arith) (omega arith)
+
+pub filtered_apart : (p : ℕ → Bool) (a n : ℕ) → AllPairs (λ x y. x ≢ y) (filter p (range_with_len a n))
+filtered_apart p a zero = λ i j d lt below. absurd (omega arith)
+filtered_apart p a (suc n) =
+    let rest = filtered_apart p (a + 1) n in
+    true_or_false (p a) _
+    (λ yes. subst (λ b. AllPairs (λ x y. x ≢ y) (cond b (a ∷ filter p (range_with_len (a + 1) n)) (filter p (range_with_len (a + 1) n)))) (sym yes)
+    (pairs_cons a (filter p (range_with_len (a + 1) n)) (above_filtered p (a + 1) n) rest))
+    (λ no. subst (λ b. AllPairs (λ x y. x ≢ y) (cond b (a ∷ filter p (range_with_len (a + 1) n)) (filter p (range_with_len (a + 1) n)))) (sym no) rest)
+
+-- ---- the first of them
+
+pub pairs_taken : (n : ℕ) (xs : List ℕ) → n ≤ length xs → AllPairs (λ x y. x ≢ y) xs → AllPairs (λ x y. x ≢ y) (take n xs)
+pairs_taken n xs fits apart i j d lt below e =
+    let inside : j < n = (let h = length-take-le n xs fits in omega arith) in
+    apart i j d lt (omega arith) (sym (get_or-take n xs i d (omega arith)) ∙ e ∙ get_or-take n xs j d inside)
+
+-- ---- ranges
+
+range_more : (a n : ℕ) → range_with_len a (suc n) ≡ range_with_len a n ++ (a + n) ∷ []
+range_more a zero = let e : a ≡ a + zero = omega arith in ap (λ k. k ∷ []) e
+range_more a (suc n) =
+    let e : a + 1 + n ≡ a + suc n = omega arith in
+    ap (λ ks. a ∷ ks) (range_more (a + 1) n ∙ ap (λ k. range_with_len (a + 1) n ++ k ∷ []) e)
+
+pub range_next : (n : ℕ) → range_with_len 0 (n + 1) ≡ range_with_len 0 n ++ n ∷ []
+range_next n =
+    let e : n + 1 ≡ suc n = omega arith in let f : 0 + n ≡ n = omega arith in
+    ap (range_with_len 0) e ∙ range_more 0 n ∙ ap (λ k. range_with_len 0 n ++ k ∷ []) f
+
+pub range_split : (a m n : ℕ) → range_with_len a (m + n) ≡ range_with_len a m ++ range_with_len (a + m) n
+range_split a zero n =
+    let e : zero + n ≡ n = omega arith in let g : a ≡ a + zero = omega arith in λ i. range_with_len (g i) (e i)
+range_split a (suc m) n =
+    let e : suc m + n ≡ suc (m + n) = omega arith in
+    let g : a + 1 + m ≡ a + suc m = omega arith in
+    ap (range_with_len a) e ∙ ap (λ ks. a ∷ ks) (range_split (a + 1) m n) ∙ ap (λ b. (a ∷ range_with_len (a + 1) m) ++ range_with_len b n) g
+
+-- what is equal below a bound gives equal lists
+pub mapped_alike : {X : Type 0} (f g : ℕ → X) (bound a n : ℕ) → a + n ≤ bound → ((i : ℕ) → i < bound → f i ≡ g i) → map f (range_with_len a n) ≡ map g (range_with_len a n)
+mapped_alike f g bound a zero fits each = refl
+mapped_alike f g bound a (suc n) fits each =
+    let here = each a (omega arith) in let more = mapped_alike f g bound (a + 1) n (omega arith) each in λ i. here i ∷ more i
+
+pub kept_alike : {X : Type 0} (f g : ℕ → Option X) (bound a n : ℕ) → a + n ≤ bound → ((i : ℕ) → i < bound → f i ≡ g i) → filter_map f (range_with_len a n) ≡ filter_map g (range_with_len a n)
+kept_alike f g bound a zero fits each = refl
+kept_alike f g bound a (suc n) fits each =
+    let here = each a (omega arith) in let more = kept_alike f g bound (a + 1) n (omega arith) each in λ i. cons_option (here i) (more i)
+
+-- what is kept of some numbers and is made of the number is made of those numbers
+cons_kept : {Y : Type 0} (f : ℕ → Y) (a : ℕ) (b : Bool) (rest : List ℕ) → cons_option (cond b (Some (f a)) None) (map f rest) ≡ map f (cond b (a ∷ rest) rest)
+cons_kept f a true rest = refl
+cons_kept f a false rest = refl
+
+pub kept_range : {Y : Type 0} (f : ℕ → Y) (t : ℕ → Bool) (ns : List ℕ) → filter_map (λ i. cond (t i) (Some (f i)) None) ns ≡ map f (filter t ns)
+kept_range f t [] = refl
+kept_range f t (a ∷ ns) = ap (cons_option (cond (t a) (Some (f a)) None)) (kept_range f t ns) ∙ cons_kept f a (t a) (filter t ns)
+
+pub flat_alike : {X : Type 0} (f g : ℕ → List X) (bound a n : ℕ) → a + n ≤ bound → ((i : ℕ) → i < bound → f i ≡ g i) → flat_map f (range_with_len a n) ≡ flat_map g (range_with_len a n)
+flat_alike f g bound a zero fits each = refl
+flat_alike f g bound a (suc n) fits each =
+    let here = each a (omega arith) in let more = flat_alike f g bound (a + 1) n (omega arith) each in λ i. here i ++ more i
+
+pub filter_alike : (f g : ℕ → Bool) (bound a n : ℕ) → a + n ≤ bound → ((i : ℕ) → i < bound → f i ≡ g i) → filter f (range_with_len a n) ≡ filter g (range_with_len a n)
+filter_alike f g bound a zero fits each = refl
+filter_alike f g bound a (suc n) fits each =
+    let here = each a (omega arith) in let more = filter_alike f g bound (a + 1) n (omega arith) each in λ i. cond (here i) (a ∷ more i) (more i)
+
+-- ---- one number more
+
+pub cons_alone : {X : Type 0} (o : Option X) → cons_option o [] ≡ option_to_list o
+cons_alone None = refl
+cons_alone (Some x) = refl
+
+module _ {X : Type 0} (f : ℕ → Option X) where
+  pub one_more : (n : ℕ) → filter_map f (range_with_len 0 (n + 1)) ≡ filter_map f (range_with_len 0 n) ++ option_to_list (f n)
+  one_more n =
+      ap (filter_map f) (range_next n) ∙ filter_map-append f (range_with_len 0 n) (n ∷ [])
+      ∙ ap (λ ys. filter_map f (range_with_len 0 n) ++ ys) (cons_alone (f n))
+
+  -- where k stand below some number they are the first k of all
+  pub enough_below : (k m n : ℕ) → m ≤ n → length (filter_map f (range_with_len 0 m)) ≡ k → filter_map f (range_with_len 0 m) ≡ take k (filter_map f (range_with_len 0 n))
+  enough_below k m n fits many =
+      let e : n ≡ m + (n - m) = omega arith in
+      sym (ap (λ j. take k (filter_map f (range_with_len 0 j))) e
+      ∙ ap (λ ns. take k (filter_map f ns)) (range_split 0 m (n - m))
+      ∙ ap (take k) (filter_map-append f (range_with_len 0 m) (range_with_len (0 + m) (n - m)))
+      ∙ take_at (filter_map f (range_with_len 0 m)) (filter_map f (range_with_len (0 + m) (n - m))) k many)
+
+  none_from : (a n : ℕ) → ((i : ℕ) → a ≤ i → f i ≡ None) → filter_map f (range_with_len a n) ≡ []
+  none_from a zero none = refl
+  none_from a (suc n) none =
+      ap (λ o. cons_option o (filter_map f (range_with_len (a + 1) n))) (none a (omega arith)) ∙ none_from (a + 1) n (λ i past. none i (omega arith))
+
+  -- where there is nothing from some number on, no more are looked at
+  pub none_past : (m n : ℕ) → m ≤ n → ((i : ℕ) → m ≤ i → f i ≡ None) → filter_map f (range_with_len 0 n) ≡ filter_map f (range_with_len 0 m)
+  none_past m n fits none =
+      let e : n ≡ m + (n - m) = omega arith in
+      ap (λ j. filter_map f (range_with_len 0 j)) e
+      ∙ ap (filter_map f) (range_split 0 m (n - m))
+      ∙ filter_map-append f (range_with_len 0 m) (range_with_len (0 + m) (n - m))
+      ∙ ap (λ ys. filter_map f (range_with_len 0 m) ++ ys) (none_from (0 + m) (n - m) (λ i past. none i (omega arith)))
+      ∙ append-nil (filter_map f (range_with_len 0 m))

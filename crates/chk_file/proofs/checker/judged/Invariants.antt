@@ -1,0 +1,10 @@
+use Rattle.std.proofs.Common.{◌≡◌, ◌≤◌, length}
+use Rattle.chk_file.specs.Gathered.{good_below, bad_below}
+use Rattle.chk_file.proofs.checker.judged.Given as goal
+
+abbrev pub invariant-loop-number : goal.invariant-loop-number
+invariant-loop-number l = record {
+  count : l.count ≡ length (good_below l.params l.ueb l.rows l.number);
+  few : l.count ≤ l.number;
+  corrupt : l.corrupt.items ≡ bad_below l.params l.ueb l.rows l.number;
+}

@@ -1,0 +1,7 @@
+use Rattle.std.proofs.Common.{◌≡◌, take, None}
+use Rattle.chk_file.specs.Row.{first_good}
+use Rattle.chk_file.specs.Gathered.{places_of}
+use Rattle.chk_file.proofs.chosen.first_good.Given as goal
+
+abbrev pub invariant-loop-bytes : goal.invariant-loop-bytes
+invariant-loop-bytes l = first_good l.params l.ueb l.number (places_of (take l.bytes-index l.places)) ≡ None

@@ -1,0 +1,15 @@
+pub mod Numbers
+pub mod Upload
+pub mod Uses
+pub mod Row
+pub mod Check
+pub mod Gathered
+pub mod Taken
+pub mod Fit
+pub mod IsFit
+pub mod Bound
+pub mod Marks
+pub mod World
+pub mod Held
+pub mod Look
+pub mod Sound

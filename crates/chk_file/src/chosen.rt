@@ -1,0 +1,80 @@
+//! Which of the shares that were gathered are read.
+ghost use Rattle.std.specs.Prelude.{◌≡◌, ◌↔◌, length, take, IfOk, IsTrue};
+ghost use Rattle.share_codec.specs.GoodShare.{good_share};
+ghost use Rattle.chk_file.specs.Row.{first_good};
+ghost use Rattle.chk_file.specs.Gathered.{places_of, good_below};
+
+use crate::rows::Rows;
+use share_codec::{Params, Share, ShareFault, read_share};
+use std::alloc::{AllocError, Global};
+
+/// Of the good shares in the order of their numbers the first k, each from the first server that has one. What stands
+/// after these is not looked at.
+pub(crate) fn chosen<'a>(
+    alloc: Global,
+    rows: &Rows<'a>,
+    params: &Params,
+    ueb: &[u8; 32],
+) -> Result<Vec<Share<'a>>, AllocError>
+    requires { length rows.now ≡ params.now.n }
+    ensures { IfOk result (λ shares. shares.items
+        ≡ take params.now.k (good_below params.now ueb.now rows.now params.now.n)) }
+{
+    let mut shares = Vec::new(alloc);
+    for number in 0..params.n {
+        if shares.len() == params.k as usize {
+            return Ok(shares);
+        }
+        if let Some(share) = first_good(alloc, rows.places(number), number, params, ueb)? {
+            shares.push(share)?;
+        }
+    }
+    Ok(shares)
+}
+
+/// The good share of a number, from the first server that has one.
+fn first_good<'a>(
+    alloc: Global,
+    places: &[(usize, &'a [u8])],
+    number: u16,
+    params: &Params,
+    ueb: &[u8; 32],
+) -> Result<Option<Share<'a>>, AllocError>
+    ensures { IfOk result (λ share. share ≡ first_good params.now ueb.now number (places_of places.now)) }
+{
+    for (_, bytes) in places {
+        if let Some(share) = good(alloc, bytes, number, params, ueb)? {
+            return Ok(Some(share));
+        }
+    }
+    Ok(None)
+}
+
+/// What a string is as the share of a number, if it is a good one.
+pub(crate) fn good<'a>(
+    alloc: Global,
+    bytes: &'a [u8],
+    number: u16,
+    params: &Params,
+    ueb: &[u8; 32],
+) -> Result<Option<Share<'a>>, AllocError>
+    ensures { IfOk result (λ share. share ≡ good_share bytes.now number params.now ueb.now) }
+{
+    match read_share(alloc, bytes, number, params, ueb) {
+        Ok(share) => Ok(Some(share)),
+        Err(fault) => {
+            if is_out_of_memory(fault) {
+                Err(AllocError)
+            } else {
+                Ok(None)
+            }
+        }
+    }
+}
+
+/// Whether there was no memory to judge a share.
+fn is_out_of_memory(fault: ShareFault) -> bool
+    ensures { IsTrue result ↔ (fault ≡ ShareFault.NoMemory) }
+{
+    matches!(fault, ShareFault::NoMemory)
+}

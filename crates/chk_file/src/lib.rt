@@ -1,0 +1,40 @@
+//! Files that are stored in a grid: what an upload leaves there, what a read cap finds, and how healthy a file is.
+//!
+//! An upload of more than 55 bytes is encrypted under a key that its bytes and a secret give, cut into `n` shares of
+//! which any `k` give it back, and put under the storage index of the key (Tahoe-LAFS, file encoding). A read takes
+//! nothing on trust from the stores: it looks for `k` shares that the read cap tells to be good, and answers bytes that
+//! are bound to the cap, or none.
+#![tactic(auto)]
+
+/// Uploads.
+mod uploader;
+/// How bytes become a cap and shares.
+mod encode;
+/// Reading files.
+mod reader;
+/// What was gathered, number by number.
+mod rows;
+/// Which of the shares that were gathered are read.
+mod chosen;
+/// The crypttext that good shares are of.
+mod crypttext;
+/// Segments that are decoded.
+mod segment;
+/// Bytes under a key.
+mod cipher;
+/// Checking files.
+mod checker;
+/// How healthy a file is.
+mod health;
+/// Why a file isn't read.
+mod fault;
+/// Laws of the definitions.
+pub mod laws;
+#[cfg(test)]
+mod tests;
+
+pub use checker::check;
+pub use fault::ReadFault;
+pub use health::Health;
+pub use reader::read;
+pub use uploader::upload;

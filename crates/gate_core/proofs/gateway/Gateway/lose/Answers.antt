@@ -1,0 +1,9 @@
+use Rattle.std.specs.FinMap as map
+use Rattle.gate_core.proofs.Arrivals.{lost_came, refused_came}
+use Rattle.gate_core.proofs.gateway.Gateway.lose.Goals as goal
+
+pub returns-clause-came : goal.returns-clause-came
+returns-clause-came g c = lost_came c.self.inside.parameters (map.from_entries c.self.inside.connections.entries) c.self.inside.grid c.lose.new.self c.args.self.now c.self.view_is c.lose.ensures.leaves c.came_goes_on.ensures.lost c.args.server (c.args.index, c.args.number) c.lose.result c.lose.ensures.ok
+
+pub returns-clause-refused : goal.returns-clause-refused
+returns-clause-refused g c = refused_came c.self.inside.parameters (map.from_entries c.self.inside.connections.entries) c.self.inside.grid c.lose.new.self c.args.self.now c.self.view_is c.lose.ensures.leaves c.came_goes_on.ensures.unchanged c.lose.result c.lose.ensures.err

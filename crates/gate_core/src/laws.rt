@@ -1,0 +1,108 @@
+//! Laws of the definitions, each on a function that does nothing.
+ghost use Rattle.std.specs.Prelude.{◌≡◌, ◌++◌, ◌∷◌, ℕ, List, [], Bool, true, filter, length, take, Some, None};
+ghost use Rattle.std.specs.FinMap as map;
+ghost use Rattle.gate_core.specs.declared.stage.Stage.TheVariants.{Open as OpenStage};
+ghost use Rattle.share_store.specs.Shares.{ShareKey};
+ghost use Rattle.grid.specs.GridState.{GridState, stood, IsHonest, NoneFailed};
+ghost use Rattle.grid.specs.Leaves.{Leaves, IsUnchanged};
+ghost use Rattle.grid.specs.Changed.{IsLost, IsSpoiled};
+ghost use Rattle.chk_file.specs.Marks.{shown};
+ghost use Rattle.chk_file.specs.World.{World};
+ghost use Rattle.chk_file.specs.Look.{by_fit};
+ghost use Rattle.gate_core.specs.Settings.{Settings};
+ghost use Rattle.gate_core.specs.Events.{Event, Open, Bytes, End, Take, Lose, Spoil, handed};
+ghost use Rattle.gate_core.specs.Items.{Entry, items};
+ghost use Rattle.gate_core.specs.Runs.{world_after, said_by, said};
+ghost use Rattle.gate_core.specs.Reach.{keeps, kept_by, reach, kept, only};
+ghost use Rattle.gate_core.specs.Agrees.{Agrees};
+ghost use Rattle.gate_core.specs.Held.{Held, State, held_at, waiting};
+ghost use Rattle.gate_core.specs.Lefts.{with_held, with_grid, opened, taken, ended};
+ghost use Rattle.gate_core.specs.Came.{Opening, Came, IsRoomy, Starts};
+ghost use Rattle.gate_core.specs.Served.{IsReceived};
+
+/// Where nothing was called yet, and honest stores show what stands in a world.
+pub fn came_begins()
+    ensures { (w : World) (g : State) → g.connections ≡ map.empty →
+        length g.grid ≡ g.settings.servers →
+        stood g.grid ≡ shown w.marks → Starts w g }
+{}
+
+/// Stores that have the room for what calls bring have it for what the first of them bring.
+pub fn beginnings_have_room()
+    ensures { (settings : Settings) (opening : Opening) (events more : List Event) →
+        IsRoomy settings opening (events ++ more) → IsRoomy settings opening events }
+{}
+
+/// Items of others leave no trace in what a caller is told, but for uploads under a storage index that it met.
+pub fn items_are_local()
+    // before each item the whole run and that of the kept items agree on what was met
+    ensures before { (settings : Settings) (callers : ℕ →
+        Bool) (w : World) (before more : List Entry) →
+        let reached = reach settings callers w (before ++ more) in
+        Agrees reached (world_after settings w before)
+        (world_after settings w (filter (keeps settings callers reached) before)) }
+    ensures said { (settings : Settings) (callers : ℕ →
+        Bool) (caller : ℕ) (w : World) (entries : List Entry) → callers caller ≡ true →
+        said settings caller w (kept settings callers w entries) ≡ said settings caller w entries }
+    // by verification alone: no string need be apart from any other
+    ensures verified { (settings : Settings) (callers : ℕ →
+        Bool) (caller : ℕ) (w : World) (entries : List Entry) → callers caller ≡ true →
+        said_by by_fit settings caller w (kept_by by_fit settings callers w entries)
+        ≡ said_by by_fit settings caller w entries }
+{
+    chk_file::laws::changes_are_local();
+}
+
+/// What a caller was handed and what waits for it is what the answers by verification say when the items of others are
+/// dropped, but for uploads under a storage index that it met. No hash needs to be free of collisions.
+pub fn verified_isolation()
+    ensures whole { (opening : Opening) (g : State) (events : List Event) (caller : ℕ) →
+        Came opening g events →
+        handed caller events ++ waiting g caller
+        ≡ said_by by_fit g.settings caller opening.world (items events) }
+    ensures apart { (opening : Opening) (g : State) (events : List Event) (caller : ℕ) →
+        Came opening g events →
+        handed caller events ++ waiting g caller
+        ≡ said_by by_fit g.settings caller opening.world (kept_by by_fit g.settings
+        (only caller) opening.world (items events)) }
+{
+    chk_file::laws::changes_are_local();
+}
+
+/// What a call leaves came from the calls before it and this one.
+pub fn came_goes_on()
+    ensures opened { (opening : Opening) (g : State) (events : List Event) (id : ℕ) →
+        Came opening g events →
+        held_at g id ≡ None → Came opening (with_held g id opened) (events ++ Open id ∷ []) }
+    ensures taken { (opening : Opening) (g : State) (events : List Event) (id max : ℕ)
+        (held : Held) → Came opening g events →
+        held_at g id ≡ Some held →
+        Came opening (with_held g id (taken max held)) (events ++ Take id
+        (take max held.waiting) ∷ []) }
+    ensures ended { (opening : Opening) (g : State) (events : List Event) (id : ℕ) (held : Held) →
+        Came opening g events →
+        held_at g id ≡ Some held →
+        Came opening (with_held g id (ended held)) (events ++ End id ∷ []) }
+    ensures received { (opening : Opening) (g h : State) (events : List Event) (id : ℕ)
+        (held : Held) (piece : List ℕ) → Came opening g events →
+        held_at g id ≡ Some held → held.stage ≡ OpenStage → IsReceived g h id held piece →
+        IsRoomy g.settings opening (events ++ Bytes id piece ∷ []) → NoneFailed g.grid h.grid →
+        Came opening h (events ++ Bytes id piece ∷ []) }
+    ensures lost { (opening : Opening) (g : State) (events : List Event) (server : ℕ)
+        (key : ShareKey) (grid : GridState) → Came opening g events →
+        Leaves g.grid grid → (IsHonest g.grid → IsLost server key g.grid grid) →
+        Came opening (with_grid g grid) (events ++ Lose server key ∷ []) }
+    ensures spoiled { (opening : Opening) (g : State) (events : List Event) (server : ℕ)
+        (key : ShareKey) (place : ℕ) (grid : GridState) → Came opening g events →
+        Leaves g.grid grid → (IsHonest g.grid → IsSpoiled server key place g.grid grid) →
+        Came opening (with_grid g grid) (events ++ Spoil server key place ∷ []) }
+    // A call that leaves what stands leaves it so.
+    ensures unchanged { (opening : Opening) (g : State) (events : List Event) (grid : GridState) →
+        Came opening g events →
+        Leaves g.grid grid → (IsHonest g.grid → IsUnchanged g.grid grid) →
+        Came opening (with_grid g grid) events }
+{
+    http_edge::laws::pieces_join();
+    http_edge::laws::left_over();
+    chk_file::laws::marks_follow_the_grid();
+}

@@ -1,0 +1,128 @@
+-- Which replies commands get, by what was called before.
+use Rattle.std.specs.Prelude.{◌≡◌, ℕ, ◌&&◌, not, nat_le, nat_lt, ◌⊎◌, List, [], ◌∷◌, ◌++◌, length, take, drop, ⊤, Bool, true, false, is_some, unwrap_or, if◌then◌else◌}
+use Rattle.grid.specs.declared.fault.GridFault.{GridFault}
+use Rattle.grid.specs.declared.fault.GridFault.TheVariants.{NoServer}
+use Rattle.chk_file.specs.Marks.{shown}
+use Rattle.chk_file.specs.World.{World, empty}
+use Rattle.chk_file.specs.Look.{by_fit}
+use Rattle.gate_core.specs.Settings.{Settings}
+use Rattle.gate_core.specs.Events.{Event, Open, Bytes, End, Take, Lose, Spoil, is_known, has_ended, handed}
+use Rattle.gate_core.specs.Items.{items}
+use Rattle.gate_core.specs.Runs.{world_after, said_by}
+use Rattle.gate_core.specs.Came.{Opening, IsRoomy}
+use Rattle.gate_core.specs.declared.fault.GatewayFault.TheVariants.{Known, NotOpen, BadParameters}
+use Rattle.gate_main.specs.declared.command.Command.{Command}
+use Rattle.gate_main.specs.declared.command.Command.TheVariants as command
+use Rattle.gate_main.specs.declared.command.Grid.{Grid}
+use Rattle.gate_main.specs.declared.command.Share.{Share}
+use Rattle.gate_main.specs.declared.reply.Reply.{Reply}
+use Rattle.gate_main.specs.declared.reply.Reply.TheVariants.{Done, Refused, GridRefused, Given, Imaged, Answered}
+use Rattle.gate_main.specs.Script.{Step, is_restore}
+
+-- ---- a run
+
+-- what the line `grid` sets a gateway up with
+abbrev pub settings_by : Grid → Settings
+settings_by grid = record { k = grid.k; n = grid.n; secret = grid.secret; servers = grid.servers }
+
+-- a gateway has these parameters
+abbrev pub are_parameters : Grid → Bool
+are_parameters grid = nat_le 1 grid.k && nat_le grid.k grid.n && nat_le grid.n 256 && nat_le 1 grid.servers && nat_le grid.servers 256 && nat_le (length grid.secret) 256
+
+-- what stands at first: nothing, and each store has ROOM
+abbrev pub room_of : Grid → ℕ → ℕ
+room_of grid server = if nat_lt server grid.servers then grid.room else 0
+
+abbrev pub opening_by : Grid → Opening
+opening_by grid = record { world = empty; rooms = room_of grid }
+
+-- the stores have the room for what these calls bring
+abbrev pub IsCalm : Grid → List Event → Type 0
+IsCalm grid events = IsRoomy (settings_by grid) (opening_by grid) events
+
+-- what stands after these calls
+abbrev pub world_by : Grid → List Event → World
+world_by grid events = world_after (settings_by grid) empty (items events)
+
+-- ---- replies
+
+-- a connection was opened, and its end did not come
+abbrev pub is_going : ℕ → List Event → Bool
+is_going id events = is_known id events && not (has_ended id events)
+
+-- what a caller is to be told and was not given yet
+abbrev pub unsaid : Grid → ℕ → List Event → List ℕ
+unsaid grid id events = drop (length (handed id events)) (said_by by_fit (settings_by grid) id empty (items events))
+
+-- at a server that there is
+abbrev pub at_server : Grid → ℕ → Bool → Reply
+at_server grid server answer = if nat_lt server grid.servers then Answered answer else GridRefused NoServer
+
+-- an image, or why it can't be written
+abbrev pub IsImageReply : Reply → Type 0
+IsImageReply reply = ((bytes : List ℕ) × (reply ≡ Imaged bytes)) ⊎ ((fault : GridFault) × (reply ≡ GridRefused fault))
+
+-- the reply to a command after these calls
+abbrev pub IsReply : Grid → List Event → Command → Reply → Type 0
+IsReply grid events (command.Grid other) reply = ⊥
+IsReply grid events (command.Restore image) reply = ⊥
+IsReply grid events (command.Open id) reply = reply ≡ (if is_known id events then Refused Known else Done)
+IsReply grid events (command.Bytes id piece) reply = reply ≡ (if is_going id events then Done else Refused NotOpen)
+IsReply grid events (command.End id) reply = reply ≡ (if is_going id events then Done else Refused NotOpen)
+IsReply grid events (command.Take id most) reply = reply ≡ (if is_known id events then Given (take most (unsaid grid id events)) else Refused NotOpen)
+IsReply grid events (command.Lose share) reply =
+    reply ≡ at_server grid share.server (is_some (shown (world_by grid events).marks share.server (share.index, share.number)))
+IsReply grid events (command.Spoil share place) reply =
+    reply ≡ at_server grid share.server (nat_lt place (length (unwrap_or (shown (world_by grid events).marks share.server (share.index, share.number)) [])))
+IsReply grid events command.Image reply = IsImageReply reply
+
+-- the call of a command that gave these bytes
+abbrev pub event_of : Command → List ℕ → List Event
+event_of (command.Grid grid) given = []
+event_of (command.Restore image) given = []
+event_of (command.Open id) given = Open id ∷ []
+event_of (command.Bytes id piece) given = Bytes id piece ∷ []
+event_of (command.End id) given = End id ∷ []
+event_of (command.Take id most) given = Take id given ∷ []
+event_of (command.Lose share) given = Lose share.server (share.index, share.number) ∷ []
+event_of (command.Spoil share place) given = Spoil share.server (share.index, share.number) place ∷ []
+event_of command.Image given = []
+
+-- the call of a step: a refused one is none
+abbrev pub event_by : Command → Reply → List Event
+event_by asked Done = event_of asked []
+event_by asked (Refused fault) = []
+event_by asked (GridRefused fault) = []
+event_by asked (Given given) = event_of asked given
+event_by asked (Imaged image) = []
+event_by asked (Answered answer) = event_of asked []
+
+abbrev pub events_of : List Step → List Event
+events_of [] = []
+events_of (step ∷ log) = event_by step.command step.reply ++ events_of log
+
+-- each step, after these calls, is answered as the calls so far say
+abbrev pub AreReplies : Grid → List Event → List Step → Type 0
+AreReplies grid events [] = ⊤
+AreReplies grid events (step ∷ log) = IsReply grid events step.command step.reply × AreReplies grid (events ++ event_by step.command step.reply) log
+
+-- ---- all steps
+
+-- whether an image is restored
+abbrev pub restores : List Step → Bool
+restores [] = false
+restores (step ∷ log) = is_restore step.command
+
+-- After the line `grid` and its answer: where no image is restored and the stores have the room, the written answers decide.
+pub record IsToldAfter (grid : Grid) (reply : Reply) (log : List Step) : Type 0 where
+  pub made : reply ≡ (if are_parameters grid then Done else Refused BadParameters)
+  pub calm : restores log ≡ false → IsCalm grid (events_of log) → AreReplies grid [] log
+
+abbrev pub IsToldFrom : Command → Reply → List Step → Type 0
+IsToldFrom (command.Grid grid) reply log = IsToldAfter grid reply log
+IsToldFrom _ reply log = ⊥
+
+-- the steps of a run, of which the first is `grid`
+abbrev pub IsTold : List Step → Type 0
+IsTold [] = ⊤
+IsTold (step ∷ log) = IsToldFrom step.command step.reply log

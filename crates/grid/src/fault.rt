@@ -1,0 +1,80 @@
+//! Why a grid refuses.
+ghost use Rattle.std.specs.Prelude.{◌≡◌};
+ghost use Rattle.grid.specs.StoreAnswers.{answer_of as answer_said};
+
+use octets::WriteFault;
+use share_store::StoreFault;
+use std::alloc::{AllocError, AllocFailed};
+use thiserror::Error;
+
+/// Why a call of a grid was refused. A server is given by its place among the stores, from 0.
+#[derive(Clone, Copy, Debug, PartialEq, Eq, Error)]
+pub enum GridFault {
+    /// A share is longer than the room of this server's store, and none stands in its place.
+    #[error("the store of server {0} is full")]
+    Full(usize),
+    /// This server's store failed in the call.
+    #[error("the store of server {0} is down")]
+    Down(usize),
+    /// There is no such server.
+    #[error("there is no such server")]
+    NoServer,
+    /// The image has its first fault at this place, counted in bytes from 0; or an image can't hold what stands, and
+    /// the field at this place is the first whose range is passed.
+    #[error("the image has a fault at byte {0}")]
+    BadImage(u64),
+    /// The reader failed, or was asked too often.
+    #[error("the image could not be read")]
+    ReadFailed,
+    /// The writer failed, took no byte, or was asked too often.
+    #[error("the image could not be written")]
+    WriteFailed,
+    /// There was no memory for the call.
+    #[error("out of memory")]
+    NoMemory,
+}
+
+impl From<WriteFault> for GridFault {
+    ghost use Rattle.std.specs.Prelude.{◌≡◌};
+    ghost use Rattle.grid.specs.declared.fault.GridFault.TheVariants.{WriteFailed};
+
+    ghost from_gives = { λ _ e. e ≡ WriteFailed };
+
+    fn from(_: WriteFault) -> Self {
+        GridFault::WriteFailed
+    }
+}
+
+impl From<AllocError> for GridFault {
+    ghost use Rattle.std.specs.Prelude.{◌≡◌};
+    ghost use Rattle.grid.specs.declared.fault.GridFault.TheVariants.{NoMemory};
+
+    ghost from_gives = { λ _ e. e ≡ NoMemory };
+
+    fn from(_: AllocError) -> Self {
+        GridFault::NoMemory
+    }
+}
+
+impl<T: Drop> From<AllocFailed<T>> for GridFault {
+    ghost use Rattle.std.specs.Prelude.{◌≡◌};
+    ghost use Rattle.grid.specs.declared.fault.GridFault.TheVariants.{NoMemory};
+
+    ghost from_gives = { λ _ e. e ≡ NoMemory };
+
+    fn from(_: AllocFailed<T>) -> Self {
+        GridFault::NoMemory
+    }
+}
+
+/// A store's answer as the grid's, where a refusal names the server.
+pub fn answer_of<T: Drop>(server: usize, answer: Result<T, StoreFault>) -> Result<T, GridFault>
+    ensures { result ≡ answer_said server answer }
+{
+    match answer {
+        Ok(value) => Ok(value),
+        Err(StoreFault::Full) => Err(GridFault::Full(server)),
+        Err(StoreFault::Down) => Err(GridFault::Down(server)),
+        Err(StoreFault::NoMemory) => Err(GridFault::NoMemory),
+    }
+}

@@ -1,0 +1,4 @@
+pub mod Sharing
+pub mod Decimal
+pub mod Cut
+pub mod Written

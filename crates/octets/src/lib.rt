@@ -1,0 +1,27 @@
+//! Bytes and the small things that every layer does with them: owned bytes, decimal numbers, cutting at a byte, writing
+//! whole, and the one test of how many shares are enough of how many.
+#![tactic(auto)]
+
+/// Owned bytes.
+mod bytes;
+/// Cutting at a byte.
+mod cut;
+/// Decimal numbers.
+mod number;
+/// How many shares are enough of how many.
+mod sharing;
+/// Writing whole.
+mod writing;
+/// Why not all was written.
+mod fault;
+/// What holds of the definitions.
+pub mod laws;
+#[cfg(test)]
+mod tests;
+
+pub use bytes::Bytes;
+pub use cut::split_at_byte;
+pub use fault::WriteFault;
+pub use number::read_number;
+pub use sharing::is_sharing;
+pub use writing::write_whole;

@@ -1,0 +1,179 @@
+//! Tagged hashes that Python's hashlib made, in hexadecimal. Byte `i` of value `j` is `7 i + 31 j + 1` modulo 256.
+
+/// Under the tag `webgate_block_v1`: how many bytes the values 0 to 3 have, and their hashes.
+pub static HASHES_BY_LENGTH: [(usize, [&str; 4]); 10] = [
+    (
+        0,
+        [
+            "5314f5e62ee1b5fac52d44f6bcdfaefb7bada0ef02e36036c060b1c8b5847328",
+            "5314f5e62ee1b5fac52d44f6bcdfaefb7bada0ef02e36036c060b1c8b5847328",
+            "5314f5e62ee1b5fac52d44f6bcdfaefb7bada0ef02e36036c060b1c8b5847328",
+            "5314f5e62ee1b5fac52d44f6bcdfaefb7bada0ef02e36036c060b1c8b5847328",
+        ],
+    ),
+    (
+        1,
+        [
+            "e724562f3468d4c68fb4dacef38e1e21e6a2db237593e11e7c3f27b8cded3da9",
+            "99e2ed200b604693dc95e85b1e94fd630fbf9c7d64cd055fa020e1651b05eeb3",
+            "7644019dc372f1bf42ab6400bcbf9110e3fe24c42d7e912a5afd405cc477204e",
+            "6d7ae4f826f6a1d8a495328ff1580b15ea0c3fa810cbf8d00250cb004f4da021",
+        ],
+    ),
+    (
+        55,
+        [
+            "01f61a1941bf891be533fa96cab6374366f53db5a6f3b93fe5581cbad501b0f0",
+            "18ae6a015f0eb89a390f304b08ef9ec2a4f2f703e5872b847851e28a5dc2641c",
+            "31b856bc45b585573400e69fe101fcc7f6be362859eac13796b1300e4f749e17",
+            "789041bc82f5332e61fd005ac57960668a899f933c1a330f8b03f4562a227983",
+        ],
+    ),
+    (
+        56,
+        [
+            "76606e923716ce339f7fd98fcefd1746dc6643f758a31f16cacbdb35361694ef",
+            "ccc0a76562e6a2cdd1c4b663d305043837001cd1d6e8b5877c8a5ba18275713e",
+            "92f83462ea50956be2f3a795ea2ed7e36ea444ef7f7d3dd2a00984959adf3b1e",
+            "bd32abb62fad914f3f4d7a29ea8938be76016ce9b19150a49f856de6bb9b1901",
+        ],
+    ),
+    (
+        63,
+        [
+            "2c0ee32087287b78f6307c4dd455bd70cacecb6a20a4c112819fcc0736e5872e",
+            "2d685506e84db8fba751c4c8d93c4c48b726f2693b611a00195712168a26121d",
+            "57412aeab7d244c753af502a49b4379bd020e4e42879546d2324ac85dc768e11",
+            "2930f4cd936b08a94619ed6c2a29c9ecc721a81c385181b597ed47094d5fd766",
+        ],
+    ),
+    (
+        64,
+        [
+            "33c1707b549e1d94d8504f24a6a287df932a57015ae07c9a352baa2db0cab4ab",
+            "02aba0c143d5e704a0a5cbb7ad2f6732f95f994a97d8c5e1a22474371d242d40",
+            "601714ee6b53e4b67f163805249c0435d9c0528fb5d47fb52abdf033bb681b24",
+            "a8d74d0e984ea950666c3810b50898585c3b20526c0106b211be791a7c19347f",
+        ],
+    ),
+    (
+        65,
+        [
+            "9aa79ce8a70b68f2e618d7ba05ff9cf84a39988979ad06268e80589cf2b3fe68",
+            "681d91c1b9b9e6e5756776d43c3cd46ccfe4730847d016acd7b36236e267848c",
+            "9083be587cf6ce015f150edad43f6d81da4158a123c84291d62497e9713a0cf5",
+            "ebd020c33de4fca4caf4232ae5e24effaead25ed497048910c8baf9cd72c9074",
+        ],
+    ),
+    (
+        119,
+        [
+            "b09ffe5f9cbd57cb48ec46696c6a7e05ebc3c82a3d23ad8cb26d3a4dbe483d17",
+            "28c093560ac3f5c9c82d0dbca571f6a7f2b1ba0604735b2defa77d279f926fce",
+            "1d2c509b3fcec36e92759c6a290072ac42df286cbf28e71b0a224c98abbe7ed3",
+            "144b271692e83ce31afb536fe78fab270807b4ed4f661c0a178fae987c57de66",
+        ],
+    ),
+    (
+        120,
+        [
+            "176e850e46ac3b5f43172be8a357997919a6e35364c34126c452d970992351be",
+            "c366d54f289f8e931e8161ac3a2348ebf2c21d2a30d165341bd8d3ce3013eec6",
+            "12425404a79165a4413a39d28292ae819c047c995ff873760859efbec220826d",
+            "ea817c6e2e9d5e64a5fa8cc5db669032e9f1500b3603dabf2e49d83e9de912a6",
+        ],
+    ),
+    (
+        131073,
+        [
+            "14d065e19e963588aeb32d8e37f1ceb97ea7d911f3a6870617222bf8dcd31132",
+            "106f532f8daa91924cd6087fcf584912bf720b50eafc9270474c6f2925364ab3",
+            "d33eb80434d63f0fcd8969204afe9b099141a1ff15e8fbeb4c518df554f2b06c",
+            "afba996d54ecfe179d90ddb364c21694addca613fe058ed11f6f4636fa1dd424",
+        ],
+    ),
+];
+
+/// Under the same tag: how many bytes value `j` has, and its hash.
+pub static HASHES_OF_ALL: [(usize, &str); 16] = [
+    (
+        64,
+        "33c1707b549e1d94d8504f24a6a287df932a57015ae07c9a352baa2db0cab4ab",
+    ),
+    (
+        64,
+        "02aba0c143d5e704a0a5cbb7ad2f6732f95f994a97d8c5e1a22474371d242d40",
+    ),
+    (
+        64,
+        "601714ee6b53e4b67f163805249c0435d9c0528fb5d47fb52abdf033bb681b24",
+    ),
+    (
+        64,
+        "a8d74d0e984ea950666c3810b50898585c3b20526c0106b211be791a7c19347f",
+    ),
+    (
+        64,
+        "d783f156c95824a31e949f1bf28fb79c89e718252299d7340dddced023bae353",
+    ),
+    (
+        1,
+        "c79f9e6aab759d7c032fa769a2230a0dd44652477ae864618534309e53d2d19b",
+    ),
+    (
+        56,
+        "1c85a8d43d2034a46957c87383ba5f007e1c8973ee49df6844b616b1f3c409ca",
+    ),
+    (
+        56,
+        "715fd24d1c967032cfe82cfca1de16f827399e9d8f131089b721cec373210df4",
+    ),
+    (
+        56,
+        "4a04c7491fdf927fc663b26e4bbb2cccc49bd7dc18b5ec4e00477f89ef03a403",
+    ),
+    (
+        0,
+        "5314f5e62ee1b5fac52d44f6bcdfaefb7bada0ef02e36036c060b1c8b5847328",
+    ),
+    (
+        65,
+        "98aa215c60ebfcfaf6f0ab16d695bb4a1b7714e23367ab426cfdc6ce0061baa3",
+    ),
+    (
+        65,
+        "a27d32459f9ef66c4b7766ac7154b0072ca5b751f5dbb7ea60198cca4e50ccdf",
+    ),
+    (
+        65,
+        "96821981f4e5e7bed1efa8949421a1c32cc8a62925f55e34b75545e2eabb6c5b",
+    ),
+    (
+        65,
+        "60265cf0d8b3f9f21d4cdcf54dd2d88eceaa4920508a3949c2c1d66270787fa1",
+    ),
+    (
+        119,
+        "b82ad40cfe1b87e7c5dfe9e96a6350aee6f48e6d222ef5d19075fe6073adb3d6",
+    ),
+    (
+        119,
+        "5f18ac06677740e3a3d37a16c166880b62bc5a273efb7b0c9c7b3326286780d5",
+    ),
+];
+
+/// Of values 0 to 3 of 20 bytes under a tag of 61 bytes, each of them `t`.
+pub static HASHES_UNDER_A_LONG_TAG: [&str; 4] = [
+    "4d5b8446504ac9f4fc3ec395b3c78af4941121d01d4b06a77f800b878fbdf68d",
+    "8b5957dce111120ef9027d00d6270bd9ce397c94f7552e09898cbadaf90aafe2",
+    "70e49b96a953ff504cafaa32d89732a48de67312426fbb28c07703f15cdc6651",
+    "8e5704ba4c1e02d17fcc09c4afae92337396a5f93a42d55a2c085e8cc6472537",
+];
+
+/// Of values 0 to 3 of 20 bytes under a tag of 60 bytes, each of them `t`.
+pub static HASHES_UNDER_THE_LONGEST_TAG: [&str; 4] = [
+    "55b2dcc445560b49cf794332189561a1c8e39a5f9eb3bc9a2bfd2d2c52ec4674",
+    "2e27a15849203d2f593ef55d882eecb54d6f787078f685965122d73b6e84ab9f",
+    "83d81b5abdaaa598ac28ed6d02713f265e7419a36092945b009895eace04ac51",
+    "e3d00c420bcaa258010996636d9ece2d49535dc78c9afac75bdeb80eec1bc707",
+];
