@@ -30,8 +30,6 @@ mod health;
 mod fault;
 /// Laws of the definitions.
 pub mod laws;
-#[cfg(test)]
-mod tests;
 
 pub use checker::check;
 pub use fault::ReadFault;

@@ -27,6 +27,3 @@ pub mod laws;
 
 pub use fault::{GatewayFault, RestoreFault};
 pub use gateway::Gateway;
-
-#[cfg(test)]
-mod tests;

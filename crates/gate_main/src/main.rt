@@ -25,8 +25,6 @@ mod serving;
 mod spelling;
 /// The status with which the program exits.
 mod status;
-#[cfg(test)]
-mod tests;
 /// The stores of a gateway.
 mod stores;
 /// Bytes as text.
