@@ -24,7 +24,8 @@ impl Model for Key {
 
     ghost view = { λ k. columns (slice_index_or k.round_keys 0 []) };
 
-    ghost invariant = { λ k. AreRoundKeys (columns (slice_index_or k.round_keys 0 [])) k.round_keys };
+    ghost invariant = { λ k. AreRoundKeys
+        (columns (slice_index_or k.round_keys 0 [])) k.round_keys };
 }
 
 impl Key {
@@ -102,7 +103,8 @@ pub(crate) fn bytes_of(words: [u32; 4]) -> [u8; 16]
 /// Adds to each byte the one at its place in `stream`.
 fn add(bytes: &mut [u8], stream: &[u8])
     requires { length bytes.old ≤ length stream.now }
-    ensures { EachIndex bytes.old (λ i. slice_index bytes.new i ≡ bit_xor (slice_index bytes.old i) (slice_index stream.now i)) }
+    ensures { EachIndex bytes.old (λ i. slice_index bytes.new i
+        ≡ bit_xor (slice_index bytes.old i) (slice_index stream.now i)) }
 {
     for i in 0..bytes.len() {
         bytes[i] ^= stream[i];
@@ -113,7 +115,9 @@ fn add(bytes: &mut [u8], stream: &[u8])
 #[inline(always)]
 fn add_words(block: &mut [u8], words: [u32; 4])
     requires { length block.old ≡ 16 }
-    ensures { (i : ℕ) → i < 16 → slice_index block.new i ≡ bit_xor (slice_index block.old i) (slice_index (columns words) i) }
+    ensures { (i : ℕ) → i < 16
+        → slice_index block.new i
+        ≡ bit_xor (slice_index block.old i) (slice_index (columns words) i) }
 {
     for j in 0..4 {
         add_word(block, 4 * j, words[j]);
@@ -124,7 +128,9 @@ fn add_words(block: &mut [u8], words: [u32; 4])
 #[inline(always)]
 fn add_word(bytes: &mut [u8], at: usize, word: u32)
     requires { at + 4 ≤ length bytes.old }
-    ensures added { (i : ℕ) → i < 4 → slice_index bytes.new (at + i) ≡ bit_xor (slice_index bytes.old (at + i)) (word_byte word i) }
+    ensures added { (i : ℕ) → i < 4
+        → slice_index bytes.new (at + i)
+        ≡ bit_xor (slice_index bytes.old (at + i)) (word_byte word i) }
     ensures below { (i : ℕ) → i < at → slice_index bytes.new i ≡ slice_index bytes.old i }
     ensures above { (i : ℕ) → at + 4 ≤ i → slice_index bytes.new i ≡ slice_index bytes.old i }
 {

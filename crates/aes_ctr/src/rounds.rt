@@ -14,28 +14,32 @@ use crate::tables::{FROM_ROW_0, FROM_ROW_1, FROM_ROW_2, FROM_ROW_3};
 /// do for the other rows.
 #[inline(always)]
 fn from_row_0(word: u32) -> u32
-    ensures { let s = s_box (word_byte word 0) in word_bytes result ≡ times 2 s ∷ s ∷ s ∷ times 3 s ∷ [] }
+    ensures { let s = s_box (word_byte word 0) in word_bytes result
+        ≡ times 2 s ∷ s ∷ s ∷ times 3 s ∷ [] }
 {
     FROM_ROW_0[((word >> 24) % 256) as usize]
 }
 
 #[inline(always)]
 fn from_row_1(word: u32) -> u32
-    ensures { let s = s_box (word_byte word 1) in word_bytes result ≡ times 3 s ∷ times 2 s ∷ s ∷ s ∷ [] }
+    ensures { let s = s_box (word_byte word 1) in word_bytes result
+        ≡ times 3 s ∷ times 2 s ∷ s ∷ s ∷ [] }
 {
     FROM_ROW_1[((word >> 16) % 256) as usize]
 }
 
 #[inline(always)]
 fn from_row_2(word: u32) -> u32
-    ensures { let s = s_box (word_byte word 2) in word_bytes result ≡ s ∷ times 3 s ∷ times 2 s ∷ s ∷ [] }
+    ensures { let s = s_box (word_byte word 2) in word_bytes result
+        ≡ s ∷ times 3 s ∷ times 2 s ∷ s ∷ [] }
 {
     FROM_ROW_2[((word >> 8) % 256) as usize]
 }
 
 #[inline(always)]
 fn from_row_3(word: u32) -> u32
-    ensures { let s = s_box (word_byte word 3) in word_bytes result ≡ s ∷ s ∷ times 3 s ∷ times 2 s ∷ [] }
+    ensures { let s = s_box (word_byte word 3) in word_bytes result
+        ≡ s ∷ s ∷ times 3 s ∷ times 2 s ∷ [] }
 {
     FROM_ROW_3[(word % 256) as usize]
 }
@@ -47,8 +51,10 @@ fn column(a: u32, b: u32, c: u32, d: u32, key: u32) -> u32
         let t = s_box (word_byte b 1) in
         let u = s_box (word_byte c 2) in
         let v = s_box (word_byte d 3) in
-        word_bytes result ≡ bit_xor (mixed s t u v) (word_byte key 0) ∷ bit_xor (mixed t u v s) (word_byte key 1)
-        ∷ bit_xor (mixed u v s t) (word_byte key 2) ∷ bit_xor (mixed v s t u) (word_byte key 3) ∷ [] }
+        word_bytes result ≡ bit_xor (mixed s t u v) (word_byte key 0)
+        ∷ bit_xor (mixed t u v s) (word_byte key 1)
+        ∷ bit_xor (mixed u v s t) (word_byte key 2) ∷ bit_xor (mixed v s t u) (word_byte key 3)
+        ∷ [] }
 {
     from_row_0(a) ^ from_row_1(b) ^ from_row_2(c) ^ from_row_3(d) ^ key
 }
@@ -57,8 +63,10 @@ fn column(a: u32, b: u32, c: u32, d: u32, key: u32) -> u32
 #[inline(always)]
 fn last_column(a: u32, b: u32, c: u32, d: u32, key: u32) -> u32
     ensures { word_bytes result
-        ≡ bit_xor (s_box (word_byte a 0)) (word_byte key 0) ∷ bit_xor (s_box (word_byte b 1)) (word_byte key 1)
-        ∷ bit_xor (s_box (word_byte c 2)) (word_byte key 2) ∷ bit_xor (s_box (word_byte d 3)) (word_byte key 3) ∷ [] }
+        ≡ bit_xor (s_box (word_byte a 0)) (word_byte key 0)
+        ∷ bit_xor (s_box (word_byte b 1)) (word_byte key 1)
+        ∷ bit_xor (s_box (word_byte c 2)) (word_byte key 2)
+        ∷ bit_xor (s_box (word_byte d 3)) (word_byte key 3) ∷ [] }
 {
     let bytes = [
         sub(((a >> 24) % 256) as u8),
@@ -95,7 +103,8 @@ fn round(s: [u32; 4], key: &[u32; 4]) -> [u32; 4]
 /// The last round.
 #[inline(always)]
 fn last_round(s: [u32; 4], key: &[u32; 4]) -> [u32; 4]
-    ensures { columns result ≡ add_round_key (shift_rows (sub_bytes (columns s))) (columns key.now) }
+    ensures { columns result
+        ≡ add_round_key (shift_rows (sub_bytes (columns s))) (columns key.now) }
 {
     let [a, b, c, d] = s;
     [
@@ -109,7 +118,8 @@ fn last_round(s: [u32; 4], key: &[u32; 4]) -> [u32; 4]
 /// The encryption of a block by the round keys of a key.
 #[inline(always)]
 pub(crate) fn encrypted(keys: &[[u32; 4]; 11], block: [u32; 4]) -> [u32; 4]
-    ensures { (key : List ℕ) → AreRoundKeys key keys.now → columns result ≡ encrypt key (columns block) }
+    ensures { (key : List ℕ) → AreRoundKeys key keys.now
+        → columns result ≡ encrypt key (columns block) }
 {
     let mut s = with_key(block, &keys[0]);
     for n in 1..10 {

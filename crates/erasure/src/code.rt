@@ -90,17 +90,21 @@ impl Code {
             IfOk result (λ v. map (λ b. b.items) v.items ≡ primary_from self.now.k given) }
         ensures code { let given = numbered_of (take self.now.k blocks.now) in
             let size = size_of (blocks_of given) in All AreBytes (blocks_of given)
-            → IfOk result (λ v. All (λ g. IsBlock (map (λ b. b.items) v.items) size g.0 g.1) given) }
+            → IfOk result (λ v.
+            All (λ g. IsBlock (map (λ b. b.items) v.items) size g.0 g.1) given) }
 
         ensures too_few { IsErrOf result CodeFault.TooFew ↔ (length blocks.now < self.now.k) }
         ensures repeated { let given = numbered_of (take self.now.k blocks.now) in
-            IsErrOf result CodeFault.Repeated ↔ ((self.now.k ≤ length blocks.now) × Repeats (numbers_of given)) }
+            IsErrOf result CodeFault.Repeated
+            ↔ ((self.now.k ≤ length blocks.now) × Repeats (numbers_of given)) }
         ensures unequal { let given = numbered_of (take self.now.k blocks.now) in
             IsErrOf result CodeFault.UnequalLength
-            ↔ ((self.now.k ≤ length blocks.now) × AreDistinct (numbers_of given) × HasAnotherLength (blocks_of given)) }
+            ↔ ((self.now.k ≤ length blocks.now) × AreDistinct (numbers_of given)
+            × HasAnotherLength (blocks_of given)) }
         ensures no_other { IfErr result (λ e. e ≢ CodeFault.BadParameters) }
         ensures taken { let given = numbered_of (take self.now.k blocks.now) in
-            OnOk result ((self.now.k ≤ length blocks.now) × AreDistinct (numbers_of given) × HaveOneLength (blocks_of given)) }
+            OnOk result ((self.now.k ≤ length blocks.now) × AreDistinct (numbers_of given)
+            × HaveOneLength (blocks_of given)) }
     {
         let k = self.k as usize;
         if blocks.len() < k {
@@ -114,12 +118,16 @@ impl Code {
 fn decode_all(alloc: Global, given: &[(u16, &[u8])]) -> Result<Vec<Vec<u8>>, CodeFault>
     requires some { (0 < length given.now) × (length given.now ≤ 256) }
     requires small { All (λ g. g.0 < 256) given.now }
-    ensures primary { IfOk result (λ v. map (λ b. b.items) v.items ≡ primary_from (length given.now) (numbered_of given.now)) }
+    ensures primary { IfOk result (λ v. map (λ b. b.items) v.items
+        ≡ primary_from (length given.now) (numbered_of given.now)) }
     ensures too_few { IfErr result (λ e. (e ≢ CodeFault.TooFew) × (e ≢ CodeFault.BadParameters)) }
-    ensures repeated { IsErrOf result CodeFault.Repeated ↔ Repeats (numbers_of (numbered_of given.now)) }
+    ensures repeated { IsErrOf result CodeFault.Repeated
+        ↔ Repeats (numbers_of (numbered_of given.now)) }
     ensures unequal { IsErrOf result CodeFault.UnequalLength
-        ↔ (AreDistinct (numbers_of (numbered_of given.now)) × HasAnotherLength (blocks_of (numbered_of given.now))) }
-    ensures taken { OnOk result (AreNumbers (numbers_of (numbered_of given.now)) × HaveOneLength (blocks_of (numbered_of given.now))) }
+        ↔ (AreDistinct (numbers_of (numbered_of given.now))
+        × HasAnotherLength (blocks_of (numbered_of given.now))) }
+    ensures taken { OnOk result (AreNumbers (numbers_of (numbered_of given.now))
+        × HaveOneLength (blocks_of (numbered_of given.now))) }
 {
     if repeats(given) {
         return Err(CodeFault::Repeated);
@@ -135,7 +143,8 @@ fn restore(alloc: Global, given: &[(u16, &[u8])]) -> Result<Vec<Vec<u8>>, CodeFa
     requires some { (0 < length given.now) × (length given.now ≤ 256) }
     requires numbers { AreNumbers (numbers_of (numbered_of given.now)) }
     requires one_length { HaveOneLength (blocks_of (numbered_of given.now)) }
-    ensures primary { IfOk result (λ v. map (λ b. b.items) v.items ≡ primary_from (length given.now) (numbered_of given.now)) }
+    ensures primary { IfOk result (λ v. map (λ b. b.items) v.items
+        ≡ primary_from (length given.now) (numbered_of given.now)) }
     ensures only_memory { IsOkUnless result CodeFault.NoMemory }
 {
     let mut places = Vec::with_capacity(alloc, given.len())?;
@@ -169,7 +178,8 @@ fn primary_block(
     requires places { places.now ≡ map (λ g. place_of g.0) (numbered_of given.now) }
     requires inverses { AreInverses places.now inverses.now }
     requires blocks { contents_of blocks.now ≡ blocks_of (numbered_of given.now) }
-    ensures block { IfOk result (λ b. b.items ≡ block_through places.now (contents_of blocks.now) (place_of j)) }
+    ensures block { IfOk result (λ b. b.items
+        ≡ block_through places.now (contents_of blocks.now) (place_of j)) }
     ensures only_memory { IsOkUnless result CodeFault.NoMemory }
 {
     match index_of(given, j) {
@@ -180,7 +190,8 @@ fn primary_block(
 
 /// Where the block of this number stands, if it is given.
 fn index_of(given: &[(u16, &[u8])], number: u16) -> Option<usize>
-    ensures { IfSome result (λ at. (at < length given.now) × (slice_index (numbers_of (numbered_of given.now)) at ≡ number)) }
+    ensures { IfSome result (λ at. (at < length given.now)
+        × (slice_index (numbers_of (numbered_of given.now)) at ≡ number)) }
 {
     for (at, (other, _)) in given.iter().enumerate() {
         if *other == number {

@@ -105,7 +105,8 @@ pub(crate) fn block_at(
     requires as_many { length places.now ≡ length blocks.now }
     requires inverses { AreInverses places.now inverses.now }
     requires one_length { HaveOneLength (contents_of blocks.now) }
-    ensures block { IfOk result (λ b. b.items ≡ block_through places.now (contents_of blocks.now) x) }
+    ensures block { IfOk result (λ b. b.items
+        ≡ block_through places.now (contents_of blocks.now) x) }
     ensures only_memory { IsOkUnless result CodeFault.NoMemory }
 {
     let mut sum = vec![in alloc; 0u8; blocks[0].len()]?;

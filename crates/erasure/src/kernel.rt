@@ -21,8 +21,10 @@ pub fn mul_add(dst: &mut [u8], src: &[u8], c: u8)
 /// `mul_add` as far as there are 32 bytes at a time.
 fn add_whole(dst: &mut [u8], src: &[u8], low: u8x32, high: u8x32)
     requires { length dst.old ≡ length src.now }
-    ensures added { (c : ℕ) → AreTables c low high → IsAdded c src.now dst.old dst.new 0 (32 * (length src.now / 32)) }
-    ensures rest { (i : ℕ) → 32 * (length src.now / 32) ≤ i → slice_index dst.new i ≡ slice_index dst.old i }
+    ensures added { (c : ℕ) → AreTables c low high
+        → IsAdded c src.now dst.old dst.new 0 (32 * (length src.now / 32)) }
+    ensures rest { (i : ℕ) → 32 * (length src.now / 32) ≤ i
+        → slice_index dst.new i ≡ slice_index dst.old i }
 {
     for n in 0..src.len() / 32 {
         add_products_at(dst, src, 32 * n, low, high);
@@ -34,7 +36,8 @@ fn add_rest(dst: &mut [u8], src: &[u8], low: &[u8; 32], high: &[u8; 32])
     requires { length dst.old ≡ length src.now }
     ensures added { (c : ℕ) → AreTables c low.now high.now
         → IsAdded c src.now dst.old dst.new (32 * (length src.now / 32)) (length src.now) }
-    ensures whole { (i : ℕ) → i < 32 * (length src.now / 32) → slice_index dst.new i ≡ slice_index dst.old i }
+    ensures whole { (i : ℕ) → i < 32 * (length src.now / 32)
+        → slice_index dst.new i ≡ slice_index dst.old i }
 {
     laws::is_a_field();
     for i in src.len() / 32 * 32..src.len() {

@@ -45,7 +45,8 @@ fn products_at(src: &[u8], at: usize, low: u8x32, high: u8x32) -> u8x32
 pub(crate) fn add_products_at(dst: &mut [u8], src: &[u8], at: usize, low: u8x32, high: u8x32)
     requires within { at + 32 ≤ length src.now }
     requires as_long { length dst.old ≡ length src.now }
-    ensures added { (c : ℕ) → AreTables c low high → IsAdded c src.now dst.old dst.new at (at + 32) }
+    ensures added { (c : ℕ) → AreTables c low high
+        → IsAdded c src.now dst.old dst.new at (at + 32) }
     ensures below { (i : ℕ) → i < at → slice_index dst.new i ≡ slice_index dst.old i }
     ensures above { (i : ℕ) → at + 32 ≤ i → slice_index dst.new i ≡ slice_index dst.old i }
 {

@@ -7,7 +7,8 @@ pub fn is_a_field()
     ensures closed { (a b : ℕ) → mul_of a b < 256 }
     ensures commutative { (a b : ℕ) → mul_of a b ≡ mul_of b a }
     ensures associative { (a b c : ℕ) → mul_of (mul_of a b) c ≡ mul_of a (mul_of b c) }
-    ensures distributive { (a b c : ℕ) → mul_of a (bit_xor b c) ≡ bit_xor (mul_of a b) (mul_of a c) }
+    ensures distributive { (a b c : ℕ)
+        → mul_of a (bit_xor b c) ≡ bit_xor (mul_of a b) (mul_of a c) }
     ensures one { (a : ℕ) → a < 256 → mul_of 1 a ≡ a }
     ensures inverse { (a : ℕ) → 0 < a → a < 256 → mul_of a (inverse_of a) ≡ 1 }
     ensures inverse_closed { (a : ℕ) → inverse_of a < 256 }

@@ -23,7 +23,8 @@ fn field_at(alloc: Global, block: &[u8], span: &HeaderSpan) -> Result<Field, All
 
 fn fields_at(alloc: Global, block: &[u8], spans: &[HeaderSpan]) -> Result<Vec<Field>, AllocError>
     requires { All (IsHeaderWithin (length block.now)) spans.now }
-    ensures { IfOk result (λ fields. fields.items ≡ map field_from (map (header_bytes block.now) spans.now)) }
+    ensures { IfOk result (λ fields. fields.items
+        ≡ map field_from (map (header_bytes block.now) spans.now)) }
 {
     let mut fields = Vec::with_capacity(alloc, spans.len())?;
     for span in spans {

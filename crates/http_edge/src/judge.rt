@@ -114,7 +114,8 @@ fn is_number(value: &[u8]) -> bool
 /// The number that the digits write, unless it is more than a body may have.
 fn small_number(digits: &[u8]) -> Option<usize>
     requires { list_all is_ascii_digit digits.now ≡ true }
-    ensures { result ≡ (if nat_le (digits_value 10 digits.now) 4194304 then Some (digits_value 10 digits.now) else None) }
+    ensures { result ≡ (if nat_le (digits_value 10 digits.now) 4194304
+        then Some (digits_value 10 digits.now) else None) }
 {
     let mut number: usize = 0;
     for b in digits {

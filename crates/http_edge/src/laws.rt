@@ -35,8 +35,10 @@ pub fn left_over()
 
 /// `head_of` is the grammar of `httparse`, as a function.
 pub fn head_is_of_the_grammar()
-    ensures only { (block : List ℕ) (h : RequestHead) → head_of block ≡ Some h → ReadsRequest block h [] }
-    ensures each { (block : List ℕ) (h : RequestHead) → ReadsRequest block h [] → head_of block ≡ Some h }
+    ensures only { (block : List ℕ) (h : RequestHead) → head_of block ≡ Some h
+        → ReadsRequest block h [] }
+    ensures each { (block : List ℕ) (h : RequestHead) → ReadsRequest block h []
+        → head_of block ≡ Some h }
 {}
 
 /// A string that begins with a request head of the grammar, one that isn't too long, is framed by what that head comes
@@ -53,7 +55,8 @@ pub fn head_comes_first()
 /// The body of a request is the next bytes after its head, as many as it says; then come the next messages.
 pub fn body_comes_next()
     ensures items { (a : Awaited) (body more : List ℕ) → length body ≡ a.length
-        → frame_from (body_of a []) (body ++ more) ≡ request a body ∷ (if a.close then [] else frame more) }
+        → frame_from (body_of a []) (body ++ more)
+        ≡ request a body ∷ (if a.close then [] else frame more) }
     ensures short { (a : Awaited) (body : List ℕ) → length body < a.length
         → frame_from (body_of a []) body ≡ [] }
 {}

@@ -55,7 +55,8 @@ impl Status {
 
 /// Puts the parts at the end.
 fn put_all(out: &mut Vec<u8>, parts: &[&[u8]]) -> Result<(), AllocError>
-    ensures put { OnOk result (out.new.items ≡ out.old.items ++ flat_map (λ part. part.now) parts.now) }
+    ensures put { OnOk result (out.new.items
+        ≡ out.old.items ++ flat_map (λ part. part.now) parts.now) }
     ensures kept { IsKept out.old.items out.new.items }
 {
     for part in parts {
@@ -65,7 +66,8 @@ fn put_all(out: &mut Vec<u8>, parts: &[&[u8]]) -> Result<(), AllocError>
 }
 
 fn put_line(out: &mut Vec<u8>, name: &[u8], value: &[u8]) -> Result<(), AllocError>
-    ensures put { OnOk result (out.new.items ≡ out.old.items ++ field_line (record { name = name.now; value = value.now })) }
+    ensures put { OnOk result (out.new.items
+        ≡ out.old.items ++ field_line (record { name = name.now; value = value.now })) }
     ensures kept { IsKept out.old.items out.new.items }
 {
     put_all(out, &[name, b": ", value, b"\r\n"])
@@ -91,7 +93,8 @@ fn put_length(out: &mut Vec<u8>, length: usize) -> Result<(), AllocError>
 
 /// Puts the field lines, the body's length after the first of them.
 fn put_fields(out: &mut Vec<u8>, fields: &[ReplyField], length: usize) -> Result<(), AllocError>
-    ensures put { OnOk result (out.new.items ≡ out.old.items ++ lines_with_length length fields.now) }
+    ensures put { OnOk result (out.new.items
+        ≡ out.old.items ++ lines_with_length length fields.now) }
     ensures kept { IsKept out.old.items out.new.items }
 {
     let (first, others) = fields.split_at(fields.len().min(1));
@@ -102,7 +105,8 @@ fn put_fields(out: &mut Vec<u8>, fields: &[ReplyField], length: usize) -> Result
 
 /// Puts the line that says whether the connection closes, the empty line, and the body.
 fn put_end(out: &mut Vec<u8>, close: bool, body: &[u8]) -> Result<(), AllocError>
-    ensures put { OnOk result (out.new.items ≡ out.old.items ++ (close_line close ++ (line_end ++ body.now))) }
+    ensures put { OnOk result (out.new.items
+        ≡ out.old.items ++ (close_line close ++ (line_end ++ body.now))) }
     ensures kept { IsKept out.old.items out.new.items }
 {
     let closing: &[u8] = if close { b"Connection: close\r\n" } else { b"" };
@@ -116,7 +120,8 @@ fn put_reply(
     head_only: bool,
     close: bool,
 ) -> Result<(), AllocError>
-    ensures put { OnOk result (out.new.items ≡ out.old.items ++ rendered reply.now head_only close) }
+    ensures put { OnOk result (out.new.items
+        ≡ out.old.items ++ rendered reply.now head_only close) }
     ensures kept { IsKept out.old.items out.new.items }
 {
     let body = reply.body.as_slice();
@@ -156,7 +161,8 @@ pub fn render_into(
     head_only: bool,
     close: bool,
 ) -> Result<(), AllocError>
-    ensures put { OnOk result (out.new.items ≡ out.old.items ++ rendered reply.now head_only close) }
+    ensures put { OnOk result (out.new.items
+        ≡ out.old.items ++ rendered reply.now head_only close) }
     ensures refused { OnErr result (out.new.items ≡ out.old.items) }
     ensures plain { All IsPlain reply.now.fields }
 {

@@ -28,7 +28,8 @@ pub fn after_line(
 ) -> Result<(State, Option<Item>), AllocError>
     requires part { IsPart part.items }
     requires line { IsLine line.now }
-    ensures adds { IfOk result (λ step. Adds (part_of part.items) line.now (listed step.1) (left_of step.0)) }
+    ensures adds { IfOk result (λ step.
+        Adds (part_of part.items) line.now (listed step.1) (left_of step.0)) }
     ensures waits { IfOk result (λ step. IsWaiting (left_of step.0)) }
 {
     let mut block = part;
@@ -54,7 +55,8 @@ pub fn after_body(
     more: &[u8],
 ) -> Result<(State, Option<Item>), AllocError>
     requires room { length body.items + length more.now ≤ awaited.length }
-    ensures adds { IfOk result (λ step. Adds (body_of awaited body.items) more.now (listed step.1) (left_of step.0)) }
+    ensures adds { IfOk result (λ step.
+        Adds (body_of awaited body.items) more.now (listed step.1) (left_of step.0)) }
     ensures waits { IfOk result (λ step. IsWaiting (left_of step.0)) }
 {
     let mut bytes = body;

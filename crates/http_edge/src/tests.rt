@@ -1,6 +1,6 @@
 //! What the framing gives on known bytes, and how replies look.
 use crate::{
-    Conn, FramingFault, Item, Reply, ReplyField, ReplyFields, Status, laws, render, render_into,
+    Conn, FramingFault, Item, Reply, ReplyField, ReplyFields, Status, render, render_into,
 };
 use octets::Bytes;
 use std::test::Fail;
@@ -64,26 +64,29 @@ fn framed_in_two(rt: &HostRuntime, front: &[u8], back: &[u8]) -> Result<Vec<u8>,
     Ok(out)
 }
 
+/// The first place at which a cut of a text into two pieces gives other items than these, or the least length of pieces
+/// that does.
+fn other_cut(rt: &HostRuntime, text: &[u8], want: &[u8]) -> Result<Option<usize>, Fail> {
+    for at in 0..text.len() {
+        let (front, back) = text.split_at(at);
+        if framed_in_two(rt, front, back)?.as_slice() != want {
+            return Ok(Some(at));
+        }
+    }
+    for step in 1..=text.len() {
+        if framed(rt, text, step)?.as_slice() != want {
+            return Ok(Some(step));
+        }
+    }
+    Ok(None)
+}
+
 #[test]
 fn any_cut_gives_the_same_items(rt: HostRuntime) -> Result<(), Fail> {
     let text =
         b"GET /uri/URI:LIT:my HTTP/1.1\r\nHost: g\r\n\r\nGET /b HTTP/1.1\nHost:g\nA: b\n\n\r\nHEAD /c HTTP/1.0\r\n\r\nGET /d HTTP/1.1\r\nHost: g\r\n\r\n";
     let want = b"GET /uri/URI:LIT:my 1+GET /b 2+HEAD /c 0.!";
-    for step in 1..200 {
-        assert_eq!(rt;
-            framed(&rt, text, step)?.as_slice(),
-            want.as_slice(),
-            "step {step}"
-        );
-    }
-    for at in 0..text.len() {
-        let (front, back) = text.split_at(at);
-        assert_eq!(rt;
-            framed_in_two(&rt, front, back)?.as_slice(),
-            want.as_slice(),
-            "cut at {at}"
-        );
-    }
+    assert_eq!(rt; other_cut(&rt, text, want)?, None);
     Ok(())
 }
 
@@ -262,21 +265,7 @@ fn a_body_is_the_same_however_it_is_cut(rt: HostRuntime) -> Result<(), Fail> {
     let text =
         b"PUT /uri HTTP/1.1\r\nHost: g\r\nContent-Length: 56\r\n\r\naaaaaaaaaaaaaaaaaaaaaaaaaaaaaaaaaaaaaaaaaaaaaaaaaaaaaaaaGET /b HTTP/1.1\r\nHost: g\r\n\r\n";
     let want = b"PUT /uri 2aaaaaaaaaaaaaaaaaaaaaaaaaaaaaaaaaaaaaaaaaaaaaaaaaaaaaaaa+GET /b 1+";
-    for at in 0..text.len() {
-        let (front, back) = text.split_at(at);
-        assert_eq!(rt;
-            framed_in_two(&rt, front, back)?.as_slice(),
-            want.as_slice(),
-            "cut at {at}"
-        );
-    }
-    for step in 1..130 {
-        assert_eq!(rt;
-            framed(&rt, text, step)?.as_slice(),
-            want.as_slice(),
-            "step {step}"
-        );
-    }
+    assert_eq!(rt; other_cut(&rt, text, want)?, None);
     Ok(())
 }
 
@@ -326,13 +315,7 @@ fn requests_with_bodies_follow_each_other(rt: HostRuntime) -> Result<(), Fail> {
     let text =
         b"PUT /a HTTP/1.1\r\nHost: g\r\nContent-Length: 3\r\n\r\nfooGET /b HTTP/1.1\r\nHost: g\r\n\r\nPUT /c HTTP/1.1\nHost: g\nContent-Length: 0\n\n\r\nPUT /d HTTP/1.1\r\nHost: g\r\nContent-Length: 2\r\nConnection: close\r\n\r\n\n\nGET /e HTTP/1.1\r\nHost: g\r\n\r\n";
     let want = b"PUT /a 2foo+GET /b 1+PUT /c 2+PUT /d 3\n\n.!";
-    for step in 1..220 {
-        assert_eq!(rt;
-            framed(&rt, text, step)?.as_slice(),
-            want.as_slice(),
-            "step {step}"
-        );
-    }
+    assert_eq!(rt; other_cut(&rt, text, want)?, None);
     Ok(())
 }
 
@@ -486,15 +469,4 @@ fn each_status_has_its_phrase(rt: HostRuntime) -> Result<(), Fail> {
         );
     }
     Ok(())
-}
-
-#[test]
-fn the_laws_are_called() {
-    laws::pieces_join();
-    laws::left_over();
-    laws::head_is_of_the_grammar();
-    laws::head_comes_first();
-    laws::body_comes_next();
-    laws::requests_are_read();
-    laws::numbers_are_plain();
 }

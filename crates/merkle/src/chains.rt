@@ -35,7 +35,8 @@ fn push_chain(
     requires within { length leaves.now ≤ 2 ^ height }
     requires room { first + 2 ^ height ≤ 2 ^ 64 }
     requires inside { place < 2 ^ height }
-    ensures { OnOk result (hashes.new.items ≡ hashes.old.items ++ tree_chain height (filled leaves.now first height) place) }
+    ensures { OnOk result (hashes.new.items
+        ≡ hashes.old.items ++ tree_chain height (filled leaves.now first height) place) }
 {
     if height == 0 {
         return Ok(());

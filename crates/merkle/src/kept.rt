@@ -24,7 +24,8 @@ impl Model for Tree {
 
     ghost view = { λ tree. tree.leaves.items };
 
-    ghost invariant = { λ tree. tree.nodes.items ≡ tree_nodes (height (length tree.leaves.items)) (padded tree.leaves.items) };
+    ghost invariant = { λ tree. tree.nodes.items
+        ≡ tree_nodes (height (length tree.leaves.items)) (padded tree.leaves.items) };
 }
 
 impl Tree {
@@ -81,7 +82,8 @@ fn push_nodes(
     requires within { length leaves.now ≤ 2 ^ height }
     requires room { first + 2 ^ height ≤ 2 ^ 64 }
     ensures top { IfOk result (λ top. top ≡ tree_root height (filled leaves.now first height)) }
-    ensures nodes { OnOk result (nodes.new.items ≡ nodes.old.items ++ tree_nodes height (filled leaves.now first height)) }
+    ensures nodes { OnOk result (nodes.new.items
+        ≡ nodes.old.items ++ tree_nodes height (filled leaves.now first height)) }
 {
     if height == 0 {
         let leaf = padded_leaf(leaves, first);

@@ -21,12 +21,14 @@ pub fn roots_go_by_halves()
     ensures halves { (levels : ℕ) (leaves : List (List ℕ)) → length leaves ≡ 2 ^ (levels + 1) →
         root leaves ≡ node (root (take (2 ^ levels) leaves)) (root (drop (2 ^ levels) leaves)) }
     ensures padding { (leaves : List (List ℕ)) → root (padded leaves) ≡ root leaves }
-    ensures padded { (leaves : List (List ℕ)) → length (padded leaves) ≡ 2 ^ height (length leaves) }
+    ensures padded { (leaves : List (List ℕ))
+        → length (padded leaves) ≡ 2 ^ height (length leaves) }
 {}
 
 /// Where the leaves are hashes of 32 bytes, so are the root and the chains.
 pub fn hashes_have_32_bytes()
-    ensures root { (leaves : List (List ℕ)) → All (λ leaf. length leaf ≡ 32) leaves → length (root leaves) ≡ 32 }
+    ensures root { (leaves : List (List ℕ)) → All (λ leaf. length leaf ≡ 32) leaves
+        → length (root leaves) ≡ 32 }
     ensures chain { (leaves : List (List ℕ)) (place : ℕ) → All (λ leaf. length leaf ≡ 32) leaves →
         All (λ hash. length hash ≡ 32) (chain leaves place) }
 {}
@@ -36,9 +38,11 @@ pub fn hashes_have_32_bytes()
 pub fn chains_lead_to_the_root()
     ensures leads { (leaves : List (List ℕ)) (place : ℕ) → place < length leaves →
         Leads (root leaves) place (slice_index_or leaves place []) (chain leaves place) }
-    ensures high { (leaves : List (List ℕ)) (place : ℕ) → length (chain leaves place) ≡ height (length leaves) }
+    ensures high { (leaves : List (List ℕ)) (place : ℕ)
+        → length (chain leaves place) ≡ height (length leaves) }
     ensures uses { (leaves : List (List ℕ)) (place : ℕ) → place < length leaves →
-        Includes (root_uses leaves) (leads_uses place (slice_index_or leaves place []) (chain leaves place)) }
+        Includes (root_uses leaves)
+        (leads_uses place (slice_index_or leaves place []) (chain leaves place)) }
 {}
 
 /// Where no two uses collide, lists of as many leaves with one root are one list.
@@ -51,8 +55,11 @@ pub fn roots_fix_their_leaves()
 /// Where no two uses collide, a chain as long as the tree is high that leads to the root of a list from
 /// a place is that list's chain there, and the leaf is that list's leaf.
 pub fn roots_fix_their_chains()
-    ensures { (uses : List Use) (leaves : List (List ℕ)) (place : ℕ) (leaf : List ℕ) (hashes : List (List ℕ)) →
-        NoCollision uses → Includes uses (root_uses leaves) → Includes uses (leads_uses place leaf hashes) →
-        place < length leaves → length hashes ≡ height (length leaves) → Leads (root leaves) place leaf hashes →
+    ensures { (uses : List Use) (leaves : List (List ℕ)) (place : ℕ) (leaf : List ℕ)
+        (hashes : List (List ℕ)) →
+        NoCollision uses → Includes uses (root_uses leaves)
+        → Includes uses (leads_uses place leaf hashes) →
+        place < length leaves → length hashes ≡ height (length leaves)
+        → Leads (root leaves) place leaf hashes →
         (leaf ≡ slice_index_or leaves place []) × (hashes ≡ chain leaves place) }
 {}

@@ -16,6 +16,8 @@ mod writing;
 mod fault;
 /// What holds of the definitions.
 pub mod laws;
+/// Readers and writers that fail, for tests.
+pub mod fakes;
 #[cfg(test)]
 mod tests;
 

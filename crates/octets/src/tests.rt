@@ -1,6 +1,7 @@
 use super::*;
+use crate::fakes::{AtTheEnd, SlowReader, SlowWriter};
 use std::alloc::AllocError;
-use std::io::{self, ErrorKind, Write};
+use std::io::{self, ErrorKind, Read, Write};
 
 #[test]
 fn bytes_are_held_without_a_copy(rt: HostRuntime) -> Result<(), AllocError> {
@@ -68,65 +69,33 @@ fn some_shares_are_enough_of_at_most_256(rt: HostRuntime) {
     }
 }
 
-/// A writer that takes two bytes at a time, is interrupted at every other call, and after so many calls fails, or takes
-/// no byte.
-#[derive(Drop)]
-struct Narrow {
-    held: Vec<u8>,
-    left: usize,
-    interrupts: bool,
-    fails: bool,
-}
-
-impl Write for Narrow {
-    fn write(&mut self, buf: &[u8]) -> io::Result<usize> {
-        self.interrupts = !self.interrupts;
-        if self.interrupts {
-            return Err(io::Error::from(ErrorKind::Interrupted));
-        }
-        if self.left == 0 {
-            return if self.fails {
-                Err(io::Error::from(ErrorKind::StorageFull))
-            } else {
-                Ok(0)
-            };
-        }
-        self.left -= 1;
-        let count = buf.len().min(2);
-        self.held.extend_from_slice(&buf[..count])?;
-        Ok(count)
-    }
-
-    fn flush(&mut self) -> io::Result<()> {
-        Ok(())
-    }
-}
-
 #[test]
 fn bytes_are_written_whole_or_a_beginning_of_them(rt: HostRuntime) {
     let bytes = b"foobarbaz";
-    for (left, budget, held, wanted) in [
-        (5, 10, 9, Ok(())),
-        (9, 100, 9, Ok(())),
-        (5, 9, 8, Err(WriteFault)),
-        (4, 100, 8, Err(WriteFault)),
+    for (room, budget, held, wanted) in [
+        (9, 10, 9, Ok(())),
+        (20, 100, 9, Ok(())),
+        (9, 9, 8, Err(WriteFault)),
+        (8, 100, 8, Err(WriteFault)),
         (0, 100, 0, Err(WriteFault)),
-        (5, 0, 0, Err(WriteFault)),
+        (9, 0, 0, Err(WriteFault)),
     ] {
-        for fails in [false, true] {
-            let mut writer = Narrow {
+        for at_the_end in [AtTheEnd::Fails, AtTheEnd::TakesNothing] {
+            let mut writer = SlowWriter {
                 held: Vec::new(rt.alloc()),
-                left,
-                interrupts: false,
-                fails,
+                room,
+                at_a_time: 2,
+                interrupts: Some(true),
+                at_the_end,
+                flushes: true,
             };
             let mut calls = budget;
             let outcome = write_whole(&mut writer, bytes, &mut calls);
-            assert_eq!(rt; outcome, wanted, "at {left} and {budget}");
+            assert_eq!(rt; outcome, wanted, "at {room} and {budget}");
             assert_eq!(rt;
                 writer.held.as_slice(),
                 &bytes[..held],
-                "at {left} and {budget}"
+                "at {room} and {budget}"
             );
         }
     }
@@ -141,4 +110,25 @@ fn each_call_of_a_writer_counts(rt: HostRuntime) {
     assert_eq!(rt; writer.as_slice(), b"foobar".as_slice());
     assert_eq!(rt; calls, 6);
     laws::numbers_have_one_text();
+}
+
+#[test]
+fn a_slow_reader_gives_its_bytes_and_then_fails(rt: HostRuntime) {
+    let mut reader = SlowReader {
+        bytes: b"foobar",
+        at_a_time: 4,
+        interrupts: Some(false),
+        fails: true,
+    };
+    let mut buf = [0; 8];
+    assert_eq!(rt; reader.read(&mut buf).ok(), Some(4));
+    assert_eq!(rt; buf, *b"foob\0\0\0\0");
+    let interrupted = reader.read(&mut buf).err().map(|error| error.kind());
+    assert_eq!(rt; interrupted, Some(ErrorKind::Interrupted));
+    assert_eq!(rt; reader.read(&mut buf).ok(), Some(2));
+    reader.interrupts = None;
+    let failed = reader.read(&mut buf).err().map(|error| error.kind());
+    assert_eq!(rt; failed, Some(ErrorKind::BrokenPipe));
+    reader.fails = false;
+    assert_eq!(rt; reader.read(&mut buf).ok(), Some(0));
 }

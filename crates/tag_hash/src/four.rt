@@ -13,7 +13,8 @@ fn lay(block: &mut [u8; 64], at: usize, source: &[u8], from: usize)
     ensures inside { (k : ℕ) → k < 64 → from ≤ at + k → at + k < from + length source.now
         → slice_index block.new k ≡ slice_index source.now (at + k - from) }
     ensures before { (k : ℕ) → at + k < from → slice_index block.new k ≡ slice_index block.old k }
-    ensures after { (k : ℕ) → from + length source.now ≤ at + k → slice_index block.new k ≡ slice_index block.old k }
+    ensures after { (k : ℕ) → from + length source.now ≤ at + k
+        → slice_index block.new k ≡ slice_index block.old k }
     ensures long { length block.new ≡ 64 }
 {
     let low = from.saturating_sub(at).min(64);
@@ -50,7 +51,8 @@ fn take_in(state: &mut [u32x4; 8], prefix: &[u8], a: &[u8], b: &[u8], c: &[u8], 
     requires as_long_d { length d.now ≡ length a.now }
     ensures { (h : ℕ → List ℕ) → state.old ≡ together 8 h
         → state.new ≡ together 8 (λ j. compress (h j)
-        (take 64 (drop (n * 64) (padded_message (prefix.now ++ one_of a.now b.now c.now d.now j))))) }
+        (take 64 (drop (n * 64) (padded_message (prefix.now
+        ++ one_of a.now b.now c.now d.now j))))) }
 {
     let at = 64 * n;
     if prefix.len() <= at && at + 64 <= prefix.len() + a.len() {

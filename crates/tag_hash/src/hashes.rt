@@ -88,7 +88,8 @@ pub fn pair(tag: &[u8], first: &[u8], second: &[u8]) -> [u8; 32]
 
 /// Feeds the netstring of these bytes.
 fn update_netstring(hasher: &mut Sha256, bytes: &[u8])
-    ensures { (message : List ℕ) → Holds256 hasher.old message → Holds256 hasher.new (message ++ netstring bytes.now) }
+    ensures { (message : List ℕ) → Holds256 hasher.old message
+        → Holds256 hasher.new (message ++ netstring bytes.now) }
 {
     let size = Decimal::new(bytes.len() as u64);
     hasher.update(size.as_bytes());

@@ -108,8 +108,10 @@ fn first_words(a: &[u8], b: &[u8], c: &[u8], d: &[u8]) -> [u32x4; 16]
 /// The schedules' next word, from those sixteen, fifteen, seven and two words before it.
 #[inline(always)]
 fn next_word(sixteenth: u32x4, fifteenth: u32x4, seventh: u32x4, second: u32x4) -> u32x4
-    ensures { (f g h k : ℕ → ℕ) → sixteenth ≡ four f → fifteenth ≡ four g → seventh ≡ four h → second ≡ four k
-        → result ≡ four (λ j. add32 (add32 (add32 (small_sigma1 (k j)) (h j)) (small_sigma0 (g j))) (f j)) }
+    ensures { (f g h k : ℕ → ℕ) → sixteenth ≡ four f → fifteenth ≡ four g → seventh ≡ four h
+        → second ≡ four k
+        → result ≡ four (λ j. add32 (add32 (add32 (small_sigma1 (k j)) (h j))
+        (small_sigma0 (g j))) (f j)) }
 {
     lower_sigma1(second) + seventh + lower_sigma0(fifteenth) + sixteenth
 }
@@ -117,7 +119,8 @@ fn next_word(sixteenth: u32x4, fifteenth: u32x4, seventh: u32x4, second: u32x4) 
 /// The sixteen words of the schedules that follow these.
 #[inline(always)]
 fn next_words(w: &[u32x4; 16]) -> [u32x4; 16]
-    ensures { (b : ℕ → List ℕ) (t : ℕ) → t + 32 ≤ 64 → w.now ≡ words_from b t → result ≡ words_from b (t + 16) }
+    ensures { (b : ℕ → List ℕ) (t : ℕ) → t + 32 ≤ 64 → w.now ≡ words_from b t
+        → result ≡ words_from b (t + 16) }
 {
     let w0 = next_word(w[0], w[1], w[9], w[14]);
     let w1 = next_word(w[1], w[2], w[10], w[15]);
@@ -157,7 +160,8 @@ fn round(v: [u32x4; 8], constant: u32, word: u32x4) -> [u32x4; 8]
 fn numbered_round(v: [u32x4; 8], w: &[u32x4; 16], turn: usize, place: usize) -> [u32x4; 8]
     requires turn { turn < 4 }
     requires place { place < 16 }
-    ensures { (b h : ℕ → List ℕ) → w.now ≡ words_from b (16 * turn) → v ≡ variables_at b h (16 * turn + place)
+    ensures { (b h : ℕ → List ℕ) → w.now ≡ words_from b (16 * turn)
+        → v ≡ variables_at b h (16 * turn + place)
         → result ≡ variables_at b h (16 * turn + (place + 1)) }
 {
     round(v, ROUND_CONSTANTS[16 * turn + place], w[place])
@@ -167,7 +171,8 @@ fn numbered_round(v: [u32x4; 8], w: &[u32x4; 16], turn: usize, place: usize) -> 
 #[inline(always)]
 fn sixteen_rounds(v: [u32x4; 8], w: &[u32x4; 16], turn: usize) -> [u32x4; 8]
     requires { turn < 4 }
-    ensures { (b h : ℕ → List ℕ) → w.now ≡ words_from b (16 * turn) → v ≡ variables_at b h (16 * turn)
+    ensures { (b h : ℕ → List ℕ) → w.now ≡ words_from b (16 * turn)
+        → v ≡ variables_at b h (16 * turn)
         → result ≡ variables_at b h (16 * turn + 16) }
 {
     let v = numbered_round(v, w, turn, 0);

@@ -131,7 +131,8 @@ fn digit_count(text: &[u8]) -> usize
 /// The number that digits write, if it is one of 64 bits.
 fn value_of(digits: &[u8]) -> Option<usize>
     requires { list_all is_ascii_digit digits.now ≡ true }
-    ensures { result ≡ (if nat_lt (digits_value 10 digits.now) (2 ^ 64) then Some (digits_value 10 digits.now) else None) }
+    ensures { result ≡ (if nat_lt (digits_value 10 digits.now) (2 ^ 64)
+        then Some (digits_value 10 digits.now) else None) }
 {
     let mut number: usize = 0;
     for digit in digits {
