@@ -40,7 +40,8 @@ pub fn head_in(bytes: &[u8], servers: usize, last: &Option<RowHead>) -> Result<R
     ensures said { result ≡ head_said servers (option_map head_key last.now) bytes.now }
     ensures offset { IfErr result (λ offset. offset ≤ 24) }
     ensures server { IfOk result (λ head. head.server < servers) }
-    ensures after { IfOk result (λ head. is_after (option_map head_key last.now) (head_key head) ≡ true) }
+    ensures after { IfOk result (λ head.
+        is_after (option_map head_key last.now) (head_key head) ≡ true) }
     ensures some { IfOk result (λ head. 0 < head.length) }
 {
     if bytes.len() < 4 {

@@ -74,7 +74,8 @@ impl<S: Store> Grid<S> {
             (λ bytes. RefusesRow (image_said (vec_len stores) bytes).rows server
             (room_at (states S.shares S.room S.held S.failures S.honest refusal.1.items) server)
             (IsHonest (states S.shares S.room S.held S.failures S.honest stores.items))
-            (rows_of (maps_of (states S.shares S.room S.held S.failures S.honest refusal.1.items))))) }
+            (rows_of (maps_of
+            (states S.shares S.room S.held S.failures S.honest refusal.1.items))))) }
 
         ensures ok { IsHonest (states S.shares S.room S.held S.failures S.honest stores.items) →
             IfOk result (λ grid. IfSome (R.remaining reader.old)
@@ -100,7 +101,8 @@ impl<S: Store> Grid<S> {
         ensures leaves { Leaves self.old self.new }
         ensures down { TellsDown self.old self.new result }
         ensures refusals { IfErr result IsReadRefusal }
-        ensures reads { IfSome (R.remaining reader.old) (λ bytes. Reads (image_said (length_of self.old) bytes) result
+        ensures reads { IfSome (R.remaining reader.old) (λ bytes.
+            Reads (image_said (length_of self.old) bytes) result
             (room_at self.new)
             (IsHonest self.old × (rows_of (maps_of self.old) ≡ []))
             (rows_of (maps_of self.new)) (R.remaining reader.new)) }
@@ -125,7 +127,8 @@ impl<S: Store> Grid<S> {
         ensures leaves { Leaves self.old self.new }
         ensures down { TellsDown self.old self.new result }
         ensures refusals { IfErr result IsReadRefusal }
-        ensures reads { IfSome (R.remaining reader.old) (λ bytes. Reads (rows_said count (length_of self.old) None 16 bytes) result
+        ensures reads { IfSome (R.remaining reader.old) (λ bytes.
+            Reads (rows_said count (length_of self.old) None 16 bytes) result
             (room_at self.new)
             (IsHonest self.old × (rows_of (maps_of self.old) ≡ []))
             (rows_of (maps_of self.new)) (R.remaining reader.new)) }
@@ -182,14 +185,17 @@ fn read_row<R: Read>(
 ) -> Result<ShareRow, GridFault>
     ensures refusals { IfErr result IsPartRefusal }
     ensures server { IfOk result (λ row. row.head.server < servers) }
-    ensures after { IfOk result (λ row. comes_after (option_map head_key last.now) (head_key row.head) ≡ true) }
+    ensures after { IfOk result (λ row.
+        comes_after (option_map head_key last.now) (head_key row.head) ≡ true) }
     ensures length { IfOk result (λ row. length_of (rc_slice_items row.bytes) ≡ row.head.length) }
     ensures some { IfOk result (λ row. 0 < row.head.length) }
     ensures next { IfOk result (λ row. row.next ≡ place + 28 + row.head.length) }
     ensures told { IfOk result (λ row. IfSome (R.remaining reader.old)
-        (λ left. SaysRow servers (option_map head_key last.now) place left (R.remaining reader.new) row.head (rc_slice_items row.bytes))) }
-    ensures bad_image { (p : ℕ) → IsErrOf result (GridFault.BadImage p) → IfSome (R.remaining reader.old)
-        (λ left. (n : ℕ) → rows_said (suc n) servers (option_map head_key last.now) place left ≡ stopped p) }
+        (λ left. SaysRow servers (option_map head_key last.now) place left
+        (R.remaining reader.new) row.head (rc_slice_items row.bytes))) }
+    ensures bad_image { (p : ℕ) → IsErrOf result (GridFault.BadImage p) →
+        IfSome (R.remaining reader.old) (λ left. (n : ℕ) →
+        rows_said (suc n) servers (option_map head_key last.now) place left ≡ stopped p) }
 {
     let Some(own_place) = place.checked_add(28) else {
         return Err(GridFault::ReadFailed);
@@ -213,8 +219,10 @@ fn read_row<R: Read>(
 /// Refuses an image that goes on at this place, where it has to end.
 fn expect_end<R: Read>(reader: &mut R, calls: &mut u64, place: u64) -> Result<(), GridFault>
     ensures refusals { IfErr result IsPartRefusal }
-    ensures ok { OnOk result (IfSome (R.remaining reader.old) (λ left. (left ≡ []) × (R.remaining reader.new ≡ Some []))) }
-    ensures bad_image { (p : ℕ) → IsErrOf result (GridFault.BadImage p) → (p ≡ place) × IfSome (R.remaining reader.old) (λ left. 0 < length_of left) }
+    ensures ok { OnOk result (IfSome (R.remaining reader.old)
+        (λ left. (left ≡ []) × (R.remaining reader.new ≡ Some []))) }
+    ensures bad_image { (p : ℕ) → IsErrOf result (GridFault.BadImage p) →
+        (p ≡ place) × IfSome (R.remaining reader.old) (λ left. 0 < length_of left) }
 {
     let mut next = [0; 1];
     if fill(reader, calls, &mut next)? > 0 {
@@ -232,8 +240,10 @@ fn read_bytes<R: Read>(
 ) -> Result<Option<Vec<u8>>, GridFault>
     ensures refusals { IfErr result IsReaderRefusal }
     ensures count { IfOk result (λ read. IfSome read (λ bytes. vec_len bytes ≡ count)) }
-    ensures told { IfOk result (λ read. IfSome (R.remaining reader.old) (λ left. MatchOption read (length_of left < count)
-        (λ bytes. (count ≤ length_of left) × (bytes.items ≡ take count left) × (R.remaining reader.new ≡ Some (drop count left))))) }
+    ensures told { IfOk result (λ read. IfSome (R.remaining reader.old) (λ left.
+        MatchOption read (length_of left < count)
+        (λ bytes. (count ≤ length_of left) × (bytes.items ≡ take count left)
+        × (R.remaining reader.new ≡ Some (drop count left))))) }
 {
     let mut bytes = Vec::new(alloc);
     while bytes.len() < count {
@@ -256,7 +266,8 @@ fn read_piece<R: Read>(
     ensures refusals { IfErr result IsReaderRefusal }
     ensures length { IfOk result (λ whole. vec_len bytes.new ≡ vec_len bytes.old + count) }
     ensures told { IfOk result (λ whole. IfSome (R.remaining reader.old) (λ left. MatchBool whole
-        ((count ≤ length_of left) × (bytes.new.items ≡ bytes.old.items ++ take count left) × (R.remaining reader.new ≡ Some (drop count left)))
+        ((count ≤ length_of left) × (bytes.new.items ≡ bytes.old.items ++ take count left)
+        × (R.remaining reader.new ≡ Some (drop count left)))
         (length_of left < count))) }
 {
     let start = bytes.len();
@@ -273,7 +284,8 @@ fn fill<R: Read>(reader: &mut R, calls: &mut u64, buffer: &mut [u8]) -> Result<u
     ensures refusals { IfErr result IsReaderRefusal }
     ensures bound { IfOk result (λ came. came ≤ length_of buffer.new) }
     ensures told { IfOk result (λ came. IfSome (R.remaining reader.old) (λ left.
-        (take came buffer.new ≡ take (length_of buffer.new) left) × (R.remaining reader.new ≡ Some (drop (length_of buffer.new) left)))) }
+        (take came buffer.new ≡ take (length_of buffer.new) left)
+        × (R.remaining reader.new ≡ Some (drop (length_of buffer.new) left)))) }
 {
     let mut came = 0;
     while came < buffer.len() {

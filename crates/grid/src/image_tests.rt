@@ -5,10 +5,11 @@ ghost use Rattle.grid.specs.GridState.{states, maps_of, IsHonest};
 
 use crate::laws::image_laws;
 use crate::{Grid, GridFault};
+use octets::fakes::{AtTheEnd, SlowReader, SlowWriter};
 use share_store::{FailAt, MemStore, Store};
 use std::alloc::Global;
 use std::io;
-use std::io::{ErrorKind, Read, Write};
+use std::io::Read;
 use std::rc::RcSlice;
 use std::test::Fail;
 
@@ -17,7 +18,8 @@ const EMPTY: [u8; 16] = *b"TGRIDIM1\x00\x00\x00\x05\x00\x00\x00\x00";
 
 fn stores_of(alloc: Global, count: usize, room: u64) -> Result<Vec<MemStore>, Fail>
     ensures count { IfOk result (λ stores. vec_len stores ≡ count) }
-    ensures empty { IfOk result (λ stores. All (λ store. ⟦<MemStore as Store>⟧.held store ≡ 0) stores.items) }
+    ensures empty { IfOk result (λ stores.
+        All (λ store. ⟦<MemStore as Store>⟧.held store ≡ 0) stores.items) }
 {
     let mut stores = Vec::new(alloc);
     for _server in 0..count {
@@ -120,7 +122,8 @@ fn copied<S: Store, T: Store>(
     requires few { vec_len stores ≤ 256 }
     requires many { vec_len stores ≡ length_of grid.old }
     requires empty { All (λ store. T.held store ≡ 0) stores.items }
-    ensures same { IsHonest grid.old → IsHonest (states T.shares T.room T.held T.failures T.honest stores.items) →
+    ensures same { IsHonest grid.old →
+        IsHonest (states T.shares T.room T.held T.failures T.honest stores.items) →
         IfOk result (λ copy. maps_of copy ≡ maps_of grid.old) }
 {
     image_laws();
@@ -268,37 +271,15 @@ fn a_store_that_is_full_is_named_before_a_later_fault(rt: HostRuntime) -> Result
     Ok(())
 }
 
-// A reader that gives a byte at a time, now and then none, and breaks after so many.
-#[derive(Drop)]
-struct Slow<'a> {
-    bytes: &'a [u8],
-    left: usize,
-    waits: bool,
-}
-
-impl Read for Slow<'_> {
-    fn read(&mut self, buf: &mut [u8]) -> io::Result<usize> {
-        if self.left == 0 {
-            return Err(io::Error::from(ErrorKind::BrokenPipe));
-        }
-        self.waits = !self.waits;
-        if self.waits {
-            return Err(io::Error::from(ErrorKind::Interrupted));
-        }
-        self.left -= 1;
-        let count = buf.len().min(1);
-        self.bytes.read(&mut buf[..count])
-    }
-}
-
 #[test]
 fn a_reader_may_be_slow_but_not_break(rt: HostRuntime) -> Result<(), Fail> {
     let image = three(rt.alloc())?;
     for left in 0..=image.len() + 1 {
-        let mut reader = Slow {
-            bytes: &image,
-            left,
-            waits: false,
+        let mut reader = SlowReader {
+            bytes: first(&image, left),
+            at_a_time: 1,
+            interrupts: Some(true),
+            fails: left <= image.len(),
         };
         let stores = stores_of(rt.alloc(), 5, 10)?;
         let error = Grid::read_image(rt.alloc(), stores, &mut reader)
@@ -314,55 +295,23 @@ fn a_reader_may_be_slow_but_not_break(rt: HostRuntime) -> Result<(), Fail> {
     Ok(())
 }
 
-// A writer that takes two bytes at a time, now and then none, and breaks or takes no more after so many calls.
-#[derive(Drop)]
-struct Narrow {
-    held: Vec<u8>,
-    left: usize,
-    waits: bool,
-    breaks: bool,
-}
-
-impl Write for Narrow {
-    fn write(&mut self, buf: &[u8]) -> io::Result<usize> {
-        if self.left == 0 {
-            return if self.breaks {
-                Err(io::Error::from(ErrorKind::StorageFull))
-            } else {
-                Ok(0)
-            };
-        }
-        self.waits = !self.waits;
-        if self.waits {
-            return Err(io::Error::from(ErrorKind::Interrupted));
-        }
-        self.left -= 1;
-        let count = buf.len().min(2);
-        self.held.extend_from_slice(&buf[..count])?;
-        Ok(count)
-    }
-
-    fn flush(&mut self) -> io::Result<()> {
-        Ok(())
-    }
-}
-
 #[test]
 fn a_writer_may_be_slow_but_not_break(rt: HostRuntime) -> Result<(), Fail> {
     let image = three(rt.alloc())?;
-    for left in 0..60 {
-        for breaks in [false, true] {
+    for room in 0..=image.len() + 1 {
+        for at_the_end in [AtTheEnd::Fails, AtTheEnd::TakesNothing] {
             let mut grid = read(rt.alloc(), &image)??;
-            let mut writer = Narrow {
+            let mut writer = SlowWriter {
                 held: Vec::new(rt.alloc()),
-                left,
-                waits: false,
-                breaks,
+                room,
+                at_a_time: 2,
+                interrupts: Some(true),
+                at_the_end,
+                flushes: true,
             };
             let written = grid.write_image(&mut writer);
-            let held = writer.held.as_slice();
-            assert!(rt; image.starts_with(held));
-            let wanted = if held.len() < image.len() {
+            assert_eq!(rt; writer.held.as_slice(), first(&image, room));
+            let wanted = if room < image.len() {
                 Some(GridFault::WriteFailed)
             } else {
                 None
@@ -376,7 +325,8 @@ fn a_writer_may_be_slow_but_not_break(rt: HostRuntime) -> Result<(), Fail> {
 // Five stores that hold nothing, of which server 1's fails from this call on.
 fn failing(alloc: Global, at: u64) -> Result<Vec<FailAt>, Fail>
     ensures count { IfOk result (λ stores. vec_len stores ≡ 5) }
-    ensures empty { IfOk result (λ stores. All (λ store. ⟦<FailAt as Store>⟧.held store ≡ 0) stores.items) }
+    ensures empty { IfOk result (λ stores.
+        All (λ store. ⟦<FailAt as Store>⟧.held store ≡ 0) stores.items) }
 {
     let mut stores = Vec::new(alloc);
     for server in 0..5_usize {

@@ -131,11 +131,14 @@ fn write_rows<W: Write>(
 ) -> Result<(), GridFault>
     ensures refusals { IfErr result IsWriteRefusal }
     ensures not_down { (s : ℕ) → IsErrOf result (GridFault.Down s) → ⊥ }
-    ensures ok { OnOk result (Appends (W.contents writer.old) (W.contents writer.new) (image servers (map row_of rows.now))) }
+    ensures ok { OnOk result (Appends (W.contents writer.old) (W.contents writer.new)
+        (image servers (map row_of rows.now))) }
     ensures fits { OnOk result (refused_place (map row_of rows.now) ≡ None) }
     ensures sized { OnOk result (All (λ row. length_of row.1.0.0 ≡ 16) (map row_of rows.now)) }
-    ensures bad_image { (place : ℕ) → IsErrOf result (GridFault.BadImage place) → refused_place (map row_of rows.now) ≡ Some place }
-    ensures err { OnErr result (WritesBeginning (image servers (map row_of rows.now)) (W.contents writer.old) (W.contents writer.new)) }
+    ensures bad_image { (place : ℕ) → IsErrOf result (GridFault.BadImage place) →
+        refused_place (map row_of rows.now) ≡ Some place }
+    ensures err { OnErr result (WritesBeginning (image servers (map row_of rows.now))
+        (W.contents writer.old) (W.contents writer.new)) }
 {
     let Ok(count) = u32::try_from(rows.len()) else {
         return Err(GridFault::BadImage(12));
@@ -161,12 +164,15 @@ fn write_row<W: Write>(
 ) -> Result<u64, GridFault>
     ensures refusals { IfErr result IsWriteRefusal }
     ensures not_down { (s : ℕ) → IsErrOf result (GridFault.Down s) → ⊥ }
-    ensures ok { OnOk result (Appends (W.contents writer.old) (W.contents writer.new) (row_bytes (row_of (server, share.now)))) }
+    ensures ok { OnOk result (Appends (W.contents writer.old) (W.contents writer.new)
+        (row_bytes (row_of (server, share.now)))) }
     ensures sized { OnOk result (length_of share.now.index ≡ 16) }
-    ensures next { IfOk result (λ next. (rows : List Row) → refused_field place (row_of (server, share.now) ∷ rows) ≡ refused_field next rows) }
+    ensures next { IfOk result (λ next. (rows : List Row) →
+        refused_field place (row_of (server, share.now) ∷ rows) ≡ refused_field next rows) }
     ensures bad_image { (p : ℕ) → IsErrOf result (GridFault.BadImage p) →
         (rows : List Row) → refused_field place (row_of (server, share.now) ∷ rows) ≡ Some p }
-    ensures err { OnErr result (WritesBeginning (row_bytes (row_of (server, share.now))) (W.contents writer.old) (W.contents writer.new)) }
+    ensures err { OnErr result (WritesBeginning (row_bytes (row_of (server, share.now)))
+        (W.contents writer.old) (W.contents writer.new)) }
 {
     let Some(bytes_place) = place.checked_add(28) else {
         return Err(GridFault::WriteFailed);

@@ -14,9 +14,9 @@ mod image_writer;
 mod image_reader;
 // The fields of an image.
 mod image_fields;
-// Laws of spoiling, of what is gathered, and of images.
 #[cfg(test)]
 mod image_tests;
+// Laws of spoiling, of what is gathered, and of images.
 pub mod laws;
 #[cfg(test)]
 mod tests;

@@ -200,8 +200,10 @@ impl<S: Store> Grid<S> {
         ensures unchanged { IsHonest self.old → IsUnchanged self.old self.new }
         ensures failed { failures_at self.old server < failures_at self.new server →
             IsOkAnd result (λ numbers. numbers.items ≡ []) }
-        ensures found { IsHonest self.old → failures_at self.new server ≡ failures_at self.old server →
-            IfOk result (λ numbers. numbers.items ≡ map (λ e. e.0.1) (of_index index (entries_at (maps_of self.old) server))) }
+        ensures found { IsHonest self.old →
+            failures_at self.new server ≡ failures_at self.old server →
+            IfOk result (λ numbers. numbers.items
+            ≡ map (λ e. e.0.1) (of_index index (entries_at (maps_of self.old) server))) }
     {
         self.stores[server].numbers(index)
     }
@@ -216,8 +218,10 @@ impl<S: Store> Grid<S> {
         requires { server < length self.old }
         ensures leaves { Leaves self.old self.new }
         ensures unchanged { IsHonest self.old → IsUnchanged self.old self.new }
-        ensures failed { failures_at self.old server < failures_at self.new server → result ≡ Ok None }
-        ensures found { IsHonest self.old → failures_at self.new server ≡ failures_at self.old server →
+        ensures failed { failures_at self.old server < failures_at self.new server →
+            result ≡ Ok None }
+        ensures found { IsHonest self.old →
+            failures_at self.new server ≡ failures_at self.old server →
             IfOk result (λ bytes. option_map rc_slice_items bytes
             ≡ stood self.old server (index, number)) }
     {

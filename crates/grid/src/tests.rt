@@ -27,7 +27,8 @@ fn grid_of(alloc: Global, count: usize, room: u64) -> Result<Grid<MemStore>, Fai
 // Shares of three bytes each, share i of the bytes i.
 fn shares_of(alloc: Global, count: u8) -> Result<Vec<RcSlice<u8>>, Fail>
     ensures count { IfOk result (λ shares. vec_len shares ≡ count) }
-    ensures some { IfOk result (λ shares. All (λ share. 0 < length_of (rc_slice_items share)) shares.items) }
+    ensures some { IfOk result (λ shares.
+        All (λ share. 0 < length_of (rc_slice_items share)) shares.items) }
 {
     let mut shares = Vec::new(alloc);
     for i in 0..count {

@@ -1,6 +1,9 @@
-pub mod Kept
-pub mod Search
+pub mod Edits
+pub mod Levels
+pub mod Parts
+pub mod Places
 pub mod Sizes
 pub mod Sorted
+pub mod Stands
 pub mod Toggles
 pub mod Toggling

@@ -6,7 +6,7 @@ use Rattle.std.specs.Ordering.{eq_by_cmp, is_eq}
 use Rattle.std.specs.Cmp.{eq_by_cmp_equiv}
 use Rattle.std.specs.declared.cmp.Ordering.{Ordering}
 use Rattle.std.specs.declared.cmp.Ordering.TheVariants.{Less, Equal, Greater}
-use Rattle.std.specs.FinMap.{find, get, entries, insert, remove, get-entries, entries-insert, get-insert, get-remove, same_map}
+use Rattle.std.specs.FinMap.{empty, len-entries, len-empty, find, get, entries, insert, remove, get-entries, entries-insert, get-insert, get-remove, same_map}
 use Rattle.std.specs.FinMap.Entries.{put, by_order}
 use Rattle.share_store.specs.Shares.{Shares, ShareKey, Entry, bytes_in, bytes_of, key_cmp}
 use Rattle.share_store.specs.Put.{put_once}
@@ -29,7 +29,7 @@ new_entry key bytes (e ∷ es) none = by_case (key_cmp key e.0) none (new_entry 
     by_case Greater h more = omega (arith, cons e (put key_cmp key bytes es), cons e es, more h)
 
 -- a share that none stood for adds its bytes
-inserted : (m : Shares) (key : ShareKey) (bytes : List ℕ) → get m key ≡ None → bytes_of (insert m key bytes) ≡ bytes_of m + length bytes
+pub inserted : (m : Shares) (key : ShareKey) (bytes : List ℕ) → get m key ≡ None → bytes_of (insert m key bytes) ≡ bytes_of m + length bytes
 inserted m key bytes none = ap bytes_in (entries-insert key_cmp_total m key bytes) ∙ new_entry key bytes (entries m) (sym (get-entries m key) ∙ none)
 
 pub bytes-put_once : (m : Shares) (key : ShareKey) (bytes : List ℕ) → bytes_of (put_once m key bytes) ≡ bytes_of m + (cond (is_some (get m key)) 0 (length bytes))
@@ -86,3 +86,22 @@ module _ (m : Shares) (key : ShareKey) where
           ∙ inserted (remove m key) key (toggled (bytes_at m key) place) none_left
           ∙ ap (λ n. bytes_of (remove m key) + n) (length-toggled (bytes_at m key) place)
           ∙ bytes-remove
+
+pub bytes-empty : bytes_of empty ≡ 0
+bytes-empty = ap bytes_in (nothing (entries {R = key_cmp} empty) (sym (len-entries empty) ∙ len-empty key_cmp (List ℕ)))
+  where
+    nothing : (es : List Entry) → length es ≡ 0 → es ≡ []
+    nothing [] e = refl
+    nothing (x ∷ es) e = absurd (omega arith)
+
+-- a share that stood for another of its length
+pub replaced : (m n : Shares) (key : ShareKey) (v w : List ℕ) → get m key ≡ Some w → length v ≡ length w → n ≡ insert m key v → bytes_of n ≡ bytes_of m
+replaced m n key v w found long is =
+    let put : bytes_of n ≡ bytes_of (remove m key) + length v = ap bytes_of (is ∙ sym (again m key v)) ∙ inserted (remove m key) key v (none_left m key) in
+    let left : bytes_of (remove m key) + length (bytes_at m key) ≡ bytes_of m = bytes-remove m key in
+    let same : length (bytes_at m key) ≡ length w = ap (λ o. length (unwrap_or o [])) found in
+    omega arith
+
+-- what is left after a loss
+pub left_after : (m n : Shares) (key : ShareKey) (o : Option (List ℕ)) → o ≡ get m key → n ≡ remove m key → bytes_of n + length (unwrap_or o []) ≡ bytes_of m
+left_after m n key o found is = ap (λ l. bytes_of l + length (unwrap_or o [])) is ∙ ap (λ p. bytes_of (remove m key) + length (unwrap_or p [])) found ∙ bytes-remove m key

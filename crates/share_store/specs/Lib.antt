@@ -1,4 +1,3 @@
-pub mod Gap
 pub mod Looked
 pub mod MapLaws
 pub mod Numbers

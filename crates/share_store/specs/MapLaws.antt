@@ -1,12 +1,12 @@
 -- Laws of the maps that stores stand for.
-use Rattle.std.specs.Prelude.{◌≡◌, ◌<◌, ◌+◌, ◌^◌, ℕ, Bool, true, List, length, All, T}
+use Rattle.std.specs.Prelude.{◌≡◌, ◌<◌, ◌+◌, ◌^◌, ℕ, Bool, true, List, T}
 use Rattle.std.specs.Ordering.{nat_cmp}
-use Rattle.std.proofs.Common.{sym, ap, subst, arith}
+use Rattle.std.proofs.Common.{sym, subst, arith}
 use Rattle.std.specs.Cmp.{IsTotalOrder, nat_cmp_total, then_total, on_total}
 use Rattle.std.specs.Cmp.Lexicographic.{slice_cmp, nat_list_cmp_total}
 use Rattle.std.proofs.lemmas.Map.Lookups.{CmpEqualImpliesEq, exact_unsigned, exact_bytes, exact_pairs}
 use Rattle.std.specs.FinMap.{from_sorted, is_sorted, entries, entries-from_sorted}
-use Rattle.share_store.specs.Shares.{Entry, key_cmp, bytes_in, bytes_of}
+use Rattle.share_store.specs.Shares.{Entry, key_cmp}
 
 pub key_cmp_total : IsTotalOrder key_cmp
 key_cmp_total = then_total (on_total (λ k. k.0) nat_list_cmp_total) (on_total (λ k. k.1) nat_cmp_total)
@@ -21,12 +21,6 @@ is_T b h = subst T (sym h) tt
 -- a map made of sorted entries has those entries
 pub entries_kept : (es : List Entry) → is_sorted key_cmp es ≡ true → entries (from_sorted {R = key_cmp} es) ≡ es
 entries_kept es h = entries-from_sorted key_cmp es (is_T _ h)
-
-pub bytes_kept : (es : List Entry) → is_sorted key_cmp es ≡ true → bytes_of (from_sorted es) ≡ bytes_in es
-bytes_kept es h = ap bytes_in (entries_kept es h)
-
-pub none_empty_kept : (es : List Entry) → is_sorted key_cmp es ≡ true → All (λ e. 0 < length e.1) es → All (λ e. 0 < length e.1) (entries (from_sorted {R = key_cmp} es))
-none_empty_kept es h all = subst (λ (fs : List Entry). All (λ e. 0 < length e.1) fs) (sym (entries_kept es h)) all
 
 pub held_fits : (room held : ℕ) → room + held < 2 ^ 64 → held < 2 ^ 64
 held_fits room held lt = omega arith

@@ -1,8 +1,6 @@
 //! A store that fails at a call, or from a call on.
 ghost use Rattle.std.specs.Prelude.{◌≡◌, ◌+◌, ◌-◌, ◌^◌, ◌==◌, ◌&&◌, not, if◌then◌else◌};
-ghost use Rattle.std.proofs.Common.{sym, ◌∙◌};
-ghost use Rattle.share_store.specs.MapLaws.{bytes_kept, held_fits, none_empty_kept};
-ghost use Rattle.share_store.specs.Stored.{entries_of};
+ghost use Rattle.share_store.specs.MapLaws.{held_fits};
 
 use crate::{MemStore, Share, Store, StoreFault};
 use std::alloc::{AllocError, Global};
@@ -42,7 +40,8 @@ impl FailAt {
     /// Counts a call, and says whether it fails: where `left` is 1, and where it is 0 none does.
     fn fails(&mut self) -> bool
         ensures inner { self.new.inner ≡ self.old.inner }
-        ensures counts { self.new.failures ≡ (if result then self.old.failures + 1 else self.old.failures) }
+        ensures counts { self.new.failures
+            ≡ (if result then self.old.failures + 1 else self.old.failures) }
         ensures fails { result ≡ self.old.left == 1 && not (self.old.failures == 2 ^ 64 - 1) }
         ensures for_good { self.new.for_good ≡ self.old.for_good }
         ensures left { self.new.left ≡ (if self.old.failures == 2 ^ 64 - 1 then self.old.left
@@ -140,9 +139,9 @@ impl Store for FailAt {
         self.failures
     }
 
-    ghost held_is = { λ store honest. store.inner.summed ∙ sym (bytes_kept (entries_of store.inner.shares.items) store.inner.sorted) };
+    ghost held_is = { λ store honest. store.inner.summed };
 
-    ghost none_empty = { λ store honest. none_empty_kept (entries_of store.inner.shares.items) store.inner.sorted store.inner.some };
+    ghost none_empty = { λ store honest. store.inner.some };
 
     ghost fits = { λ store honest. held_fits store.inner.room store.inner.held store.inner.fits };
 }

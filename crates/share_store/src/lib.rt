@@ -13,6 +13,8 @@ mod store;
 mod share;
 // Why a store refuses.
 mod fault;
+// Shares by storage index and number.
+mod share_map;
 // A store in memory.
 mod mem_store;
 // A store that fails at a call.

@@ -1,14 +1,13 @@
-//! A store in memory: a vector of shares in rising order of storage index and number.
-ghost use Rattle.std.specs.Prelude.{◌≡◌, ◌<◌, ◌≤◌, ◌+◌, ◌^◌, All, IsTrue, true, IfOk, IfErr, slice_get, length, Some};
+//! A store in memory: shares in two levels, by storage index and number.
+ghost use Rattle.std.specs.Prelude.{◌≡◌, ◌<◌, ◌+◌, ◌^◌, All, IsTrue, true, IfOk, length};
 ghost use Rattle.std.specs.FinMap as map;
 ghost use Rattle.std.specs.Rc.{rc_slice_items};
-ghost use Rattle.share_store.specs.Shares.{key_cmp, bytes_in};
+ghost use Rattle.share_store.specs.Shares.{bytes_of};
 ghost use Rattle.share_store.specs.Toggle.{toggled};
-ghost use Rattle.share_store.specs.MapLaws.{bytes_kept, held_fits, none_empty_kept};
-ghost use Rattle.share_store.specs.Stored.{entries_of};
-ghost use Rattle.share_store.specs.Gap.{IsGap};
-ghost use Rattle.std.proofs.Common.{sym, ◌∙◌};
+ghost use Rattle.share_store.specs.MapLaws.{held_fits};
+ghost use Rattle.share_store.specs.Stored.{shares_in};
 
+use crate::share_map::ShareMap;
 use crate::{Share, Store, StoreFault};
 use std::alloc::{AllocError, Global};
 use std::rc::RcSlice;
@@ -16,12 +15,12 @@ use std::rc::RcSlice;
 /// A store in memory. It is always honest, and never fails.
 #[derive(Drop)]
 pub struct MemStore {
-    shares: Vec<Share>,
+    shares: ShareMap,
     room: u64,
     held: u64,
-    ghost sorted: { IsTrue (map.is_sorted key_cmp (entries_of shares.items)) },
-    ghost summed: { held ≡ bytes_in (entries_of shares.items) },
-    ghost some: { All (λ e. 0 < length e.1) (entries_of shares.items) },
+    ghost summed: { held ≡ bytes_of (shares_in rc_slice_items shares.indexes) },
+    ghost some: { All (λ e. 0 < length e.1)
+        (map.entries (shares_in rc_slice_items shares.indexes)) },
     ghost fits: { room + held < 2 ^ 64 },
 }
 
@@ -35,23 +34,11 @@ impl MemStore {
         ensures failures { ⟦<MemStore as Store>⟧.failures result ≡ 0 }
     {
         MemStore {
-            shares: Vec::new(alloc),
+            shares: ShareMap::new(alloc),
             room,
             held: 0,
         }
     }
-}
-
-// Where a share is, or where it would go.
-fn place_of(shares: &[Share], index: &[u8; 16], number: u16) -> Result<usize, usize>
-    requires { IsTrue (map.is_sorted key_cmp (entries_of shares.now)) }
-    ensures found { IfOk result (λ at. (at < length shares.now)
-        × ((bytes : _) × (slice_get (entries_of shares.now) at ≡ Some ((index.now, number), bytes)))) }
-    ensures absent { IfErr result (λ at. (at ≤ length shares.now)
-        × IsGap key_cmp (entries_of shares.now) (index.now, number) at) }
-{
-    let key = (*index, number);
-    shares.binary_search_by_key(&key, |share| (share.index, share.number))
 }
 
 // A copy of the bytes with the lowest bit of one changed.
@@ -67,7 +54,7 @@ fn with_bit_changed(alloc: Global, bytes: &[u8], place: usize) -> Result<RcSlice
 impl Store for MemStore {
     ghost honest = { λ store. true };
 
-    ghost shares = { λ store. map.from_sorted (entries_of store.shares.items) };
+    ghost shares = { λ store. shares_in rc_slice_items store.shares.indexes };
 
     ghost room = { λ store. store.room };
 
@@ -76,37 +63,22 @@ impl Store for MemStore {
     ghost failures = { λ store. 0 };
 
     fn has(&mut self, index: [u8; 16], number: u16) -> Result<bool, AllocError> {
-        Ok(place_of(&self.shares, &index, number).is_ok())
+        Ok(self.shares.get(&index, number).is_some())
     }
 
     fn numbers(&mut self, index: [u8; 16]) -> Result<Vec<u16>, AllocError> {
-        let mut numbers = Vec::new(*self.shares.allocator());
-        for share in &self.shares {
-            if share.index == index {
-                numbers.push(share.number)?;
-            }
-        }
-        Ok(numbers)
+        self.shares.numbers(&index)
     }
 
     fn get(&mut self, index: [u8; 16], number: u16) -> Result<Option<RcSlice<u8>>, AllocError> {
-        match place_of(&self.shares, &index, number) {
-            Ok(at) => Ok(Some(self.shares[at].bytes.clone()?)),
-            Err(_) => Ok(None),
+        match self.shares.get(&index, number) {
+            None => Ok(None),
+            Some(bytes) => Ok(Some(bytes.clone()?)),
         }
     }
 
     fn nth(&mut self, at: u64) -> Result<Option<Share>, AllocError> {
-        if at >= self.shares.len() as u64 {
-            return Ok(None);
-        }
-        let share = &self.shares[at as usize];
-        let bytes = share.bytes.clone()?;
-        Ok(Some(Share {
-            index: share.index,
-            number: share.number,
-            bytes,
-        }))
+        self.shares.nth(at)
     }
 
     fn put(
@@ -115,57 +87,42 @@ impl Store for MemStore {
         number: u16,
         bytes: RcSlice<u8>,
     ) -> Result<bool, StoreFault> {
-        match place_of(&self.shares, &index, number) {
-            Ok(_) => Ok(false),
-            Err(at) => {
-                let len = bytes.len() as u64;
-                if len > self.room {
-                    return Err(StoreFault::Full);
-                }
-                let share = Share {
-                    index,
-                    number,
-                    bytes,
-                };
-                self.shares.insert(at, share)?;
-                self.room -= len;
-                self.held += len;
-                Ok(true)
-            }
+        if self.shares.get(&index, number).is_some() {
+            return Ok(false);
         }
+        let len = bytes.len() as u64;
+        if len > self.room {
+            return Err(StoreFault::Full);
+        }
+        self.shares.insert(index, number, bytes)?;
+        self.room -= len;
+        self.held += len;
+        Ok(true)
     }
 
     fn lose(&mut self, index: [u8; 16], number: u16) -> Result<bool, StoreFault> {
-        match place_of(&self.shares, &index, number) {
-            Ok(at) => {
-                let len = self.shares[at].bytes.len() as u64;
-                let _share = self.shares.remove(at);
+        match self.shares.remove(&index, number) {
+            None => Ok(false),
+            Some(bytes) => {
+                let len = bytes.len() as u64;
                 self.room += len;
                 self.held -= len;
                 Ok(true)
             }
-            Err(_) => Ok(false),
         }
     }
 
     fn toggle(&mut self, index: [u8; 16], number: u16, place: u64) -> Result<bool, StoreFault> {
-        match place_of(&self.shares, &index, number) {
-            Ok(at) => {
-                let share = &self.shares[at];
-                if place >= share.bytes.len() as u64 {
-                    return Ok(false);
-                }
-                let alloc = *self.shares.allocator();
-                let bytes = with_bit_changed(alloc, share.bytes.as_slice(), place as usize)?;
-                self.shares[at] = Share {
-                    index,
-                    number,
-                    bytes,
-                };
-                Ok(true)
-            }
-            Err(_) => Ok(false),
+        let Some(bytes) = self.shares.get(&index, number) else {
+            return Ok(false);
+        };
+        if place >= bytes.len() as u64 {
+            return Ok(false);
         }
+        let alloc = self.shares.allocator();
+        let changed = with_bit_changed(alloc, bytes.as_slice(), place as usize)?;
+        self.shares.insert(index, number, changed)?;
+        Ok(true)
     }
 
     fn room(&self) -> u64 {
@@ -180,9 +137,9 @@ impl Store for MemStore {
         0
     }
 
-    ghost held_is = { λ store honest. store.summed ∙ sym (bytes_kept (entries_of store.shares.items) store.sorted) };
+    ghost held_is = { λ store honest. store.summed };
 
     ghost fits = { λ store honest. held_fits store.room store.held store.fits };
 
-    ghost none_empty = { λ store honest. none_empty_kept (entries_of store.shares.items) store.sorted store.some };
+    ghost none_empty = { λ store honest. store.some };
 }

@@ -87,7 +87,8 @@ pub trait Store {
         ensures put { IsTrue (honest self.old) →
             IfOk result (λ put. put ≡ not (map.contains_key (shares self.old) (index, number))) }
         ensures shares { IsTrue (honest self.old) →
-            OnOk result (shares self.new ≡ put_once (shares self.old) (index, number) (rc_slice_items bytes)) }
+            OnOk result (shares self.new
+            ≡ put_once (shares self.old) (index, number) (rc_slice_items bytes)) }
         ensures err { IsTrue (honest self.old) → OnErr result (shares self.new ≡ shares self.old) }
         ensures room { IsTrue (honest self.old) →
             room self.new + held self.new ≡ room self.old + held self.old };

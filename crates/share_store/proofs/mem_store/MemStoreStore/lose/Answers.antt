@@ -1,71 +1,46 @@
-use Rattle.std.proofs.Common.{sym, arith}
-use Rattle.share_store.specs.Shares.{ShareKey}
-use Rattle.share_store.specs.Stored.{entries_of}
-use Rattle.share_store.proofs.Kept.{found_in, absent_in, read_there, absent, present, nothing_lost, sorted_after_remove, bytes_after_remove, some_after_remove, shares_after_remove}
+use Rattle.std.proofs.Common.{ap, sym, ◌∙◌, arith}
+use Rattle.std.specs.Option.{option_map}
+use Rattle.std.specs.Rc.{rc_slice_items}
+use Rattle.share_store.specs.Stored.{shares_in}
+use Rattle.share_store.proofs.Sizes.{left_after}
+use Rattle.share_store.proofs.Stands.{some_lost}
 use Rattle.share_store.proofs.mem_store.MemStoreStore.lose.Goals as goal
-
-pub overflow_add-self : goal.overflow_add-self
-overflow_add-self c =
-    let store = c.args.self.now in
-    let key : ShareKey = (c.args.index, c.args.number) in
-    let found = found_in store.shares.items c.deref.result.now key c.in-Ok.at c.deref.ensures.value c.in-Ok.ensures.found in
-    let here = read_there store.shares.items key c.in-Ok.at c.index.result.now found c.index.ensures in
-    omega (arith, bytes_after_remove store.shares.items store.sorted c.in-Ok.at key _ here _ c.remove-share.ensures.items, store.summed, store.fits, c.len-len.ensures)
-
-pub overflow_sub-self : goal.overflow_sub-self
-overflow_sub-self c =
-    let store = c.args.self.now in
-    let key : ShareKey = (c.args.index, c.args.number) in
-    let found = found_in store.shares.items c.deref.result.now key c.in-Ok.at c.deref.ensures.value c.in-Ok.ensures.found in
-    let here = read_there store.shares.items key c.in-Ok.at c.index.result.now found c.index.ensures in
-    omega (arith, bytes_after_remove store.shares.items store.sorted c.in-Ok.at key _ here _ c.remove-share.ensures.items, store.summed, c.len-len.ensures)
 
 pub invariant_of-self : goal.invariant_of-self
 invariant_of-self c =
-    let store = c.args.self.now in
-    let key : ShareKey = (c.args.index, c.args.number) in
-    let found = found_in store.shares.items c.deref.result.now key c.in-Ok.at c.deref.ensures.value c.in-Ok.ensures.found in
-    let here = read_there store.shares.items key c.in-Ok.at c.index.result.now found c.index.ensures in
-    let is = c.remove-share.ensures.items in
+    let m = shares_in rc_slice_items c.args.self.now.shares.indexes in
+    let n = shares_in rc_slice_items c.remove.new.self.indexes in
     record {
-      sorted = sorted_after_remove store.shares.items store.sorted c.in-Ok.at key _ here _ is;
-      summed = omega (arith, bytes_after_remove store.shares.items store.sorted c.in-Ok.at key _ here _ is, store.summed, c.len-len.ensures);
-      some = some_after_remove store.shares.items store.sorted c.in-Ok.at key _ here _ is store.some;
-      fits = omega (arith, bytes_after_remove store.shares.items store.sorted c.in-Ok.at key _ here _ is, store.summed, store.fits, c.len-len.ensures);
+      summed = omega (arith, c.args.self.now.summed, left_after m n (c.args.index, c.args.number) _ (ap (option_map rc_slice_items) (sym c.in-None.is) ∙ c.remove.ensures.value) c.remove.ensures.shares);
+      some = some_lost m n (c.args.index, c.args.number) c.args.self.now.some c.remove.ensures.shares;
+      fits = c.args.self.now.fits;
     }
 
-pub returns-in-Ok-clause-lost : goal.returns-in-Ok-clause-lost
-returns-in-Ok-clause-lost c honest =
-    let store = c.args.self.now in
-    let key : ShareKey = (c.args.index, c.args.number) in
-    let found = found_in store.shares.items c.deref.result.now key c.in-Ok.at c.deref.ensures.value c.in-Ok.ensures.found in
-    sym (present (entries_of store.shares.items) store.sorted key c.in-Ok.at found.1.0 found.1.1)
+pub overflow_add-self : goal.overflow_add-self
+overflow_add-self c =
+    let m = shares_in rc_slice_items c.args.self.now.shares.indexes in
+    let n = shares_in rc_slice_items c.remove.new.self.indexes in
+    omega (arith, c.args.self.now.summed, c.args.self.now.fits, c.len-len.ensures, left_after m n (c.args.index, c.args.number) _ (ap (option_map rc_slice_items) (sym c.in-Some.is) ∙ c.remove.ensures.value) c.remove.ensures.shares)
 
-pub returns-in-Ok-clause-shares : goal.returns-in-Ok-clause-shares
-returns-in-Ok-clause-shares c honest =
-    let store = c.args.self.now in
-    let key : ShareKey = (c.args.index, c.args.number) in
-    let found = found_in store.shares.items c.deref.result.now key c.in-Ok.at c.deref.ensures.value c.in-Ok.ensures.found in
-    shares_after_remove store.shares.items store.sorted c.in-Ok.at key found.1.0 found.1.1 _ c.remove-share.ensures.items
+pub overflow_sub-self : goal.overflow_sub-self
+overflow_sub-self c =
+    let m = shares_in rc_slice_items c.args.self.now.shares.indexes in
+    let n = shares_in rc_slice_items c.remove.new.self.indexes in
+    omega (arith, c.args.self.now.summed, c.len-len.ensures, left_after m n (c.args.index, c.args.number) _ (ap (option_map rc_slice_items) (sym c.in-Some.is) ∙ c.remove.ensures.value) c.remove.ensures.shares)
 
-pub returns-in-Err-clause-lost : goal.returns-in-Err-clause-lost
-returns-in-Err-clause-lost c honest =
-    let store = c.args.self.now in
-    let key : ShareKey = (c.args.index, c.args.number) in
-    let gap = absent_in store.shares.items c.deref.result.now key c.in-Err.field-0 c.deref.ensures.value c.in-Err.ensures.absent in
-    sym (absent (entries_of store.shares.items) store.sorted key c.in-Err.field-0 gap.1)
+pub invariant_of-self-in-Some : goal.invariant_of-self-in-Some
+invariant_of-self-in-Some c =
+    let m = shares_in rc_slice_items c.args.self.now.shares.indexes in
+    let n = shares_in rc_slice_items c.remove.new.self.indexes in
+    let left = left_after m n (c.args.index, c.args.number) _ (ap (option_map rc_slice_items) (sym c.in-Some.is) ∙ c.remove.ensures.value) c.remove.ensures.shares in
+    record {
+      summed = omega (arith, c.args.self.now.summed, c.len-len.ensures, left);
+      some = some_lost m n (c.args.index, c.args.number) c.args.self.now.some c.remove.ensures.shares;
+      fits = omega (arith, c.args.self.now.summed, c.args.self.now.fits, c.len-len.ensures, left);
+    }
 
-pub returns-in-Err-clause-shares : goal.returns-in-Err-clause-shares
-returns-in-Err-clause-shares c honest =
-    let store = c.args.self.now in
-    let key : ShareKey = (c.args.index, c.args.number) in
-    let gap = absent_in store.shares.items c.deref.result.now key c.in-Err.field-0 c.deref.ensures.value c.in-Err.ensures.absent in
-    nothing_lost (entries_of store.shares.items) store.sorted key c.in-Err.field-0 gap.1
-
-pub returns-in-Ok-clause-room : goal.returns-in-Ok-clause-room
-returns-in-Ok-clause-room c honest =
-    let store = c.args.self.now in
-    let key : ShareKey = (c.args.index, c.args.number) in
-    let found = found_in store.shares.items c.deref.result.now key c.in-Ok.at c.deref.ensures.value c.in-Ok.ensures.found in
-    let here = read_there store.shares.items key c.in-Ok.at c.index.result.now found c.index.ensures in
-    omega (arith, bytes_after_remove store.shares.items store.sorted c.in-Ok.at key _ here _ c.remove-share.ensures.items, store.summed, c.len-len.ensures)
+pub returns-in-Some-clause-room : goal.returns-in-Some-clause-room
+returns-in-Some-clause-room c honest =
+    let m = shares_in rc_slice_items c.args.self.now.shares.indexes in
+    let n = shares_in rc_slice_items c.remove.new.self.indexes in
+    omega (arith, c.args.self.now.summed, c.len-len.ensures, left_after m n (c.args.index, c.args.number) _ (ap (option_map rc_slice_items) (sym c.in-Some.is) ∙ c.remove.ensures.value) c.remove.ensures.shares)

@@ -1,73 +1,24 @@
-use Rattle.std.proofs.Common.{◌≡◌, ◌∙◌, sym, ap, arith, true, false, nat_lt, length, refl}
-use Rattle.std.proofs.lemmas.Bool.Decides.{nat_tests}
+use Rattle.std.proofs.Common.{◌≡◌, ◌<◌, ap, sym, ◌∙◌, arith, length}
+use Rattle.std.specs.Option.{option_map}
 use Rattle.std.specs.Rc.{rc_slice_items}
-use Rattle.share_store.specs.Shares.{ShareKey}
+use Rattle.share_store.specs.Stored.{shares_in}
 use Rattle.share_store.specs.Toggle.{toggled}
-use Rattle.share_store.specs.Stored.{entries_of}
-use Rattle.share_store.proofs.Kept.{found_in, absent_in, read_there, has_byte_here, nothing_toggled, untoggled, sorted_after_set, bytes_after_set, some_after_set, shares_after_set, length_toggled, nonempty_from}
+use Rattle.share_store.proofs.Toggling.{length-toggled}
+use Rattle.share_store.proofs.Stands.{found_from_all, some_put_or, bytes_put_or}
 use Rattle.share_store.proofs.mem_store.MemStoreStore.toggle.Goals as goal
-
-pub returns-then-place-len-clause-toggled : goal.returns-then-place-len-clause-toggled
-returns-then-place-len-clause-toggled c honest =
-    let store = c.args.self.now in
-    let key : ShareKey = (c.args.index, c.args.number) in
-    let found = found_in store.shares.items c.deref.result.now key c.in-Ok.at c.deref.ensures.value c.in-Ok.ensures.found in
-    let here = read_there store.shares.items key c.in-Ok.at c.index-share.result.now found c.index-share.ensures in
-    let past : nat_lt c.args.place (length (rc_slice_items c.index-share.result.now.bytes)) ≡ false = grind (arith, nat_tests, c.len.ensures) in
-    sym (has_byte_here (entries_of store.shares.items) store.sorted key c.in-Ok.at _ here c.args.place false past)
-
-pub returns-then-place-len-clause-shares : goal.returns-then-place-len-clause-shares
-returns-then-place-len-clause-shares c honest =
-    let store = c.args.self.now in
-    let key : ShareKey = (c.args.index, c.args.number) in
-    let found = found_in store.shares.items c.deref.result.now key c.in-Ok.at c.deref.ensures.value c.in-Ok.ensures.found in
-    let here = read_there store.shares.items key c.in-Ok.at c.index-share.result.now found c.index-share.ensures in
-    let past : nat_lt c.args.place (length (rc_slice_items c.index-share.result.now.bytes)) ≡ false = grind (arith, nat_tests, c.len.ensures) in
-    untoggled _ key c.args.place (has_byte_here (entries_of store.shares.items) store.sorted key c.in-Ok.at _ here c.args.place false past)
-
-pub returns-in-Err-clause-toggled : goal.returns-in-Err-clause-toggled
-returns-in-Err-clause-toggled c honest =
-    let store = c.args.self.now in
-    let key : ShareKey = (c.args.index, c.args.number) in
-    let gap = absent_in store.shares.items c.deref.result.now key c.in-Err.field-0 c.deref.ensures.value c.in-Err.ensures.absent in
-    sym (nothing_toggled (entries_of store.shares.items) store.sorted key c.in-Err.field-0 gap.1 c.args.place)
-
-pub returns-in-Err-clause-shares : goal.returns-in-Err-clause-shares
-returns-in-Err-clause-shares c honest =
-    let store = c.args.self.now in
-    let key : ShareKey = (c.args.index, c.args.number) in
-    let gap = absent_in store.shares.items c.deref.result.now key c.in-Err.field-0 c.deref.ensures.value c.in-Err.ensures.absent in
-    untoggled _ key c.args.place (nothing_toggled (entries_of store.shares.items) store.sorted key c.in-Err.field-0 gap.1 c.args.place)
 
 pub invariant_of-self : goal.invariant_of-self
 invariant_of-self c =
-    let store = c.args.self.now in
-    let key : ShareKey = (c.args.index, c.args.number) in
-    let found = found_in store.shares.items c.deref.result.now key c.in-Ok.at c.deref.ensures.value c.in-Ok.ensures.found in
-    let here = read_there store.shares.items key c.in-Ok.at c.index-share.result.now found c.index-share.ensures in
-    let changed = c.in_ok-bytes-in-Ok.ensures in
-    let same : length (rc_slice_items c.in_ok-bytes-in-Ok.bytes) ≡ length (rc_slice_items c.index-share.result.now.bytes) = ap length changed ∙ length_toggled _ c.args.place ∙ ap length c.as_slice.ensures.value in
+    let m = shares_in rc_slice_items c.args.self.now.shares.indexes in
+    let n = shares_in rc_slice_items c.insert.new.self.indexes in
+    let was = rc_slice_items c.in-Some.bytes.now in
+    let now = rc_slice_items c.in_ok-changed.changed in
+    let found = sym c.get.ensures ∙ ap (option_map (λ bytes. rc_slice_items bytes.now)) c.in-Some.is in
+    let is : now ≡ toggled was c.args.place = c.in_ok-changed.ensures ∙ ap (λ bytes. toggled bytes c.args.place) c.as_slice.ensures.value in
+    let long : length now ≡ length was = ap length is ∙ length-toggled was c.args.place in
+    let some : 0 < length was = found_from_all m c.args.self.now.some (c.args.index, c.args.number) was found in
     record {
-      sorted = sorted_after_set store.shares.items store.sorted c.in-Ok.at _ _ here _ refl;
-      summed = store.summed ∙ sym (bytes_after_set store.shares.items store.sorted c.in-Ok.at _ _ here _ refl same);
-      some = some_after_set store.shares.items store.sorted c.in-Ok.at _ _ here _ refl store.some (omega (arith, same, nonempty_from (entries_of store.shares.items) store.some c.in-Ok.at key _ here));
-      fits = store.fits;
+      summed = c.args.self.now.summed ∙ sym (bytes_put_or m n (c.args.index, c.args.number) now was c.insert.result found long c.insert.ensures.ok c.insert.ensures.err);
+      some = some_put_or m n (c.args.index, c.args.number) now c.insert.result c.args.self.now.some (omega arith) c.insert.ensures.ok c.insert.ensures.err;
+      fits = c.args.self.now.fits;
     }
-
-pub returns-in_ok-bytes-in-Ok-clause-toggled : goal.returns-in_ok-bytes-in-Ok-clause-toggled
-returns-in_ok-bytes-in-Ok-clause-toggled c honest =
-    let store = c.args.self.now in
-    let key : ShareKey = (c.args.index, c.args.number) in
-    let found = found_in store.shares.items c.deref.result.now key c.in-Ok.at c.deref.ensures.value c.in-Ok.ensures.found in
-    let here = read_there store.shares.items key c.in-Ok.at c.index-share.result.now found c.index-share.ensures in
-    let within : nat_lt c.args.place (length (rc_slice_items c.index-share.result.now.bytes)) ≡ true = grind (arith, nat_tests, c.len.ensures) in
-    sym (has_byte_here (entries_of store.shares.items) store.sorted key c.in-Ok.at _ here c.args.place true within)
-
-pub returns-in_ok-bytes-in-Ok-clause-shares : goal.returns-in_ok-bytes-in-Ok-clause-shares
-returns-in_ok-bytes-in-Ok-clause-shares c honest =
-    let store = c.args.self.now in
-    let key : ShareKey = (c.args.index, c.args.number) in
-    let found = found_in store.shares.items c.deref.result.now key c.in-Ok.at c.deref.ensures.value c.in-Ok.ensures.found in
-    let here = read_there store.shares.items key c.in-Ok.at c.index-share.result.now found c.index-share.ensures in
-    let within : nat_lt c.args.place (length (rc_slice_items c.index-share.result.now.bytes)) ≡ true = grind (arith, nat_tests, c.len.ensures) in
-    shares_after_set store.shares.items store.sorted c.in-Ok.at _ _ here _ refl c.args.place within (c.in_ok-bytes-in-Ok.ensures ∙ ap (λ bytes. toggled bytes c.args.place) c.as_slice.ensures.value)
