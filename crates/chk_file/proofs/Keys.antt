@@ -1,9 +1,9 @@
 -- Where no two uses collide, what verification finds by an upload's cap is what is held.
-use Rattle.std.proofs.Common.{◌≡◌, ℕ, ◌<◌, ◌≤◌, List, [], ◌∷◌, length, take, map, Bool, true, false, cond, Option, Some, None, refl, sym, ap, subst, ◌∙◌, arith}
+use Rattle.std.proofs.Common.{◌≡◌, ℕ, ◌<◌, ◌≤◌, List, [], ◌∷◌, length, take, map, Bool, true, false, cond, eqb, Option, Some, None, refl, sym, ap, subst, ◌∙◌, arith}
 use Rattle.std.specs.Prelude.{nat_le, All, Contains, option_and_then, flat_map, ◌||◌}
 use Rattle.std.specs.Option.{option_map, option_map_or, option_or}
 use Rattle.std.specs.List.{range_with_len, filter_map, cons_option, list_any}
-use Rattle.std.proofs.lemmas.Bool.{and_from, leb-true}
+use Rattle.std.proofs.lemmas.Bool.{and_from, eq-eqb, leb-true}
 use Rattle.std.proofs.lemmas.List.{length-map, take-map, length-take-le}
 use Rattle.std.proofs.lemmas.List.Elements.{All-head, All-tail, All-filter, All-take}
 use Rattle.tag_hash.specs.Collisions.{NoCollision, Includes}
@@ -14,6 +14,7 @@ use Rattle.aes_ctr.specs.Crypt.{crypt, crypt_from}
 use Rattle.erasure.specs.Code.{AreBytes}
 use Rattle.erasure.specs.Given.{AreNumbers}
 use Rattle.share_codec.specs.Params.{ParamsValue}
+use Rattle.share_store.specs.Toggles.{is_toggled, toggled_from, TogglesLaws}
 use Rattle.share_codec.specs.Segments.{cut_blocks}
 use Rattle.share_codec.specs.Shares.{roots_of, ueb_hash, share}
 use Rattle.share_codec.specs.Meets.{Meets}
@@ -24,16 +25,15 @@ use Rattle.chk_file.specs.Upload.{Upload, params, key_tag, key_of, crypttext_of,
 use Rattle.chk_file.specs.Uses.{upload_uses}
 use Rattle.chk_file.specs.Row.{Place, most_servers, first_good, good_at, good_shares, place_uses, row_uses}
 use Rattle.chk_file.specs.Fit.{crypttext_from, has_padding, has_root, is_of, given_by, fit_in, fit}
-use Rattle.chk_file.specs.Marks.{Mark, MarkRow, toggled_from, stands, shown_row}
+use Rattle.chk_file.specs.Marks.{Mark, MarkRow, stands, shown_row}
 use Rattle.chk_file.specs.Held.{has_none, is_untouched, stands_untouched, untouched_numbers, held_of}
 use Rattle.chk_file.specs.Sound.{IsMarkAt}
-use Rattle.chk_file.proofs.Tools.{true_or_false, bytes_same, Contains-flat_map, Contains-range, All-range, filtered_apart, kept_alike, kept_range, pairs_taken}
+use Rattle.chk_file.proofs.Tools.{true_or_false, or_first, bytes_same, Contains-flat_map, Contains-range, All-range, filtered_apart, kept_alike, kept_range, pairs_taken}
 use Rattle.chk_file.proofs.Uploads.{shares_hashed}
 use Rattle.chk_file.proofs.Decodes.{made_share}
 use Rattle.chk_file.proofs.Sealed.{ReadFrom}
 use Rattle.chk_file.proofs.Sound.{Twice, CryptIs, CryptLength, crypt-twice}
 use Rattle.chk_file.proofs.Sizes.{some-size, size-crypttext}
-use Rattle.chk_file.proofs.Toggles.{toggled-none, touched-differs}
 
 -- what the laws of shares say
 abbrev pub MadeMeets : Type 0
@@ -82,7 +82,7 @@ pub record IsRowOf (uses : List Use) (u : Upload) (marks : MarkRow) : Type 0 whe
   pub put : (server number : ℕ) (mark : Mark) → marks server number ≡ Some mark → Includes uses (upload_uses mark.upload)
   pub stood : Includes uses (row_uses (params u) (shown_row marks))
 
-module _ (meets : MadeMeets) (back : MadeReadBack) (is_made : GoodIsMade) (is : GoodShareIs) (from : ReadFrom) where
+module _ (meets : MadeMeets) (back : MadeReadBack) (is_made : GoodIsMade) (is : GoodShareIs) (from : ReadFrom) (toggling : TogglesLaws) where
   -- ---- one share
 
   module _ (p : ParamsValue) (sharing : IsSharing p.k p.n) (crypttext : List ℕ) (some : 0 < p.size) (long : length crypttext ≡ p.size) (i : ℕ) (below : i < p.n) where
@@ -107,12 +107,12 @@ module _ (meets : MadeMeets) (back : MadeReadBack) (is_made : GoodIsMade) (is : 
           → good_share (toggled_from (place ∷ toggles) 0 (share p crypttext i)) i p (ueb_hash p crypttext) ≡ None
       spoiled_is_bad place toggles within verified =
           none_if (good_share (toggled_from (place ∷ toggles) 0 (share p crypttext i)) i p (ueb_hash p crypttext))
-          (λ good e. touched-differs place toggles (share p crypttext i) within (good_is_made (toggled_from (place ∷ toggles) 0 (share p crypttext i)) good verified e))
+          (λ good e. toggling.differs (place ∷ toggles) (share p crypttext i) place (or_first (eqb place place) (is_toggled toggles place) (eq-eqb place place refl)) within (good_is_made (toggled_from (place ∷ toggles) 0 (share p crypttext i)) good verified e))
 
       at_toggles : (body toggles : List ℕ) → body ≡ share p crypttext i → All (λ place. place < length body) toggles → Includes uses (meets_uses (toggled_from toggles 0 body) i p)
           → good_share (toggled_from toggles 0 body) i p (ueb_hash p crypttext) ≡ cond (has_none toggles) (Some (made_share p crypttext i)) None
       at_toggles body [] same inside verified =
-          ap (λ s. good_share s i p (ueb_hash p crypttext)) (toggled-none 0 body ∙ same) ∙ made_is_good
+          ap (λ s. good_share s i p (ueb_hash p crypttext)) (toggling.none body ∙ same) ∙ made_is_good
       at_toggles body (place ∷ toggles) same inside verified =
           let first : place < length body = All-head (λ q. q < length body) place toggles inside in
           ap (λ b. good_share (toggled_from (place ∷ toggles) 0 b) i p (ueb_hash p crypttext)) same

@@ -8,7 +8,6 @@ mod Uploads
 mod Decodes
 mod Sound
 mod Sizes
-mod Toggles
 mod Keys
 mod Worlds
 mod Gathered

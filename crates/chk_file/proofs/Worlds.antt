@@ -1,5 +1,5 @@
 -- What runs keep of a world, and how its marks follow what stands in a grid.
-use Rattle.std.proofs.Common.{◌≡◌, ℕ, ◌<◌, List, [], ◌∷◌, length, Bool, true, false, not, cond, Option, Some, None, refl, sym, ap, subst, ◌∙◌, arith}
+use Rattle.std.proofs.Common.{◌≡◌, ℕ, ◌<◌, ◌≤◌, List, [], ◌∷◌, length, Bool, true, false, not, cond, Option, Some, None, refl, sym, ap, subst, ◌∙◌, arith}
 use Rattle.std.specs.Prelude.{◌==◌, ◌&&◌, nat_eq, nat_lt, All, filter, slice_get, unwrap_or}
 use Rattle.std.specs.Option.{option_map}
 use Rattle.std.specs.Ordering.{eq_by_cmp, nat_cmp, is_eq}
@@ -7,6 +7,7 @@ use Rattle.std.specs.declared.cmp.Ordering.{Ordering}
 use Rattle.std.specs.declared.cmp.Ordering.TheVariants.{Less, Equal, Greater}
 use Rattle.std.specs.Cmp.Lexicographic.{slice_cmp, pointwise}
 use Rattle.std.proofs.lemmas.Bool.{and_parts, eqb-true, ltb-true}
+use Rattle.std.proofs.lemmas.Bool.Decides.{nat_tests}
 use Rattle.std.proofs.lemmas.Option.{slice_get-get_or, same_Some}
 use Rattle.std.proofs.lemmas.List.Elements.{All-nil, All-cons, All-filter}
 use Rattle.std.proofs.lemmas.List.FromFn.{length-map-range_with_len, get_or-map-range_with_len}
@@ -16,18 +17,18 @@ use Rattle.tag_hash.specs.Use.{Use}
 use Rattle.share_store.specs.Shares.{ShareKey, key_cmp}
 use Rattle.share_store.specs.MapLaws.{key_cmp_exact}
 use Rattle.share_store.specs.Toggle.{toggled}
+use Rattle.share_store.specs.Toggles.{is_toggled, switched, TogglesLaws}
 use Rattle.grid.specs.Placement.{server_of, placed}
 use Rattle.grid.specs.Changes.{without, spoiled}
 use Rattle.caps.specs.Fields.{ReadValue}
 use Rattle.caps.specs.StorageIndex.{index_of}
 use Rattle.chk_file.specs.Upload.{Upload, fields, index, share_of, shares_of, IsUpload}
 use Rattle.chk_file.specs.Fit.{fit}
-use Rattle.chk_file.specs.Marks.{Mark, Marks, MarkRow, untouched, is_toggled, switched, stands, marks_of, shown, shown_row, put_marks, lost_mark, spoiled_at, spoiled_mark}
+use Rattle.chk_file.specs.Marks.{Mark, Marks, MarkRow, untouched, stands, marks_of, shown, shown_row, put_marks, lost_mark, spoiled_at, spoiled_mark}
 use Rattle.chk_file.specs.World.{World, empty, same_fields, with_file, after_upload, after_lose, after_spoil}
 use Rattle.chk_file.specs.Held.{held_of, held_in, held}
 use Rattle.chk_file.specs.Sound.{IsFileAt, IsMarkAt, IsSound, IsCovered}
 use Rattle.chk_file.proofs.Tools.{true_or_false, same_bytes}
-use Rattle.chk_file.proofs.Toggles.{toggled-none, stands-spoiled}
 use Rattle.chk_file.proofs.Keys.{IsRowOf}
 
 -- ---- what stands after each change
@@ -45,8 +46,8 @@ share_there u i below =
     let long : length (shares_of u) ≡ u.n = length-map-range_with_len (share_of u) 0 u.n in
     ap (λ (o : Option (List ℕ)). unwrap_or o []) (slice_get-get_or (shares_of u) i [] (omega arith)) ∙ get_or-map-range_with_len (share_of u) 0 u.n i i [] below (omega arith)
 
-put_place : (servers : ℕ) (u : Upload) (marks : Marks) (s : ℕ) (q : ShareKey) → shown (put_marks servers u marks) s q ≡ placed servers (index u) (shares_of u) (shown marks) s q
-put_place servers u marks s q =
+put_place : TogglesLaws → (servers : ℕ) (u : Upload) (marks : Marks) (s : ℕ) (q : ShareKey) → shown (put_marks servers u marks) s q ≡ placed servers (index u) (shares_of u) (shown marks) s q
+put_place laws servers u marks s q =
     let here = eq_by_cmp (slice_cmp nat_cmp) q.0 (index u) in
     let turn = s == server_of servers (index u) q.1 in
     let long : length (shares_of u) ≡ u.n = length-map-range_with_len (share_of u) 0 u.n in
@@ -57,7 +58,7 @@ put_place servers u marks s q =
     (λ below.
     let new : option_map (stands q.1) (Some (unwrap_or old (untouched u))) ≡ Some (unwrap_or stood (unwrap_or (slice_get (shares_of u) q.1) [])) =
     unwrapped (stands q.1) old (untouched u)
-    ∙ ap (λ b. Some (unwrap_or stood b)) (toggled-none 0 (share_of u q.1) ∙ sym (share_there u q.1 (ltb-true q.1 u.n below))) in
+    ∙ ap (λ b. Some (unwrap_or stood b)) (laws.none (share_of u q.1) ∙ sym (share_there u q.1 (ltb-true q.1 u.n below))) in
     ap (λ (o : Option (List ℕ)). cond (here && nat_lt q.1 u.n && turn) o stood) new
     ∙ ap (λ n. cond (here && nat_lt q.1 n && turn) (Some (unwrap_or stood (unwrap_or (slice_get (shares_of u) q.1) []))) stood) (sym long))
     (λ past.
@@ -70,21 +71,37 @@ put_place servers u marks s q =
     never true b o stood = refl
     never false b o stood = refl
 
-pub shown-put : (servers : ℕ) (u : Upload) (marks : Marks) → shown (put_marks servers u marks) ≡ placed servers (index u) (shares_of u) (shown marks)
-shown-put servers u marks = λ j s q. put_place servers u marks s q j
+pub shown-put : TogglesLaws → (servers : ℕ) (u : Upload) (marks : Marks) → shown (put_marks servers u marks) ≡ placed servers (index u) (shares_of u) (shown marks)
+shown-put laws servers u marks = λ j s q. put_place laws servers u marks s q j
 
 pub shown-lost : (server : ℕ) (key : ShareKey) (marks : Marks) → shown (lost_mark server key marks) ≡ without server key (shown marks)
 shown-lost server key marks = λ j s q. mapped_if (stands q.1) (s == server && eq_by_cmp key_cmp q key) None (marks s q) j
 
-spoiled_mapped : (i place : ℕ) (o : Option Mark) → option_map (stands i) (option_map (spoiled_at i place) o) ≡ option_map (λ bytes. toggled bytes place) (option_map (stands i) o)
-spoiled_mapped i place None = refl
-spoiled_mapped i place (Some mark) = ap Some (stands-spoiled i place mark)
+-- a bit of a share that stands is changed exactly where its place is switched
+stands-spoiled : TogglesLaws → (i place : ℕ) (mark : Mark) → stands i (spoiled_at i place mark) ≡ toggled (stands i mark) place
+stands-spoiled laws i place mark =
+    let share : List ℕ = share_of mark.upload i in
+    let long : length (stands i mark) ≡ length share = laws.keeps_length mark.toggles share in
+    true_or_false (nat_lt place (length share)) _
+    (λ inside.
+    ap (λ b. stands i (cond b (record { upload = mark.upload; toggles = switched place mark.toggles }) mark)) inside
+    ∙ sym (laws.switches mark.toggles share place (ltb-true place (length share) inside)))
+    (λ past.
+    ap (λ b. stands i (cond b (record { upload = mark.upload; toggles = switched place mark.toggles }) mark)) past
+    ∙ sym (laws.beyond (stands i mark) place (let behind : length share ≤ place = not_below place (length share) past in omega arith)))
+  where
+    not_below : (a b : ℕ) → nat_lt a b ≡ false → b ≤ a
+    not_below a b e = grind (arith, nat_tests)
 
-pub shown-spoiled : (server : ℕ) (key : ShareKey) (place : ℕ) (marks : Marks) → shown (spoiled_mark server key place marks) ≡ spoiled server key place (shown marks)
-shown-spoiled server key place marks =
+spoiled_mapped : TogglesLaws → (i place : ℕ) (o : Option Mark) → option_map (stands i) (option_map (spoiled_at i place) o) ≡ option_map (λ bytes. toggled bytes place) (option_map (stands i) o)
+spoiled_mapped laws i place None = refl
+spoiled_mapped laws i place (Some mark) = ap Some (stands-spoiled laws i place mark)
+
+pub shown-spoiled : TogglesLaws → (server : ℕ) (key : ShareKey) (place : ℕ) (marks : Marks) → shown (spoiled_mark server key place marks) ≡ spoiled server key place (shown marks)
+shown-spoiled laws server key place marks =
     let point : (s : ℕ) (q : ShareKey) → shown (spoiled_mark server key place marks) s q ≡ spoiled server key place (shown marks) s q = λ s q.
     mapped_if (stands q.1) (s == server && eq_by_cmp key_cmp q key) (option_map (spoiled_at q.1 place) (marks s q)) (marks s q)
-    ∙ ap (λ (o : Option (List ℕ)). cond (s == server && eq_by_cmp key_cmp q key) o (shown marks s q)) (spoiled_mapped q.1 place (marks s q)) in
+    ∙ ap (λ (o : Option (List ℕ)). cond (s == server && eq_by_cmp key_cmp q key) o (shown marks s q)) (spoiled_mapped laws q.1 place (marks s q)) in
     λ j s q. point s q j
 
 -- ---- each change keeps a world sound

@@ -11,6 +11,7 @@ use crate::health::Health;
 use crate::rows::Rows;
 use caps::VerifyCap;
 use grid::Grid;
+use grid::laws::found_laws;
 use share_codec::Params;
 use share_store::Store;
 use std::alloc::{AllocError, Global};
@@ -34,6 +35,7 @@ pub fn check<S: Store>(
         IsHonest grid.old → NoneFailed grid.old grid.new → IfOk result (λ health.
         health ≡ check v verify (row_of (stood grid.old) v.si)) }
 {
+    found_laws();
     let fields = &verify_cap.fields;
     // There are at most 256 servers: a row has no more.
     let _ = grid.servers();
@@ -79,8 +81,10 @@ fn judged(
     ueb: &[u8; 32],
 ) -> Result<(u16, Vec<(usize, u16)>), AllocError>
     requires { length rows.now ≡ params.now.n }
-    ensures good { IfOk result (λ judged. judged.0 ≡ length (good_below params.now ueb.now rows.now params.now.n)) }
-    ensures corrupt { IfOk result (λ judged. judged.1.items ≡ bad_below params.now ueb.now rows.now params.now.n) }
+    ensures good { IfOk result (λ judged. judged.0
+        ≡ length (good_below params.now ueb.now rows.now params.now.n)) }
+    ensures corrupt { IfOk result (λ judged. judged.1.items
+        ≡ bad_below params.now ueb.now rows.now params.now.n) }
 {
     let mut count = 0;
     let mut corrupt = Vec::new(alloc);
@@ -102,7 +106,8 @@ fn judge(
     ueb: &[u8; 32],
     corrupt: &mut Vec<(usize, u16)>,
 ) -> Result<bool, AllocError>
-    ensures good { IfOk result (λ any. any ≡ is_some (first_good params.now ueb.now number (places_of places.now))) }
+    ensures good { IfOk result (λ any. any
+        ≡ is_some (first_good params.now ueb.now number (places_of places.now))) }
     ensures corrupt { OnOk result (corrupt.new.items
         ≡ corrupt.old.items ++ bad_places params.now ueb.now number (places_of places.now)) }
 {

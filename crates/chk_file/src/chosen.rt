@@ -40,7 +40,8 @@ fn first_good<'a>(
     params: &Params,
     ueb: &[u8; 32],
 ) -> Result<Option<Share<'a>>, AllocError>
-    ensures { IfOk result (λ share. share ≡ first_good params.now ueb.now number (places_of places.now)) }
+    ensures { IfOk result (λ share. share
+        ≡ first_good params.now ueb.now number (places_of places.now)) }
 {
     for (_, bytes) in places {
         if let Some(share) = good(alloc, bytes, number, params, ueb)? {

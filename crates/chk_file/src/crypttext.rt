@@ -1,18 +1,13 @@
 //! The crypttext that good shares are of.
-ghost use Rattle.std.specs.Prelude.{◌≡◌, ◌<◌, length, map, take, IfOk, Some, None, if◌then◌else◌};
+ghost use Rattle.std.specs.Prelude.{◌≡◌, IfOk, Some, None, if◌then◌else◌};
 ghost use Rattle.std.specs.Option.{option_map};
-ghost use Rattle.share_codec.specs.Shares.{roots_of};
 ghost use Rattle.chk_file.specs.Taken.{AreTaken};
 ghost use Rattle.chk_file.specs.Fit.{crypttext_from, has_padding, is_of};
 
 use crate::segment::add_segment;
 use erasure::Code;
-use share_codec::{Params, Share};
+use share_codec::{Params, Share, crypttext_root};
 use std::alloc::{AllocError, Global};
-use tag_hash::tagged;
-
-/// The tag of the hash of a segment.
-const SEGMENT_TAG: &[u8; 28] = b"webgate_crypttext_segment_v1";
 
 /// The crypttext that k good shares are of, if there is one.
 pub(crate) fn crypttext(
@@ -22,7 +17,8 @@ pub(crate) fn crypttext(
 ) -> Result<Option<Vec<u8>>, AllocError>
     requires { AreTaken params.now shares.now }
     ensures { let bytes = crypttext_from params.now shares.now in IfOk result (λ found.
-        option_map (λ v. v.items) found ≡ (if is_of params.now bytes shares.now then Some bytes else None)) }
+        option_map (λ v. v.items) found
+        ≡ (if is_of params.now bytes shares.now then Some bytes else None)) }
 {
     share_codec::laws::segments_are_joined_again();
     erasure::laws::decoded_blocks_are_the_given();
@@ -54,19 +50,4 @@ fn decoded(
         }
     }
     Ok(Some(bytes))
-}
-
-/// The root of the tree over the hashes of the segments.
-fn crypttext_root(alloc: Global, params: &Params, bytes: &[u8]) -> Result<[u8; 32], AllocError>
-    requires size { length bytes.now ≡ params.now.size }
-    requires some { 0 < params.now.size }
-    ensures { IfOk result (λ root. root ≡ (roots_of params.now bytes.now).crypttext_root) }
-{
-    share_codec::laws::segments_are_joined_again();
-    let count = params.segment_count();
-    let mut hashes = Vec::with_capacity(alloc, count)?;
-    for index in 0..count {
-        hashes.push(tagged(SEGMENT_TAG, params.segment(bytes, index)))?;
-    }
-    Ok(merkle::root(&hashes))
 }

@@ -35,7 +35,8 @@ pub(crate) fn encoded(
       size = params.now.size;
     }) }
     ensures shares { let key = tagged16 (key_tag params.now secret.now) bytes.items in IfOk result (λ made.
-        map rc_slice_items made.1.items ≡ map (λ i. share params.now (crypt key bytes.items) i) (range_with_len 0 params.now.n)) }
+        map rc_slice_items made.1.items
+        ≡ map (λ i. share params.now (crypt key bytes.items) i) (range_with_len 0 params.now.n)) }
 {
     keystream_by_place();
     parts_agree();
@@ -86,7 +87,8 @@ fn numbers(alloc: Global, params: &Params) -> Result<Vec<u8>, AllocError>
 
 /// Shares that can be lent.
 fn shared(alloc: Global, shares: Vec<Vec<u8>>) -> Result<Vec<RcSlice<u8>>, AllocError>
-    ensures { IfOk result (λ lent. map rc_slice_items lent.items ≡ map (λ share. share.items) shares.items) }
+    ensures { IfOk result (λ lent. map rc_slice_items lent.items
+        ≡ map (λ share. share.items) shares.items) }
 {
     let mut lent = Vec::with_capacity(alloc, shares.len())?;
     for share in shares {

@@ -8,6 +8,7 @@ ghost use Rattle.share_codec.specs.GoodShare.{good_share};
 ghost use Rattle.share_codec.specs.Shares.{ueb_hash};
 ghost use Rattle.share_codec.specs.Uses.{meets_uses};
 ghost use Rattle.share_store.specs.Shares.{ShareKey};
+ghost use Rattle.share_store.specs.Toggles.{toggled_from};
 ghost use Rattle.grid.specs.Placement.{placed};
 ghost use Rattle.grid.specs.Changes.{without, spoiled};
 ghost use Rattle.caps.specs.Fields.{ReadValue};
@@ -18,7 +19,7 @@ ghost use Rattle.chk_file.specs.Row.{Row};
 ghost use Rattle.chk_file.specs.Fit.{fit};
 ghost use Rattle.chk_file.specs.IsFit.{IsFit, IsByteRow};
 ghost use Rattle.chk_file.specs.Bound.{Bound};
-ghost use Rattle.chk_file.specs.Marks.{Marks, toggled_from, shown, marks_of, put_marks, lost_mark, spoiled_mark};
+ghost use Rattle.chk_file.specs.Marks.{Marks, shown, marks_of, put_marks, lost_mark, spoiled_mark};
 ghost use Rattle.chk_file.specs.World.{World, empty, after_upload, after_lose, after_spoil};
 ghost use Rattle.chk_file.specs.Look.{by_fit, by_held};
 ghost use Rattle.chk_file.specs.Sound.{IsSound, IsCovered};
@@ -29,6 +30,7 @@ use share_codec::laws::{
     good_shares_are_made, good_shares_are_read, made_shares_are_read_back,
     made_shares_meet_their_fields, segments_are_joined_again,
 };
+use share_store::laws::toggles_laws;
 use tag_hash::laws::{
     decimals_are_read_back, digests_are_bytes, hashes_fix_their_parts, netstrings_are_read_back,
 };
@@ -64,6 +66,7 @@ pub fn spoiled_shares_are_bad()
         good_share (toggled_from (place ∷ toggles) 0 (share_of u i)) i (params u)
         (ueb_hash (params u) (crypttext_of u)) ≡ None }
 {
+    toggles_laws();
     good_shares_are_read();
     good_shares_are_made();
     made_shares_meet_their_fields();
@@ -79,6 +82,7 @@ pub fn fit_is_held()
         NoCollision uses → IsSound w → IsCovered uses w f →
         (by_fit w).gives f ≡ (by_held w).gives f }
 {
+    toggles_laws();
     digests_are_bytes();
     good_shares_are_read();
     good_shares_are_made();
@@ -101,7 +105,9 @@ pub fn marks_follow_the_grid()
         shown (lost_mark server key marks) ≡ without server key (shown marks) }
     ensures spoiled { (server : ℕ) (key : ShareKey) (place : ℕ) (marks : Marks) →
         shown (spoiled_mark server key place marks) ≡ spoiled server key place (shown marks) }
-{}
+{
+    toggles_laws();
+}
 
 /// Each run leaves a sound world.
 pub fn worlds_stay_sound()

@@ -30,6 +30,8 @@ mod health;
 mod fault;
 /// Laws of the definitions.
 pub mod laws;
+#[cfg(test)]
+mod tests;
 
 pub use checker::check;
 pub use fault::ReadFault;

@@ -19,6 +19,7 @@ use crate::rows::Rows;
 use aes_ctr::laws::{keystream_by_place, parts_agree, twice_is_unchanged};
 use caps::{ReadFields, storage_index};
 use grid::Grid;
+use grid::laws::found_laws;
 use share_codec::Params;
 use share_store::Store;
 use std::alloc::Global;
@@ -49,6 +50,7 @@ pub fn read<S: Store>(
     keystream_by_place();
     twice_is_unchanged();
     parts_agree();
+    found_laws();
     // There are at most 256 servers: a row has no more.
     let _ = grid.servers();
     let found = grid.gather(storage_index(&fields.key))?;
@@ -65,10 +67,12 @@ fn read_found(
     fields: &ReadFields,
 ) -> Result<Vec<u8>, ReadFault>
     ensures fit { let p = params_of fields.now.k fields.now.n fields.now.size in IfOk result (λ bytes. fit_in p fields.now.key
-        (good_below p fields.now.ueb (by_number p.n (map (seen rc_slice_items) found.now)) p.n) ≡ Some bytes.items) }
+        (good_below p fields.now.ueb (by_number p.n (map (seen rc_slice_items) found.now)) p.n)
+        ≡ Some bytes.items) }
     ensures missing { let p = params_of fields.now.k fields.now.n fields.now.size in IsErrOf result ReadFault.NotEnoughShares →
         fit_in p fields.now.key
-        (good_below p fields.now.ueb (by_number p.n (map (seen rc_slice_items) found.now)) p.n) ≡ None }
+        (good_below p fields.now.ueb (by_number p.n (map (seen rc_slice_items) found.now)) p.n)
+        ≡ None }
 {
     share_codec::laws::good_shares_are_read();
     let params = Params::new(fields.k, fields.n, fields.size);

@@ -22,7 +22,8 @@ pub(crate) fn add_segment(
     requires code { (code.now.k ≡ params.now.k) × (code.now.n ≡ params.now.n) }
     requires taken { AreTaken params.now shares.now }
     requires inside { at < segment_count params.now }
-    ensures bytes { OnOk result (bytes.new.items ≡ bytes.old.items ++ segment_from params.now shares.now at) }
+    ensures bytes { OnOk result (bytes.new.items
+        ≡ bytes.old.items ++ segment_from params.now shares.now at) }
     ensures zeros { IfOk result (λ zeros. zeros ≡ has_zeros params.now shares.now at) }
 {
     erasure::laws::decoded_blocks_are_the_given();
@@ -46,7 +47,8 @@ fn push_decoded(
     requires code { (code.now.k ≡ params.now.k) × (code.now.n ≡ params.now.n) }
     requires taken { AreTaken params.now shares.now }
     requires inside { at < segment_count params.now }
-    ensures { OnOk result (bytes.new.items ≡ bytes.old.items ++ decoded_at params.now shares.now at) }
+    ensures { OnOk result (bytes.new.items
+        ≡ bytes.old.items ++ decoded_at params.now shares.now at) }
 {
     let blocks = numbered(alloc, shares, at)?;
     match code.decode(alloc, &blocks) {
@@ -77,7 +79,8 @@ fn numbered<'a>(
 
 /// Appends blocks in a row.
 fn push_blocks(bytes: &mut Vec<u8>, blocks: &[Vec<u8>]) -> Result<(), AllocError>
-    ensures { OnOk result (bytes.new.items ≡ bytes.old.items ++ concat (map (λ block. block.items) blocks.now)) }
+    ensures { OnOk result (bytes.new.items
+        ≡ bytes.old.items ++ concat (map (λ block. block.items) blocks.now)) }
 {
     for block in blocks {
         bytes.extend_from_slice(block)?;

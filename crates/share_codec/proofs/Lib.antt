@@ -13,4 +13,5 @@ pub mod Rejoining
 pub mod Making
 pub mod Totals
 pub mod Fronts
+pub mod ShareRoots
 pub mod Goods

@@ -1,5 +1,5 @@
 -- Shares that are being made, of which the blocks stand and the hashes before them don't yet.
-use Rattle.std.specs.Prelude.{ℕ, List, [], ◌∷◌, ◌++◌, length, drop, map, replicate, slice_index_or}
+use Rattle.std.specs.Prelude.{◌≡◌, ℕ, ◌+◌, List, [], ◌∷◌, ◌++◌, length, drop, map, replicate, slice_index_or}
 use Rattle.std.specs.List.{concat, range_with_len}
 use Rattle.tag_hash.specs.Decimal.{decimal_text}
 use Rattle.tag_hash.specs.Netstring.{netstring}
@@ -7,8 +7,7 @@ use Rattle.erasure.specs.Blocks.{block_of}
 use Rattle.merkle.specs.Height.{height}
 use Rattle.share_codec.specs.Params.{ParamsValue}
 use Rattle.share_codec.specs.declared.ueb.Ueb.{Ueb}
-use Rattle.share_codec.specs.Segments.{segment_count, blocks_size, primary_blocks}
-use Rattle.share_codec.specs.Tags.{block_hash}
+use Rattle.share_codec.specs.Segments.{segment_count, blocks_size, primary_blocks, cut_blocks}
 use Rattle.share_codec.specs.Texts.{the_version}
 use Rattle.share_codec.specs.Ueb.{ueb_text}
 
@@ -43,17 +42,17 @@ blank_roots = record { crypttext_root = blank_hash; share_root = blank_hash }
 unfoldable pub blank_front : ParamsValue → ℕ → List ℕ
 blank_front p i = front_text (shared_of p blank_roots (replicate (segment_count p) blank_hash)) i (replicate (height p.n) blank_hash)
 
--- a share that is being made: its bytes so far, and the hashes of its blocks so far
+-- a share that is being made: its bytes so far, and how many of them stand before its blocks
 pub record Begun : Type 0 where
   pub bytes : List ℕ
-  pub hashes : List (List ℕ)
+  pub start : ℕ
 
 unfoldable pub nothing_begun : Begun
-nothing_begun = record { bytes = []; hashes = [] }
+nothing_begun = record { bytes = []; start = 0 }
 
 -- with one block more
 unfoldable pub with_block : Begun → List ℕ → Begun
-with_block draft block = record { bytes = draft.bytes ++ block; hashes = draft.hashes ++ block_hash block ∷ [] }
+with_block draft block = record { bytes = draft.bytes ++ block; start = draft.start }
 
 -- each with the block of its number
 unfoldable pub with_blocks : List Begun → List (List ℕ) → List Begun
@@ -66,10 +65,17 @@ blocks_in p segments i = map (λ segment. block_of (primary_blocks p.k segment) 
 
 -- share i when the blocks of these segments stand in it
 unfoldable pub begun : ParamsValue → List (List ℕ) → ℕ → Begun
-begun p segments i = record { bytes = blank_front p i ++ concat (blocks_in p segments i); hashes = map block_hash (blocks_in p segments i) }
+begun p segments i = record { bytes = blank_front p i ++ concat (blocks_in p segments i); start = length (blank_front p i) }
 
 unfoldable pub all_begun : ParamsValue → List (List ℕ) → List Begun
 all_begun p segments = map (λ i. begun p segments i) (range_with_len 0 p.n)
+
+-- all its blocks stand in it, and these are they
+unfoldable pub IsFull : ParamsValue → Begun → Type 0
+IsFull p draft = length draft.bytes ≡ draft.start + blocks_size p
+
+unfoldable pub blocks_begun : ParamsValue → Begun → List (List ℕ)
+blocks_begun p draft = cut_blocks p (drop draft.start draft.bytes)
 
 -- with the front that it lacked, and the comma after its blocks
 unfoldable pub finished : Begun → List ℕ → List ℕ

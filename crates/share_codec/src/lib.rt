@@ -13,10 +13,14 @@ mod params;
 mod ueb;
 /// How the shares of a file are made.
 mod make;
-/// How a segment is padded and cut into primary blocks.
+/// How bytes are padded, and cut into pieces.
 mod cut;
+/// How blocks and segments are hashed.
+mod hashes;
 /// Shares that are being made.
 mod draft;
+/// The leaves of the share tree.
+mod leaves;
 /// What a share has before its blocks.
 mod front;
 /// How a string is told to be a good share.
@@ -39,6 +43,7 @@ pub mod laws;
 mod tests;
 
 pub use fault::ShareFault;
+pub use hashes::crypttext_root;
 pub use make::make_shares;
 pub use params::Params;
 pub use read::read_share;

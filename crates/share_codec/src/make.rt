@@ -1,4 +1,4 @@
-//! How the shares of a file are made, in one pass over its crypttext.
+//! How the shares of a file are made.
 ghost use Rattle.std.specs.Prelude.{◌≡◌, ◌≤◌, ◌<◌, ◌*◌, ◌^◌, ◌++◌, ℕ, List, [], ◌∷◌, length, map, replicate, slice_index_or, All, IfOk, OnOk};
 ghost use Rattle.std.specs.List.{range_with_len};
 ghost use Rattle.std.specs.Simd.{first_chunks};
@@ -6,31 +6,28 @@ ghost use Rattle.erasure.specs.Blocks.{size_of, block_of};
 ghost use Rattle.erasure.specs.Code.{AreBlocks};
 ghost use Rattle.erasure.specs.Given.{contents_of};
 ghost use Rattle.merkle.specs.Chain.{chain};
-ghost use Rattle.merkle.specs.Tree.{root};
 ghost use Rattle.share_codec.specs.Segments.{segments, primary_blocks};
-ghost use Rattle.share_codec.specs.Shares.{share, ueb_hash, segment_hashes};
+ghost use Rattle.share_codec.specs.Shares.{share, ueb_hash};
 ghost use Rattle.share_codec.specs.Drafts.{nothing_begun, blank_hash, with_block, with_blocks, all_begun, finished, front_text};
 
 use crate::cut::{cut, padded};
 use crate::draft::Draft;
 use crate::front::Heading;
+use crate::hashes::segment_hashes;
 use crate::laws;
+use crate::leaves::leaves;
 use crate::params::Params;
 use crate::ueb::Ueb;
 use erasure::Code;
 use merkle::Tree;
 use merkle::laws::{chains_lead_to_the_root, hashes_have_32_bytes};
 use std::alloc::{AllocError, Global};
-use tag_hash::tagged;
-
-/// The tag of the hash of a segment of the crypttext.
-const SEGMENT_TAG: &[u8; 28] = b"webgate_crypttext_segment_v1";
 
 /// The `n` shares of a file that isn't empty, by their numbers, and the hash of their URI extension block, which its
 /// cap has.
 ///
-/// It goes over the crypttext once and hashes each segment, each block and each node of the trees once. Each share has
-/// memory of its own, taken once. `Err` only where memory is refused.
+/// It codes each segment once, and hashes each segment, each block and each node of the trees once: segments and blocks
+/// where they stand, four at a time. Each share has memory of its own, taken once. `Err` only where memory is refused.
 pub fn make_shares(
     alloc: Global,
     params: &Params,
@@ -39,7 +36,8 @@ pub fn make_shares(
     requires size { length crypttext.now ≡ params.now.size }
     requires some { 0 < params.now.size }
     ensures shares { IfOk result (λ made.
-        map (λ share. share.items) made.0.items ≡ map (λ i. share params.now crypttext.now i) (range_with_len 0 params.now.n)) }
+        map (λ share. share.items) made.0.items
+        ≡ map (λ i. share params.now crypttext.now i) (range_with_len 0 params.now.n)) }
     ensures some { IfOk result (λ made. All (λ share. 0 < length share.items) made.0.items) }
     ensures hash { IfOk result (λ made. made.1 ≡ ueb_hash params.now crypttext.now) }
 {
@@ -47,8 +45,9 @@ pub fn make_shares(
     tag_hash::laws::texts_fix_their_parts();
     hashes_have_32_bytes();
     chains_lead_to_the_root();
-    let (drafts, hashes) = code(alloc, params, crypttext)?;
-    let tree = Tree::new(leaves(alloc, &drafts)?)?;
+    let drafts = code(alloc, params, crypttext)?;
+    let tree = Tree::new(leaves(alloc, params, &drafts)?)?;
+    let hashes = segment_hashes(alloc, params, crypttext)?;
     let roots = Ueb {
         crypttext_root: merkle::root(&hashes),
         share_root: tree.root(),
@@ -58,20 +57,16 @@ pub fn make_shares(
     Ok((shares, heading.extension_hash()))
 }
 
-/// The shares with their blocks but without their fronts, and the hashes of the segments.
-fn code(
-    alloc: Global,
-    params: &Params,
-    crypttext: &[u8],
-) -> Result<(Vec<Draft>, Vec<[u8; 32]>), AllocError>
+/// The shares with their blocks but without their fronts.
+fn code(alloc: Global, params: &Params, crypttext: &[u8]) -> Result<Vec<Draft>, AllocError>
     requires size { length crypttext.now ≡ params.now.size }
     requires some { 0 < params.now.size }
-    ensures coded { IfOk result (λ made. made.0.items ≡ all_begun params.now (segments params.now crypttext.now)) }
-    ensures hashes { IfOk result (λ made. made.1.items ≡ segment_hashes params.now crypttext.now) }
+    ensures { IfOk result (λ drafts. drafts.items
+        ≡ all_begun params.now (segments params.now crypttext.now)) }
 {
     let mut drafts = begin(alloc, params)?;
-    let hashes = code_all(alloc, params, crypttext, &mut drafts)?;
-    Ok((drafts, hashes))
+    code_all(alloc, params, crypttext, &mut drafts)?;
+    Ok(drafts)
 }
 
 /// Shares without blocks, each with a front of its length in which zeros stand for all hashes.
@@ -95,28 +90,24 @@ fn begin(alloc: Global, params: &Params) -> Result<Vec<Draft>, AllocError>
     Ok(drafts)
 }
 
-/// Goes over the segments: gives their hashes, and appends their blocks to the shares.
+/// Goes over the segments, and appends their blocks to the shares.
 fn code_all(
     alloc: Global,
     params: &Params,
     crypttext: &[u8],
     drafts: &mut [Draft],
-) -> Result<Vec<[u8; 32]>, AllocError>
+) -> Result<(), AllocError>
     requires size { length crypttext.now ≡ params.now.size }
     requires some { 0 < params.now.size }
     requires begun { drafts.old ≡ all_begun params.now [] }
-    ensures hashes { IfOk result (λ hashes. hashes.items ≡ segment_hashes params.now crypttext.now) }
-    ensures coded { OnOk result (drafts.new ≡ all_begun params.now (segments params.now crypttext.now)) }
+    ensures { OnOk result (drafts.new ≡ all_begun params.now (segments params.now crypttext.now)) }
 {
     let code = code_of(params);
-    let count = params.segment_count();
-    let mut hashes = Vec::with_capacity(alloc, count)?;
-    for index in 0..count {
+    for index in 0..params.segment_count() {
         let segment = params.segment(crypttext, index);
-        hashes.push(tagged(SEGMENT_TAG, segment))?;
         code_segment(alloc, params, &code, segment, drafts)?;
     }
-    Ok(hashes)
+    Ok(())
 }
 
 /// The code of a file's blocks.
@@ -136,7 +127,8 @@ fn code_segment(
 ) -> Result<(), AllocError>
     requires code { (code.now.k ≡ params.now.k) × (code.now.n ≡ params.now.n) }
     requires all { length drafts.old ≡ params.now.n }
-    ensures { OnOk result (drafts.new ≡ with_blocks drafts.old (primary_blocks params.now.k segment.now)) }
+    ensures { OnOk result (drafts.new
+        ≡ with_blocks drafts.old (primary_blocks params.now.k segment.now)) }
 {
     let count = params.k as usize;
     let size = segment.len().div_ceil(count);
@@ -160,7 +152,8 @@ fn code_padded(
     requires code { (code.now.k ≡ params.now.k) × (code.now.n ≡ params.now.n) }
     requires whole { length bytes.now ≡ size * params.now.k }
     requires all { length drafts.old ≡ params.now.n }
-    ensures { OnOk result (drafts.new ≡ with_blocks drafts.old (first_chunks size params.now.k bytes.now)) }
+    ensures { OnOk result (drafts.new
+        ≡ with_blocks drafts.old (first_chunks size params.now.k bytes.now)) }
 {
     let primary = cut(alloc, bytes, size, params.k as usize)?;
     take_blocks(alloc, params, code, &primary, drafts)
@@ -200,7 +193,8 @@ fn take_block(
     requires count { length primary.now ≡ params.now.k }
     requires blocks { AreBlocks (size_of (contents_of primary.now)) (contents_of primary.now) }
     requires number { number < params.now.n }
-    ensures { OnOk result (draft.new ≡ with_block draft.old (block_of (contents_of primary.now) number)) }
+    ensures { OnOk result (draft.new
+        ≡ with_block draft.old (block_of (contents_of primary.now) number)) }
 {
     erasure::laws::blocks_are_the_code();
     if number < params.k {
@@ -221,18 +215,6 @@ fn encode(alloc: Global, code: &Code, primary: &[&[u8]], number: u16) -> Result<
         Ok(block) => Ok(block),
         Err(_) => Err(AllocError),
     }
-}
-
-/// The roots of the trees over the blocks of each share.
-fn leaves(alloc: Global, drafts: &[Draft]) -> Result<Vec<[u8; 32]>, AllocError>
-    requires { (i : ℕ) → i < length drafts.now → 0 < length (slice_index_or drafts.now i nothing_begun).hashes }
-    ensures { IfOk result (λ leaves. leaves.items ≡ map (λ draft. root draft.hashes) drafts.now) }
-{
-    let mut leaves = Vec::with_capacity(alloc, drafts.len())?;
-    for draft in drafts {
-        leaves.push(draft.root())?;
-    }
-    Ok(leaves)
 }
 
 /// Writes the fronts.

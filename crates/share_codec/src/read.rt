@@ -101,7 +101,8 @@ fn is_number(params: &Params, number: u16, parts: &Parts<'_>) -> bool
 
 /// The roots in the extension block, if it is the one of these numbers.
 fn roots_in(params: &Params, parts: &Parts<'_>) -> Option<Ueb>
-    ensures { MatchOption result ((roots : Ueb) → ¬ (IsExtension params.now (texts_of parts.now) roots))
+    ensures { MatchOption result ((roots : Ueb)
+        → ¬ (IsExtension params.now (texts_of parts.now) roots))
         (IsExtension params.now (texts_of parts.now)) }
 {
     if params.size == 0 {

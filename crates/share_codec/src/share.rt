@@ -3,15 +3,12 @@ ghost use Rattle.std.specs.Prelude.{◌≡◌, ◌<◌, [], length, map, slice_i
 ghost use Rattle.share_codec.specs.Segments.{blocks_size, cut_blocks};
 ghost use Rattle.share_codec.specs.Tags.{block_hash};
 
+use crate::hashes::block_hashes;
 use crate::laws;
 use crate::params::Params;
 use crate::ueb::Ueb;
 use std::alloc::{AllocError, Global};
 use std::marker::Model;
-use tag_hash::tagged;
-
-/// The tag of the hash of a block.
-pub(crate) const BLOCK_TAG: &[u8; 16] = b"webgate_block_v1";
 
 /// A good share: its number, what its extension block says, and a block of each segment, which stay where they are.
 #[derive(Debug, Drop)]
@@ -32,7 +29,8 @@ impl<'a> Model for Share<'a> {
 
     ghost view = { λ s. record { number = s.number; ueb = s.ueb; blocks = first_chunks s.block_size s.block_count s.blocks.now } };
 
-    ghost invariant = { λ s. (0 < s.block_size) × (s.block_count * s.block_size < length s.blocks.now + s.block_size) };
+    ghost invariant = { λ s. (0 < s.block_size)
+        × (s.block_count * s.block_size < length s.blocks.now + s.block_size) };
 }
 
 impl<'a> Share<'a> {
@@ -87,11 +85,6 @@ impl<'a> Share<'a> {
     pub(crate) fn block_hashes(&self, alloc: Global) -> Result<Vec<[u8; 32]>, AllocError>
         ensures { IfOk result (λ hashes. hashes.items ≡ map block_hash self.now.blocks) }
     {
-        let count = self.block_count();
-        let mut hashes = Vec::with_capacity(alloc, count)?;
-        for segment in 0..count {
-            hashes.push(tagged(BLOCK_TAG, self.block(segment)))?;
-        }
-        Ok(hashes)
+        block_hashes(alloc, self.blocks, self.block_size, self.block_count)
     }
 }

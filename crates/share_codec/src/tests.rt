@@ -249,6 +249,8 @@ fn hash_of_good(
 #[test]
 fn ten_shares_are_those_of_another_program(rt: HostRuntime) -> Result<(), Fail> {
     let crypttext: [u8; 56] = FromHex::from_hex(CRYPTTEXT_OF_TEN)?;
+    let root = crypttext_root(rt.alloc(), &ten(), &crypttext)?;
+    assert_eq!(rt; root.as_slice(), &share_of_ten()?[35..67]);
     let (shares, hash) = make_shares(rt.alloc(), &ten(), &crypttext)?;
     assert_eq!(rt; hash, hash_of(UEB_HASH_OF_TEN)?);
     assert_eq!(rt; shares.len(), 10);

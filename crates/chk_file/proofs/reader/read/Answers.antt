@@ -3,6 +3,7 @@ use Rattle.std.specs.Rc.{rc_slice_items}
 use Rattle.std.proofs.lemmas.List.{length-map}
 use Rattle.grid.specs.GridState.{GridState, StoreState, maps_of, stood}
 use Rattle.grid.specs.Found.{seen, found_below}
+use Rattle.grid.specs.FoundLaws.{FoundLaws}
 use Rattle.caps.specs.Fields.{ReadValue}
 use Rattle.caps.specs.StorageIndex.{index_of}
 use Rattle.share_codec.specs.Params.{ParamsValue}
@@ -18,12 +19,12 @@ use Rattle.chk_file.proofs.Sound.{fit_is_bound}
 use Rattle.chk_file.proofs.reader.read.Goals as goal
 
 -- what was gathered gives what the row gives
-in_row : (p : ParamsValue) (key ueb index other : List ℕ) (grid : GridState) (found : List Found) (o : Option (List ℕ)) → length grid ≤ 256 → other ≡ index
+in_row : FoundLaws → (p : ParamsValue) (key ueb index other : List ℕ) (grid : GridState) (found : List Found) (o : Option (List ℕ)) → length grid ≤ 256 → other ≡ index
     → found ≡ found_below (maps_of grid) other (length grid) → fit_in p key (good_below p ueb (by_number p.n found) p.n) ≡ o → fit_in p key (good_shares p ueb (row_of (stood grid) index)) ≡ o
-in_row p key ueb index other grid found o few same is e =
+in_row laws p key ueb index other grid found o few same is e =
     let long : length (maps_of grid) ≡ length grid = length-map grid (λ (t : StoreState). t.shares) in
     let within : length (maps_of grid) ≤ 256 = omega arith in
-    ap (fit_in p key) (sym (rows_are_good (maps_of grid) index within p.n p ueb))
+    ap (fit_in p key) (sym (rows_are_good laws (maps_of grid) index within p.n p ueb))
     ∙ ap (λ n. fit_in p key (good_below p ueb (by_number p.n (found_below (maps_of grid) index n)) p.n)) long
     ∙ ap (λ i. fit_in p key (good_below p ueb (by_number p.n (found_below (maps_of grid) i (length grid))) p.n)) (sym same)
     ∙ ap (λ fs. fit_in p key (good_below p ueb (by_number p.n fs) p.n)) (sym is)
@@ -46,7 +47,7 @@ pub returns-in-Ok-clause-fit : goal.returns-in-Ok-clause-fit
 returns-in-Ok-clause-fit g c all calm =
     let f = c.args.fields.now in
     let same : c.storage_index.result ≡ index_of f.key = c.storage_index.ensures ∙ ap (λ (v : ReadValue). index_of v.key) c.fields.view_is in
-    in_row (params_of f.k f.n f.size) f.key f.ueb (index_of f.key) c.storage_index.result c.args.grid.now (map (seen rc_slice_items) c.deref.result.now) (Some c.in-Ok.bytes.items) c.servers.ensures.few same
+    in_row c.found_laws.ensures (params_of f.k f.n f.size) f.key f.ueb (index_of f.key) c.storage_index.result c.args.grid.now (map (seen rc_slice_items) c.deref.result.now) (Some c.in-Ok.bytes.items) c.servers.ensures.few same
     (ap (map (seen rc_slice_items)) c.deref.ensures.value ∙ c.in_ok-found.ensures.all all calm)
     c.in-Ok.ensures.fit
 
@@ -54,6 +55,6 @@ pub returns-clause-missing : goal.returns-clause-missing
 returns-clause-missing g c all calm is =
     let f = c.args.fields.now in
     let same : c.storage_index.result ≡ index_of f.key = c.storage_index.ensures ∙ ap (λ (v : ReadValue). index_of v.key) c.fields.view_is in
-    in_row (params_of f.k f.n f.size) f.key f.ueb (index_of f.key) c.storage_index.result c.args.grid.now (map (seen rc_slice_items) c.deref.result.now) None c.servers.ensures.few same
+    in_row c.found_laws.ensures (params_of f.k f.n f.size) f.key f.ueb (index_of f.key) c.storage_index.result c.args.grid.now (map (seen rc_slice_items) c.deref.result.now) None c.servers.ensures.few same
     (ap (map (seen rc_slice_items)) c.deref.ensures.value ∙ c.in_ok-found.ensures.all all calm)
     (c.in-Err.ensures.missing is)

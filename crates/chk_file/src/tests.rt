@@ -1,0 +1,192 @@
+//! What no clause says: uploads whose caps were made by another program, and files that are read back.
+ghost use Rattle.std.specs.Prelude.{◌≡◌, IfOk, vec_len};
+
+use crate::{ReadFault, check, read, upload};
+use caps::{Cap, ReadFields, VerifyCap, print, storage_index, weaken};
+use grid::{Grid, GridFault};
+use share_store::{FailAt, Liar, MemStore};
+use std::alloc::Global;
+use std::rc::RcSlice;
+use std::test::Fail;
+
+/// The cap of the file of 200,000 bytes.
+const BIG_CAP: &str =
+    "URI:CHK:cpgmyfu7y4nqyhvkcqfcsmnqvq:cvffjve3vt7bw5r2bn4fpzm22wnb5vsv7pduk635eeclhal7bo5q:3:10:200000";
+
+fn grid_of_one(alloc: Global) -> Result<Grid<MemStore>, Fail> {
+    let mut stores = Vec::new(alloc);
+    stores.push(MemStore::new(alloc, 1_000_000))?;
+    Ok(Grid::new(stores))
+}
+
+/// Byte i is i modulo 251.
+fn big_file(alloc: Global) -> Result<Vec<u8>, Fail> {
+    let mut bytes = Vec::with_capacity(alloc, 200_000)?;
+    for i in 0..200_000u32 {
+        bytes.push((i % 251) as u8)?;
+    }
+    Ok(bytes)
+}
+
+fn letters(alloc: Global) -> Result<Vec<u8>, Fail> {
+    Ok([b'a'; 56].to_vec(alloc)?)
+}
+
+fn read_fields(cap: &Cap) -> Result<ReadFields, Fail> {
+    match cap {
+        Cap::Chk(fields) => Ok(*fields),
+        _ => Err("no read cap".into()),
+    }
+}
+
+#[test]
+fn letters_have_the_caps_of_another_program(rt: HostRuntime) -> Result<(), Fail> {
+    let alloc = rt.alloc();
+    let mut grid = grid_of_one(alloc)?;
+    let cap = upload(alloc, &mut grid, 3, 10, b"", letters(alloc)?)?;
+    assert_eq!(rt;
+        print(alloc, &cap)?.as_str(),
+        "URI:CHK:xciehu7wkhrkdhseyznarsl6n4:ro65en3n4zxwl3gfinnekkeqado3jxpde7tfaj3sr7als57h4qoa:3:10:56"
+    );
+    let other = upload(alloc, &mut grid, 3, 10, b"my secret", letters(alloc)?)?;
+    assert_eq!(rt;
+        print(alloc, &other)?.as_str(),
+        "URI:CHK:473yf745w2oqknfhruyvbs2ige:hxoqjsty2fr5psr6vjrd6gwsu5xezezqrwnypmdlucnwsy65uyyq:3:10:56"
+    );
+    let one = upload(alloc, &mut grid, 1, 1, b"", letters(alloc)?)?;
+    assert_eq!(rt;
+        print(alloc, &one)?.as_str(),
+        "URI:CHK:yojn7n7y7vvlbn6xsnv4vokqqe:oisoh3fpxw3z5xxiyvt7mxkg6wfrjwawrtwmpubfe63c2nbun2jq:1:1:56"
+    );
+    Ok(())
+}
+
+#[test]
+fn fifty_five_bytes_stand_in_their_cap(rt: HostRuntime) -> Result<(), Fail> {
+    let alloc = rt.alloc();
+    let mut grid = grid_of_one(alloc)?;
+    let cap = upload(alloc, &mut grid, 3, 10, b"", b"foobar".to_vec(alloc)?)?;
+    assert_eq!(rt; print(alloc, &cap)?.as_str(), "URI:LIT:mzxw6ytboi");
+    Ok(())
+}
+
+#[test]
+fn a_big_file_is_read_while_three_shares_are_good(rt: HostRuntime) -> Result<(), Fail> {
+    let alloc = rt.alloc();
+    let mut grid = grid_of_one(alloc)?;
+    let bytes = big_file(alloc)?;
+    let cap = upload(alloc, &mut grid, 3, 10, b"", big_file(alloc)?)?;
+    assert_eq!(rt; print(alloc, &cap)?.as_str(), BIG_CAP);
+    let fields = read_fields(&cap)?;
+    let index = storage_index(&fields.key);
+    assert!(rt; read(alloc, &mut grid, &fields)? == bytes);
+    for number in 1..8 {
+        assert!(rt; grid.lose(0, index, number)?);
+    }
+    assert!(rt; read(alloc, &mut grid, &fields)? == bytes);
+    assert!(rt; grid.spoil(0, index, 9, 67_084)?);
+    assert!(rt; read(alloc, &mut grid, &fields).is_err());
+    assert!(rt; grid.spoil(0, index, 9, 67_084)?);
+    assert!(rt; read(alloc, &mut grid, &fields)? == bytes);
+    assert!(rt; grid.lose(0, index, 8)?);
+    assert!(rt; read(alloc, &mut grid, &fields).is_err());
+    let again = upload(alloc, &mut grid, 3, 10, b"", big_file(alloc)?)?;
+    assert_eq!(rt; print(alloc, &again)?.as_str(), BIG_CAP);
+    assert!(rt; read(alloc, &mut grid, &fields)? == bytes);
+    Ok(())
+}
+
+#[test]
+fn a_check_tells_what_stands_and_what_is_good(rt: HostRuntime) -> Result<(), Fail> {
+    let alloc = rt.alloc();
+    let mut grid = grid_of_one(alloc)?;
+    let cap = upload(alloc, &mut grid, 3, 10, b"", letters(alloc)?)?;
+    let index = storage_index(&read_fields(&cap)?.key);
+    let verify_cap = weaken(&cap).ok_or("no verify cap")?;
+    assert!(rt; grid.lose(0, index, 2)?);
+    assert!(rt; grid.spoil(0, index, 7, 0)?);
+    assert!(rt; grid.spoil(0, index, 4, 393)?);
+    let standing = check(alloc, &mut grid, &verify_cap, false)?;
+    assert_eq!(rt;
+        (standing.needed, standing.expected, standing.good),
+        (3, 10, 9)
+    );
+    assert_eq!(rt; standing.corrupt.len(), 0);
+    let judged = check(alloc, &mut grid, &verify_cap, true)?;
+    assert_eq!(rt; (judged.needed, judged.expected, judged.good), (3, 10, 7));
+    assert_eq!(rt; judged.corrupt.as_slice(), [(0, 4), (0, 7)].as_slice());
+    Ok(())
+}
+
+/// A cap of the same file with other numbers.
+fn forged(fields: &ReadFields, k: u16, n: u16, size: u64) -> Result<ReadFields, Fail> {
+    if !octets::is_sharing(k, n) {
+        return Err("no sharing".into());
+    }
+    Ok(ReadFields {
+        key: fields.key,
+        ueb: fields.ueb,
+        k,
+        n,
+        size,
+    })
+}
+
+#[test]
+fn forged_caps_find_nothing(rt: HostRuntime) -> Result<(), Fail> {
+    let alloc = rt.alloc();
+    let mut grid = grid_of_one(alloc)?;
+    let cap = upload(alloc, &mut grid, 3, 10, b"", letters(alloc)?)?;
+    let fields = read_fields(&cap)?;
+    assert!(rt; read(alloc, &mut grid, &forged(&fields, 2, 10, 56)?).is_err());
+    assert!(rt; read(alloc, &mut grid, &forged(&fields, 3, 9, 56)?).is_err());
+    assert!(rt; read(alloc, &mut grid, &forged(&fields, 3, 10, 55)?).is_err());
+    assert!(rt; read(alloc, &mut grid, &forged(&fields, 256, 256, u64::MAX)?).is_err());
+    assert!(rt; read(alloc, &mut grid, &forged(&fields, 3, 10, 56)?)? == letters(alloc)?);
+    Ok(())
+}
+
+#[test]
+fn a_store_that_is_full_or_down_refuses(rt: HostRuntime) -> Result<(), Fail> {
+    let alloc = rt.alloc();
+    let mut stores = Vec::new(alloc);
+    stores.push(MemStore::new(alloc, 1_000))?;
+    let mut small = Grid::new(stores);
+    let full = matches!(
+        upload(alloc, &mut small, 3, 10, b"", letters(alloc)?),
+        Err(GridFault::Full(0))
+    );
+    assert!(rt; full);
+    let mut failing = Vec::new(alloc);
+    failing.push(FailAt::new(alloc, MemStore::new(alloc, 100_000), 4, false))?;
+    let mut down = Grid::new(failing);
+    let refused = matches!(
+        upload(alloc, &mut down, 3, 10, b"", letters(alloc)?),
+        Err(GridFault::Down(0))
+    );
+    assert!(rt; refused);
+    let cap = upload(alloc, &mut down, 3, 10, b"", letters(alloc)?)?;
+    assert!(rt; read(alloc, &mut down, &read_fields(&cap)?)? == letters(alloc)?);
+    Ok(())
+}
+
+#[test]
+fn a_liar_gives_no_other_file(rt: HostRuntime) -> Result<(), Fail> {
+    let alloc = rt.alloc();
+    let mut answers = Vec::new(alloc);
+    answers.push(RcSlice::from_vec(b"1:1,1:0,".to_vec(alloc)?)?)?;
+    let mut stores = Vec::new(alloc);
+    stores.push(Liar::new(alloc, answers))?;
+    let mut grid = Grid::new(stores);
+    let cap = upload(alloc, &mut grid, 3, 10, b"", letters(alloc)?)?;
+    let gone = matches!(
+        read(alloc, &mut grid, &read_fields(&cap)?),
+        Err(ReadFault::NotEnoughShares)
+    );
+    assert!(rt; gone);
+    let verify_cap: VerifyCap = weaken(&cap).ok_or("no verify cap")?;
+    let judged = check(alloc, &mut grid, &verify_cap, true)?;
+    assert_eq!(rt; judged.good, 0);
+    assert_eq!(rt; judged.corrupt.len(), 10);
+    Ok(())
+}
