@@ -1,0 +1,16 @@
+pub mod WholeLemmas
+pub mod Json
+pub mod Names
+pub mod Caps
+pub mod Steps
+pub mod Above
+pub mod Finding
+pub mod Written
+pub mod Cuts
+pub mod Belong
+pub mod Fields
+pub mod Making
+pub mod SoundLemmas
+pub mod Printed
+pub mod Spellings
+pub mod Refused

@@ -1,0 +1,12 @@
+pub mod Names
+pub mod Metadata
+pub mod Entries
+pub mod DirectoryText
+pub mod Parts
+pub mod Reading
+pub mod Faults
+pub mod Find
+pub mod Cuts
+pub mod Children
+pub mod Named
+pub mod Sound

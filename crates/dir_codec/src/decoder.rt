@@ -1,0 +1,129 @@
+//! From a text to the directory whose text it is.
+ghost use Rattle.std.specs.Prelude.{◌≡◌, ◌≢◌, IfOk, IfErr, Ok, Err, MatchOption, true, false};
+ghost use Rattle.std.specs.Ordering.{nat_cmp, is_lt};
+ghost use Rattle.std.specs.Cmp.Lexicographic.{slice_cmp};
+ghost use Rattle.caps.specs.CapTexts.{cap_text};
+ghost use Rattle.caps.specs.Reading.{cap_reading};
+ghost use Rattle.dir_codec.specs.Names.{is_name, IsAbove};
+ghost use Rattle.dir_codec.specs.Entries.{is_child_cap, IsEntry, IsDirectory};
+ghost use Rattle.dir_codec.specs.Reading.{child_reading, entry_reading, reading};
+ghost use Rattle.dir_codec.specs.Cuts.{texts_now};
+ghost use Rattle.dir_codec.specs.declared.fault.DirFault.TheVariants.{NoMemory};
+
+use crate::directory::Directory;
+use crate::entry::Entry;
+use crate::fault::DirFault;
+use crate::metadata::read_metadata;
+use crate::parts::{Parts, first_entry};
+use crate::text::Text;
+use caps::{Cap, parse_bytes};
+use std::alloc::{AllocError, Global};
+use unicode_normalization::is_nfc;
+
+/// The directory whose text this is.
+///
+/// # Errors
+/// The first entry with a fault decides, and of its faults the first in this order: Torn, BadName, NotSorted, BadCap,
+/// NotImmutable, WriteCap, BadMetadata.
+pub fn decode(alloc: Global, text: &[u8]) -> Result<Directory, DirFault>
+    ensures read { IfOk result (λ directory. reading text.now ≡ Ok directory) }
+    ensures refused { IfErr result (λ fault. fault ≢ NoMemory → reading text.now ≡ Err fault) }
+{
+    Ok(Directory::from_entries(read_entries(alloc, text)?))
+}
+
+/// The entries of a directory text.
+fn read_entries(alloc: Global, text: &[u8]) -> Result<Vec<Entry>, DirFault>
+    ensures ok { IfOk result (λ entries. reading text.now ≡ Ok entries.items) }
+    ensures kept { IfOk result (λ entries. IsDirectory entries.items) }
+    ensures err { IfErr result (λ fault. fault ≢ NoMemory → reading text.now ≡ Err fault) }
+{
+    tag_hash::laws::netstrings_are_read_back();
+    let mut entries = Vec::new(alloc);
+    let mut last: &[u8] = &[];
+    let mut rest = text;
+    while !rest.is_empty() {
+        let Some((parts, more)) = first_entry(rest) else {
+            return Err(DirFault::Torn);
+        };
+        let entry = read_entry(alloc, parts, last)?;
+        entries.push(entry)?;
+        last = parts.name;
+        rest = more;
+    }
+    Ok(entries)
+}
+
+/// The entry of four texts, after an entry of that name.
+fn read_entry(alloc: Global, parts: Parts<'_>, last: &[u8]) -> Result<Entry, DirFault>
+    ensures ok { IfOk result (λ entry. entry_reading last.now (texts_now parts.entry) ≡ Ok entry) }
+    ensures name { IfOk result (λ entry. entry.name ≡ parts.entry.name.now) }
+    ensures kept { IfOk result (λ entry. IsEntry entry) }
+    ensures above { IfOk result (λ entry. IsAbove entry.name last.now) }
+    ensures err { IfErr result (λ fault. fault ≢ NoMemory
+        → entry_reading last.now (texts_now parts.entry) ≡ Err fault) }
+{
+    let Some(name) = name_in(alloc, parts.name)? else {
+        return Err(DirFault::BadName);
+    };
+    if !is_above(parts.name, last) {
+        return Err(DirFault::NotSorted);
+    }
+    let cap = read_cap(alloc, parts.cap)?;
+    if !parts.write.is_empty() {
+        return Err(DirFault::WriteCap);
+    }
+    let metadata = read_metadata(alloc, parts.metadata)?;
+    Ok(Entry {
+        name: Text::from_string(String::from_str(alloc, name)?),
+        cap,
+        metadata,
+    })
+}
+
+/// Whether a name is above another.
+fn is_above(name: &[u8], other: &[u8]) -> bool
+    ensures { result ≡ is_lt (slice_cmp nat_cmp other.now name.now) }
+{
+    other.cmp(&name).is_lt()
+}
+
+/// The name that bytes are, None where they are none. `Err` only where memory is refused.
+pub(crate) fn name_in(alloc: Global, bytes: &[u8]) -> Result<Option<&str>, AllocError>
+    ensures { IfOk result (λ found. MatchOption found (is_name bytes.now ≡ false)
+        (λ name. (is_name bytes.now ≡ true) × (name.now ≡ bytes.now))) }
+{
+    let Ok(text) = str::from_utf8(bytes) else {
+        return Ok(None);
+    };
+    if text.is_empty() {
+        return Ok(None);
+    }
+    let in_form = is_nfc(alloc, text)?;
+    if in_form { Ok(Some(text)) } else { Ok(None) }
+}
+
+/// The cap that a text is, where it may be a child.
+pub(crate) fn read_cap(alloc: Global, text: &[u8]) -> Result<Cap, DirFault>
+    ensures ok { IfOk result (λ cap. child_reading text.now ≡ Ok cap) }
+    ensures child { IfOk result (λ cap. is_child_cap cap ≡ true) }
+    ensures kept { IfOk result (λ cap. cap_reading (cap_text cap) ≡ Ok cap) }
+    ensures err { IfErr result (λ fault. fault ≢ NoMemory → child_reading text.now ≡ Err fault) }
+{
+    caps::laws::caps_have_one_text();
+    let cap = parse_bytes(alloc, text)?;
+    if !is_child_cap(&cap) {
+        return Err(DirFault::NotImmutable);
+    }
+    Ok(cap)
+}
+
+/// Whether the cap reads a file or a directory.
+fn is_child_cap(cap: &Cap) -> bool
+    ensures { result ≡ is_child_cap cap.now }
+{
+    match cap {
+        Cap::Chk(_) | Cap::Lit(_) | Cap::DirChk(_) | Cap::DirLit(_) => true,
+        Cap::ChkVerify(_) | Cap::DirChkVerify(_) => false,
+    }
+}

@@ -1,0 +1,71 @@
+//! What holds of directory texts.
+ghost use Rattle.std.specs.Prelude.{◌≡◌, ◌≢◌, ◌↔◌, ◌<◌, ◌≤◌, ◌^◌, ℕ, false, List, length, Ok, Err, Some};
+ghost use Rattle.serde_json.specs.Data.{Data, depth};
+ghost use Rattle.serde_json.specs.Read.{read};
+ghost use Rattle.serde_json.specs.Written.{has_float, compact_text};
+ghost use Rattle.dir_codec.specs.Sound.{IsSound};
+ghost use Rattle.dir_codec.specs.Metadata.{metadata_of, spelling_of};
+ghost use Rattle.dir_codec.specs.Entries.{IsDirectory};
+ghost use Rattle.dir_codec.specs.DirectoryText.{IsDirectoryText, directory_text};
+ghost use Rattle.dir_codec.specs.Reading.{reading, children};
+ghost use Rattle.dir_codec.specs.Children.{making, made};
+ghost use Rattle.dir_codec.specs.Faults.{Refuses};
+ghost use Rattle.dir_codec.specs.declared.entry.Entry.{Entry};
+ghost use Rattle.dir_codec.specs.declared.fault.DirFault.{DirFault};
+ghost use Rattle.dir_codec.specs.declared.fault.DirFault.TheVariants.{NoMemory};
+
+use caps::laws::reading_is_decided;
+use tag_hash::laws::netstrings_are_read_back;
+
+/// A text is read as a list of entries exactly when they belong together. Those of a text are its children.
+pub fn texts_and_entries_belong_together()
+    ensures read { (entries : List Entry) (text : List ℕ) → length text < 2 ^ 64
+        → IsDirectoryText entries text → reading text ≡ Ok entries }
+    ensures only { (entries : List Entry) (text : List ℕ) → reading text ≡ Ok entries
+        → IsDirectoryText entries text }
+    ensures children { (entries : List Entry) (text : List ℕ)
+        → ((children text ≡ Some entries) ↔ (reading text ≡ Ok entries)) }
+{
+    netstrings_are_read_back();
+    reading_is_decided();
+}
+
+/// A text is refused for the first fault of the first entry that has one.
+pub fn texts_are_refused_for_the_first_fault()
+    ensures { (fault : DirFault) (text : List ℕ) → length text < 2 ^ 64 → fault ≢ NoMemory
+        → reading text ≡ Err fault → Refuses fault text }
+{
+    netstrings_are_read_back();
+    reading_is_decided();
+}
+
+/// The text that is written for a directory belongs to it, so it is read back.
+pub fn written_directories_are_read_back()
+    ensures text { (entries : List Entry) → IsDirectory entries
+        → IsDirectoryText entries (directory_text entries) }
+    ensures read { (entries : List Entry) → IsDirectory entries
+        → length (directory_text entries) < 2 ^ 64 → reading (directory_text entries) ≡ Ok entries }
+{
+    netstrings_are_read_back();
+    reading_is_decided();
+}
+
+/// The metadata that an entry keeps are those that its text was read to: a spelling that spells itself stands for the
+/// same value as each text that it is the spelling of.
+pub fn spellings_stand_for_metadata()
+    ensures { (text kept : List ℕ) → spelling_of text ≡ Some kept → spelling_of kept ≡ Some kept
+        → metadata_of kept ≡ metadata_of text }
+{}
+
+/// `serde_json`'s compact text of a value whose numbers are whole ones of 64 bits is read as that value, up to the levels that its
+/// reader goes down.
+pub fn whole_values_are_read_back()
+    ensures { (value : Data) → IsSound value → has_float value ≡ false → depth value ≤ 127
+        → read (compact_text value) ≡ Some value }
+{}
+
+/// The children that JSON names are those that are made of it.
+pub fn made_children_are_named()
+    ensures { (entries : List Entry) (json : List ℕ)
+        → ((made json ≡ Some entries) ↔ (making json ≡ Ok entries)) }
+{}

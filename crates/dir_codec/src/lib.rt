@@ -1,0 +1,35 @@
+//! Directories of what can't change (Tahoe-LAFS's dirnodes document): their texts, and the JSON that a client names
+//! children with.
+#![tactic(auto)]
+
+/// Directories.
+mod directory;
+/// Entries of a directory.
+mod entry;
+/// Texts that a value owns.
+mod text;
+/// Why there is no directory.
+mod fault;
+/// From a text to the directory whose text it is.
+mod decoder;
+/// From a directory to its text.
+mod encoder;
+/// From the JSON that a client names children with to their directory.
+mod child;
+/// The four texts of an entry.
+mod parts;
+/// Metadata, and their one spelling.
+mod metadata;
+
+/// What holds of directory texts.
+pub mod laws;
+#[cfg(test)]
+mod tests;
+
+pub use child::from_children_json;
+pub use decoder::decode;
+pub use directory::Directory;
+pub use encoder::encode;
+pub use entry::Entry;
+pub use fault::DirFault;
+pub use text::Text;

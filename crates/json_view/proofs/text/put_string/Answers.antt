@@ -1,0 +1,18 @@
+use Rattle.std.proofs.Common.{◌++◌, sym, ap, ◌∙◌}
+use Rattle.std.proofs.lemmas.Result.{on_ok_weaker}
+use Rattle.std.specs.List.{list_all}
+use Rattle.json_view.specs.Strings.{is_plain}
+use Rattle.serde_json.specs.View.{view}
+use Rattle.json_view.proofs.Plain.{plain_quoted, written_quoted}
+use Rattle.json_view.proofs.text.put_string.Goals as goal
+
+pub returns-then-is_plain : goal.returns-then-is_plain
+returns-then-is_plain c =
+    let text = c.args.text.now in
+    let plain = ap (list_all is_plain) (sym c.as_bytes.ensures.value) ∙ sym c.is_plain.ensures ∙ c.if-is_plain.true in
+    on_ok_weaker c.put_all.result (λ put. put ∙ ap (λ t. c.args.out.now.items ++ t) (plain_quoted text c.as_bytes-then-is_plain.result.now plain c.as_bytes-then-is_plain.ensures.value)) c.put_all.ensures
+
+pub returns : goal.returns
+returns c =
+    c.in_ok-extend_from_slice.ensures.items
+    ∙ ap (λ t. c.args.out.now.items ++ t) (written_quoted (view c.in_ok-value.value) c.args.text.now _ _ c.in_ok-value.ensures c.in_ok-written.ensures.text c.as_bytes-2.ensures.value)

@@ -1,0 +1,4 @@
+pub mod Strings
+pub mod Nodes
+pub mod Checks
+pub mod Values

@@ -1,0 +1,18 @@
+//! The JSON replies of Tahoe-LAFS's webapi document for files, directories and checks, byte for byte: compact, with keys
+//! in the order of their bytes, and with texts as `serde_json` writes them.
+#![tactic(auto)]
+
+/// Nodes: files, and directories with their children.
+mod node;
+/// Checks.
+mod report;
+/// Pieces of text, put after one another.
+mod text;
+
+/// What holds of the replies.
+pub mod laws;
+#[cfg(test)]
+mod tests;
+
+pub use node::{dir_json, file_json};
+pub use report::{check_json, literal_check_json};

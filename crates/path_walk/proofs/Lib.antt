@@ -1,0 +1,3 @@
+pub mod PathLemmas
+pub mod WalkLemmas
+pub mod WayLemmas

@@ -1,0 +1,5 @@
+pub mod TargetLemmas
+pub mod RangeLemmas
+pub mod RequestLemmas
+pub mod TableLemmas
+pub mod FaultLemmas

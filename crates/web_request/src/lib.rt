@@ -1,0 +1,30 @@
+//! Requests of the web API: what a head and a body ask for, or why they ask for nothing that there is.
+//!
+//! [`interpret`] gives the one or the other. It reads each part of a head once, and moves the body.
+#![tactic(auto)]
+
+/// The head of a request.
+mod head;
+/// What a request asks for.
+mod request;
+/// Why a request was refused.
+mod fault;
+/// The path and the query of a target.
+mod target;
+/// The keys of a query that count.
+mod query;
+/// What a method and a query ask for.
+mod action;
+/// The one range that is asked for.
+mod range;
+/// From a head and a body to the request that they are.
+mod interpreter;
+/// What holds of requests.
+pub mod laws;
+#[cfg(test)]
+mod tests;
+
+pub use fault::WebFault;
+pub use head::{Field, Fields, Head};
+pub use interpreter::interpret;
+pub use request::{Request, Resource};
