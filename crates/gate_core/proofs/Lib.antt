@@ -6,6 +6,7 @@ pub mod Entries
 pub mod Steps
 pub mod Performed
 pub mod Serving
+pub mod Telling
 pub mod Arrivals
 pub mod Empty
 pub mod Local

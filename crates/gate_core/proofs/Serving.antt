@@ -55,7 +55,7 @@ asked_by-append : (id : ℕ) (xs ys : List Item) → asked_by id (xs ++ ys) ≡ 
 asked_by-append id [] ys = refl
 asked_by-append id (x ∷ xs) ys = ap (λ r. Asked id x ∷ r) (asked_by-append id xs ys)
 
-AreAnswered-append : (s : Settings) (xs ys : List Item) (a b : List ℕ) → AreAnswered s xs a → AreAnswered s ys b → AreAnswered s (xs ++ ys) (a ++ b)
+pub AreAnswered-append : (s : Settings) (xs ys : List Item) (a b : List ℕ) → AreAnswered s xs a → AreAnswered s ys b → AreAnswered s (xs ++ ys) (a ++ b)
 AreAnswered-append s [] ys a b none those = subst (λ l. AreAnswered s ys (l ++ b)) (sym none) those
 AreAnswered-append s (x ∷ xs) ys a b first those = (
   first.0 ++ b,

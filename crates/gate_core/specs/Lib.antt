@@ -13,3 +13,4 @@ pub mod Lefts
 pub mod Came
 pub mod Replied
 pub mod Served
+pub mod Faithful

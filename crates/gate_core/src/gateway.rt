@@ -62,7 +62,11 @@ impl<S: Store> Model for Gateway<S> {
         (λ s. (s.settings, (s.connections, s.grid)))
         (λ p. record { settings = p.0; connections = p.1.0; grid = p.1.1 }) (λ _. refl) };
 
-    ghost view = { λ g. record { settings = settings_of g.parameters (length g.grid); connections = map.from_entries g.connections.entries; grid = g.grid } };
+    ghost view = { λ g. record {
+      settings = settings_of g.parameters (length g.grid);
+      connections = map.from_entries g.connections.entries;
+      grid = g.grid;
+    } };
 }
 
 /// Whether a gateway can be set up so.
@@ -132,7 +136,8 @@ impl<S: Store + Drop> Gateway<S> {
         ensures leaves { IfOk result (λ gateway.
             Leaves (states S.shares S.room S.held S.failures S.honest stores.items) gateway.grid) }
         ensures calm { IfOk result (λ gateway.
-            NoneFailed (states S.shares S.room S.held S.failures S.honest stores.items) gateway.grid) }
+            NoneFailed (states S.shares S.room S.held S.failures S.honest stores.items)
+            gateway.grid) }
         // Where the reader tells its bytes, they are the image.
         ensures read { IsHonest (states S.shares S.room S.held S.failures S.honest stores.items) →
             IfOk result (λ gateway. IfSome (R.remaining reader.old)

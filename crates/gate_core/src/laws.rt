@@ -2,6 +2,7 @@
 ghost use Rattle.std.specs.Prelude.{◌≡◌, ◌++◌, ◌∷◌, ℕ, List, [], Bool, true, filter, length, take, Some, None};
 ghost use Rattle.std.specs.FinMap as map;
 ghost use Rattle.gate_core.specs.declared.stage.Stage.TheVariants.{Open as OpenStage};
+ghost use Rattle.http_edge.specs.Frame.{frame};
 ghost use Rattle.share_store.specs.Shares.{ShareKey};
 ghost use Rattle.grid.specs.GridState.{GridState, stood, IsHonest, NoneFailed};
 ghost use Rattle.grid.specs.Leaves.{Leaves, IsUnchanged};
@@ -10,15 +11,17 @@ ghost use Rattle.chk_file.specs.Marks.{shown};
 ghost use Rattle.chk_file.specs.World.{World};
 ghost use Rattle.chk_file.specs.Look.{by_fit};
 ghost use Rattle.gate_core.specs.Settings.{Settings};
-ghost use Rattle.gate_core.specs.Events.{Event, Open, Bytes, End, Take, Lose, Spoil, handed};
+ghost use Rattle.gate_core.specs.Events.{Event, Open, Bytes, End, Take, Lose, Spoil, handed, joined};
 ghost use Rattle.gate_core.specs.Items.{Entry, items};
 ghost use Rattle.gate_core.specs.Runs.{world_after, said_by, said};
 ghost use Rattle.gate_core.specs.Reach.{keeps, kept_by, reach, kept, only};
 ghost use Rattle.gate_core.specs.Agrees.{Agrees};
-ghost use Rattle.gate_core.specs.Held.{Held, State, held_at, waiting};
-ghost use Rattle.gate_core.specs.Lefts.{with_held, with_grid, opened, taken, ended};
+ghost use Rattle.gate_core.specs.Held.{Held, State, held_at, waiting, cut_refusal};
+ghost use Rattle.gate_core.specs.Lefts.{with_held, with_grid, opened, taken, ended, cut};
 ghost use Rattle.gate_core.specs.Came.{Opening, Came, IsRoomy, Starts};
+ghost use Rattle.gate_core.specs.Replied.{AreAnswered};
 ghost use Rattle.gate_core.specs.Served.{IsReceived};
+ghost use Rattle.gate_core.specs.Faithful.{Faithful};
 
 /// Where nothing was called yet, and honest stores show what stands in a world.
 pub fn came_begins()
@@ -105,4 +108,49 @@ pub fn came_goes_on()
     http_edge::laws::pieces_join();
     http_edge::laws::left_over();
     chk_file::laws::marks_follow_the_grid();
+}
+
+/// What each call leaves a gateway having told its callers, whatever the stores.
+pub fn faithful_goes_on()
+    ensures begins { (g : State) → g.connections ≡ map.empty → Faithful g [] }
+    ensures opened { (g : State) (events : List Event) (id : ℕ) → Faithful g events →
+        held_at g id ≡ None → Faithful (with_held g id opened) (events ++ Open id ∷ []) }
+    ensures received { (g h : State) (events : List Event) (id : ℕ) (held : Held)
+        (piece : List ℕ) → Faithful g events → held_at g id ≡ Some held → held.stage ≡ OpenStage →
+        IsReceived g h id held piece → Faithful h (events ++ Bytes id piece ∷ []) }
+    // memory ran out, which is no call
+    ensures cut { (g : State) (events : List Event) (id : ℕ) (held : Held) (grid : GridState) →
+        Faithful g events → held_at g id ≡ Some held →
+        Faithful (with_grid (with_held g id cut) grid) events }
+    ensures taken { (g : State) (events : List Event) (id max : ℕ) (held : Held) →
+        Faithful g events → held_at g id ≡ Some held → cut_refusal held.stage ≡ None →
+        Faithful (with_held g id (taken max held)) (events
+        ++ Take id (take max held.waiting) ∷ []) }
+    ensures ended { (g : State) (events : List Event) (id : ℕ) (held : Held) →
+        Faithful g events → held_at g id ≡ Some held → held.stage ≡ OpenStage →
+        Faithful (with_held g id (ended held)) (events ++ End id ∷ []) }
+    ensures lost { (g : State) (events : List Event) (server : ℕ) (key : ShareKey)
+        (grid : GridState) → Faithful g events →
+        Faithful (with_grid g grid) (events ++ Lose server key ∷ []) }
+    ensures spoiled { (g : State) (events : List Event) (server : ℕ) (key : ShareKey) (place : ℕ)
+        (grid : GridState) → Faithful g events →
+        Faithful (with_grid g grid) (events ++ Spoil server key place ∷ []) }
+    ensures unchanged { (g : State) (events : List Event) (grid : GridState) →
+        Faithful g events → Faithful (with_grid g grid) events }
+{
+    http_edge::laws::pieces_join();
+    http_edge::laws::left_over();
+}
+
+/// Over any stores and any calls, what a caller was handed is a beginning of one reply for each item of its own bytes, in
+/// their order, where bytes of a stored file are bound to the cap that was asked for; what waits is the rest.
+pub fn callers_are_told_what_they_asked()
+    ensures whole { (g : State) (events : List Event) (id : ℕ) (held : Held) →
+        Faithful g events → held_at g id ≡ Some held → cut_refusal held.stage ≡ None →
+        AreAnswered g.settings (frame (joined id events)) (handed id events ++ held.waiting) }
+    ensures begun { (g : State) (events : List Event) (id : ℕ) → Faithful g events →
+        (more : List ℕ) × AreAnswered g.settings (frame (joined id events))
+        (handed id events ++ more) }
+{
+    http_edge::laws::left_over();
 }

@@ -27,3 +27,6 @@ pub mod laws;
 
 pub use fault::{GatewayFault, RestoreFault};
 pub use gateway::Gateway;
+
+#[cfg(test)]
+mod tests;

@@ -7,6 +7,7 @@ pub mod LineLists
 pub mod StoreLists
 pub mod Begins
 pub mod Portions
+pub mod Turning
 pub mod Steps
 pub mod CallLemmas
 pub mod Stands

@@ -1,6 +1,7 @@
 -- What waits is written in portions.
 use Rattle.std.proofs.Common.{◌≡◌, ◌≢◌, ℕ, List, [], ◌∷◌, ◌++◌, take, drop, Option, Some, None, cond, refl, sym, ap, subst, ◌∙◌, append_assoc, arith, rules}
 use Rattle.std.specs.FinMap as map
+use Rattle.std.specs.Prelude.{Bool, false, IsTrue, ◌↔◌}
 use Rattle.std.specs.Ordering.{nat_cmp}
 use Rattle.std.specs.Io.KnownBytes.{Appends}
 use Rattle.std.proofs.KnownBytes.{Appends-nil, Appends-trans}
@@ -52,3 +53,8 @@ pub portion_is : (old new : State) (id max : ℕ) (portion : List ℕ) → waiti
     → waiting old id ≡ portion ++ waiting new id
 portion_is old new id max portion some is left =
     sym (take-append-drop max (waiting old id)) ∙ ap (λ p. p ++ drop max (waiting old id)) (sym is) ∙ ap (λ r. portion ++ r) (sym (waits_after old new id max (held_at old id) refl some left))
+
+-- nothing waits where that is said
+pub nothing_waits : (b : Bool) (waits : List ℕ) → b ≡ false → IsTrue b ↔ (waits ≢ []) → waits ≡ []
+nothing_waits b [] none says = refl
+nothing_waits b (x ∷ waits) none says = let some : IsTrue b = says.1 (λ e. cc) in cc

@@ -4,14 +4,15 @@ use Rattle.std.specs.Prelude.{map, replicate, IsTrue}
 use Rattle.std.specs.FinMap as finite
 use Rattle.std.proofs.lemmas.Bool.Decides.{nat_tests}
 use Rattle.share_store.specs.Shares.{Shares}
-use Rattle.share_store.specs.Stored.{entries_of}
+use Rattle.std.specs.Rc.{rc_slice_items}
+use Rattle.share_store.specs.Stored.{shares_in}
 use Rattle.share_store.specs.declared.mem_store.MemStore.{MemStore}
 use Rattle.grid.specs.GridState.{StoreState, room_at, IsHonest}
 use Rattle.gate_main.specs.Stores.{fresh}
 
 -- what contracts see of a store in memory
 abbrev pub state_of : MemStore → StoreState
-state_of store = record { shares = finite.from_sorted (entries_of store.shares.items); room = store.room; held = store.held; failures = 0; honest = true }
+state_of store = record { shares = shares_in rc_slice_items store.shares.indexes; room = store.room; held = store.held; failures = 0; honest = true }
 
 one_fresh : (shares : Shares) (room held wanted : ℕ) → shares ≡ finite.empty → room ≡ wanted → held ≡ 0 → (let s : StoreState = record { shares = shares; room = room; held = held; failures = 0; honest = true } in s) ≡ fresh wanted
 one_fresh shares room held wanted a b c =
@@ -27,10 +28,10 @@ joined : (xs : List MemStore) (x : MemStore) → map state_of (xs ++ x ∷ []) �
 joined [] x = refl
 joined (y ∷ xs) x = ap (λ l. state_of y ∷ l) (joined xs x)
 
-pub one_more : (xs : List MemStore) (x : MemStore) (n room : ℕ) → map state_of xs ≡ replicate n (fresh room) → (let made : Shares = finite.from_sorted (entries_of x.shares.items) in made) ≡ finite.empty → x.room ≡ room → x.held ≡ 0
+pub one_more : (xs : List MemStore) (x : MemStore) (n room : ℕ) → map state_of xs ≡ replicate n (fresh room) → (let made : Shares = shares_in rc_slice_items x.shares.indexes in made) ≡ finite.empty → x.room ≡ room → x.held ≡ 0
     → map state_of (xs ++ x ∷ []) ≡ replicate (n + 1) (fresh room)
 one_more xs x n room before a b c =
-    joined xs x ∙ ap (λ l. l ++ state_of x ∷ []) before ∙ ap (λ s. replicate n (fresh room) ++ s ∷ []) (one_fresh (finite.from_sorted (entries_of x.shares.items)) x.room x.held room a b c)
+    joined xs x ∙ ap (λ l. l ++ state_of x ∷ []) before ∙ ap (λ s. replicate n (fresh room) ++ s ∷ []) (one_fresh (shares_in rc_slice_items x.shares.indexes) x.room x.held room a b c)
     ∙ more_same n (fresh room)
 
 honest_at : (n room k : ℕ) (d : StoreState) → k < length (replicate n (fresh room)) → IsTrue (get_or (replicate n (fresh room)) k d).honest

@@ -8,3 +8,4 @@ pub mod Replies
 pub mod Running
 pub mod Arguments
 pub mod Status
+pub mod Turns

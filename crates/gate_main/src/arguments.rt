@@ -132,7 +132,8 @@ fn read_connections(text: &[u8]) -> Option<u16>
 /// The secret that a text spells, at most 256 bytes.
 fn read_secret(alloc: Global, text: &[u8]) -> Result<Option<Bytes>, AllocError>
     ensures { IfOk result (λ secret. MatchOption secret
-        ((bytes : List ℕ) → length bytes ≤ most_secret → ¬ (spelled (reading text.now) ≡ Some bytes))
+        ((bytes : List ℕ) → length bytes ≤ most_secret
+        → ¬ (spelled (reading text.now) ≡ Some bytes))
         (λ bytes. (spelled (reading text.now) ≡ Some bytes) × (length bytes ≤ most_secret))) }
 {
     let Some(secret) = read_spelled(alloc, text)? else {

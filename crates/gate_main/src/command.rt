@@ -133,7 +133,8 @@ fn read_parameters(
     room: &[u8],
     secret: &[u8],
 ) -> Result<Option<Command>, AllocError>
-    ensures { IfOk result (λ command. command ≡ grid_of (k.now ∷ n.now ∷ servers.now ∷ room.now ∷ secret.now ∷ [])) }
+    ensures { IfOk result (λ command. command
+        ≡ grid_of (k.now ∷ n.now ∷ servers.now ∷ room.now ∷ secret.now ∷ [])) }
 {
     let Some(k) = read_short(k) else {
         return Ok(None);

@@ -6,7 +6,8 @@ ghost use Rattle.gate_main.specs.Text.{unescaped, escaped};
 
 /// A text that is written is read as the bytes for which it was written.
 pub fn texts_are_read_back()
-    ensures { (bytes : List ℕ) → All (λ byte. byte < 256) bytes → unescaped (escaped bytes) ≡ Some bytes }
+    ensures { (bytes : List ℕ) → All (λ byte. byte < 256) bytes
+        → unescaped (escaped bytes) ≡ Some bytes }
 {}
 
 /// The lines of a script, each with the LF that ends it, are the script.

@@ -25,6 +25,8 @@ mod serving;
 mod spelling;
 /// The status with which the program exits.
 mod status;
+#[cfg(test)]
+mod tests;
 /// The stores of a gateway.
 mod stores;
 /// Bytes as text.

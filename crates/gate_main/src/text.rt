@@ -27,7 +27,8 @@ pub fn unescape(alloc: Global, text: &[u8]) -> Result<Option<Bytes>, AllocError>
 
 /// The byte that the characters after a backslash name, and the text after them.
 fn read_escape(text: &[u8]) -> Option<(u8, &[u8])>
-    ensures read { MatchOption result (after_backslash text.now ≡ None) (λ read. after_backslash text.now ≡ followed_by read.0 (unescaped read.1.now)) }
+    ensures read { MatchOption result (after_backslash text.now
+        ≡ None) (λ read. after_backslash text.now ≡ followed_by read.0 (unescaped read.1.now)) }
     ensures shorter { IfSome result (λ read. length read.1.now < length text.now) }
 {
     let (kind, rest) = text.split_first()?;
@@ -42,7 +43,8 @@ fn read_escape(text: &[u8]) -> Option<(u8, &[u8])>
 
 /// The byte that two digits write, and the text after them.
 fn read_hex(text: &[u8]) -> Option<(u8, &[u8])>
-    ensures read { MatchOption result (after_x text.now ≡ None) (λ read. after_x text.now ≡ followed_by read.0 (unescaped read.1.now)) }
+    ensures read { MatchOption result (after_x text.now ≡ None) (λ read. after_x text.now
+        ≡ followed_by read.0 (unescaped read.1.now)) }
     ensures shorter { IfSome result (λ read. length read.1.now < length text.now) }
 {
     let (high, more) = text.split_first()?;
@@ -53,7 +55,8 @@ fn read_hex(text: &[u8]) -> Option<(u8, &[u8])>
 
 /// What a digit of base 16 in lower case stands for.
 fn hex_digit_value(digit: u8) -> Option<u8>
-    ensures { MatchOption result (is_hex digit ≡ false) (λ value. (is_hex digit ≡ true) × (value ≡ hex_value digit) × (value < 16)) }
+    ensures { MatchOption result (is_hex digit
+        ≡ false) (λ value. (is_hex digit ≡ true) × (value ≡ hex_value digit) × (value < 16)) }
 {
     match digit {
         b'0'..=b'9' => Some(digit - b'0'),
@@ -79,7 +82,8 @@ pub fn escape(bytes: &[u8], text: &mut Vec<u8>) -> Result<(), AllocError>
 
 /// What stands before the first byte that needs an escape, that byte, and what stands after it.
 fn split_at_special(bytes: &[u8]) -> Option<(&[u8], u8, &[u8])>
-    ensures { MatchOption result (All (λ b. is_plain b ≡ true) bytes.now) (λ parts. IsCutWhere is_plain bytes.now parts.0.now parts.1 parts.2.now) }
+    ensures { MatchOption result (All (λ b. is_plain b
+        ≡ true) bytes.now) (λ parts. IsCutWhere is_plain bytes.now parts.0.now parts.1 parts.2.now) }
 {
     let at = bytes.iter().position(|byte| !is_plain_byte(*byte))?;
     Some((&bytes[..at], bytes[at], &bytes[at + 1..]))
