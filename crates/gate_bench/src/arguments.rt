@@ -5,11 +5,22 @@ use std::process::ExitCode;
 use std::rt::Env;
 use std::{env, fmt};
 
+/// What is asked for.
+#[derive(Clone, Copy)]
+pub(crate) enum Command {
+    /// No argument.
+    Nothing,
+    /// The least times of so many turns.
+    Turns(u32),
+    /// What a refused allocation leaves, after so many allocations that serve nothing.
+    Refusal(u32),
+}
+
 #[derive(Debug, Drop)]
 pub(crate) enum ArgumentFault {
-    /// The argument is no number of turns.
+    /// An argument is no count.
     NotACount,
-    /// There is more than one argument.
+    /// The arguments are of another form.
     TooMany,
     /// An argument is no text.
     Unreadable,
@@ -20,8 +31,14 @@ pub(crate) enum ArgumentFault {
 impl fmt::Display for ArgumentFault {
     fn fmt<W: fmt::Write>(&self, f: &mut fmt::Formatter<W>) -> fmt::Result {
         match self {
-            ArgumentFault::NotACount => write!(f, "NotACount: TURNS is 1 to 4294967295"),
-            ArgumentFault::TooMany => write!(f, "TooMany: usage: gate_bench [TURNS]"),
+            ArgumentFault::NotACount => write!(
+                f,
+                "NotACount: TURNS is 1 to 4294967295, BEFORE 0 to 4294967295"
+            ),
+            ArgumentFault::TooMany => write!(
+                f,
+                "TooMany: usage: gate_bench [TURNS | refusal BEFORE]"
+            ),
             ArgumentFault::Unreadable => write!(f, "Unreadable: an argument is no text"),
             ArgumentFault::NoMemory => write!(f, "out of memory"),
         }
@@ -38,8 +55,8 @@ impl ArgumentFault {
     }
 }
 
-/// The number of turns, if it is given.
-pub(crate) fn turns(rt: &(impl Env + AllocGlobal)) -> Result<Option<u32>, ArgumentFault> {
+/// What the arguments ask for.
+pub(crate) fn asked(rt: &(impl Env + AllocGlobal)) -> Result<Command, ArgumentFault> {
     let arguments = match env::args(rt) {
         Ok(arguments) => arguments,
         Err(error) if error.kind() == ErrorKind::OutOfMemory => {
@@ -49,13 +66,21 @@ pub(crate) fn turns(rt: &(impl Env + AllocGlobal)) -> Result<Option<u32>, Argume
     };
     let mut arguments = arguments.skip(1);
     let Some(first) = arguments.next() else {
-        return Ok(None);
+        return Ok(Command::Nothing);
     };
+    let second = arguments.next();
     if arguments.next().is_some() {
         return Err(ArgumentFault::TooMany);
     }
-    match first.as_str().parse::<u32>() {
-        Ok(turns) if turns > 0 => Ok(Some(turns)),
-        _ => Err(ArgumentFault::NotACount),
+    match (first.as_str(), second) {
+        ("refusal", Some(before)) => match before.as_str().parse::<u32>() {
+            Ok(before) => Ok(Command::Refusal(before)),
+            Err(_) => Err(ArgumentFault::NotACount),
+        },
+        (turns, None) => match turns.parse::<u32>() {
+            Ok(turns) if turns > 0 => Ok(Command::Turns(turns)),
+            _ => Err(ArgumentFault::NotACount),
+        },
+        _ => Err(ArgumentFault::TooMany),
     }
 }

@@ -34,6 +34,7 @@ pub(crate) fn least(
     byte: u8,
 ) -> anyhow::Result<Times> {
     let body = vec![in rt.alloc(); byte; BODY]?;
+    let mut reply = Vec::with_capacity(rt.alloc(), BODY + PIECE)?;
     let mut least = Times {
         put: u128::MAX,
         get: u128::MAX,
@@ -41,10 +42,12 @@ pub(crate) fn least(
     };
     for _turn in 0..turns {
         let mut gateway = gateway(rt.alloc())?;
-        let (put, cap) = put(rt, &mut gateway, &body)?;
-        let get = get(rt, &mut gateway, 2, &cap, &body)?;
+        let (put, cap) = put(rt, &mut gateway, &body, &mut reply)?;
+        let get = get(rt, &mut gateway, 2, &cap, &mut reply)?;
+        ensure!(reply.ends_with(&body), "another body is answered");
         lose_first(rt.alloc(), &mut gateway, &cap)?;
-        let get_secondary = self::get(rt, &mut gateway, 3, &cap, &body)?;
+        let get_secondary = self::get(rt, &mut gateway, 3, &cap, &mut reply)?;
+        ensure!(reply.ends_with(&body), "another body is answered");
         least = Times {
             put: least.put.min(put),
             get: least.get.min(get),
@@ -55,14 +58,15 @@ pub(crate) fn least(
 }
 
 /// A gateway of 3 of 10 over empty stores.
-fn gateway(alloc: Global) -> anyhow::Result<Gateway<MemStore>> {
+pub(crate) fn gateway(alloc: Global) -> anyhow::Result<Gateway<MemStore>> {
     let stores = stores(alloc)?;
     Ok(Gateway::new(alloc, 3, 10, stores, b"")?)
 }
 
 /// Empty stores.
 fn stores(alloc: Global) -> anyhow::Result<Vec<MemStore>>
-    ensures { IfOk result (λ stores. All (λ store. ⟦<MemStore as Store>⟧.held store ≡ 0) stores.items) }
+    ensures { IfOk result (λ stores.
+        All (λ store. ⟦<MemStore as Store>⟧.held store ≡ 0) stores.items) }
 {
     let mut stores = Vec::with_capacity(alloc, SERVERS)?;
     for _server in 0..SERVERS {
@@ -76,6 +80,7 @@ fn put(
     rt: &(impl Clock + AllocGlobal),
     gateway: &mut Gateway<MemStore>,
     body: &[u8],
+    reply: &mut Vec<u8>,
 ) -> anyhow::Result<(u128, Vec<u8>)> {
     let head = format!(in rt.alloc();
         "PUT /uri HTTP/1.1\r\nHost: g\r\nContent-Length: {}\r\n\r\n",
@@ -87,7 +92,7 @@ fn put(
     for piece in body.chunks(PIECE) {
         gateway.bytes(1, piece)?;
     }
-    let reply = taken(rt.alloc(), gateway, 1)?;
+    take_all(gateway, 1, reply)?;
     let took = start.elapsed(rt)?.as_micros();
     let end = reply.len().saturating_sub(CAP_BYTES);
     ensure!(reply[end..].starts_with(b"URI:CHK:"), "no cap is answered");
@@ -97,13 +102,13 @@ fn put(
 /// How many bytes the text of the body's cap has.
 const CAP_BYTES: usize = 100;
 
-/// Gets the body, and gives the microseconds that it took.
+/// Gets the body into `reply`, and gives the microseconds that it took.
 fn get(
     rt: &(impl Clock + AllocGlobal),
     gateway: &mut Gateway<MemStore>,
     id: u64,
     cap: &[u8],
-    body: &[u8],
+    reply: &mut Vec<u8>,
 ) -> anyhow::Result<u128> {
     let mut head = b"GET /uri/".to_vec(rt.alloc())?;
     head.extend_from_slice(cap)?;
@@ -111,22 +116,20 @@ fn get(
     let start = Instant::now(rt)?;
     gateway.open(id)?;
     gateway.bytes(id, &head)?;
-    let reply = taken(rt.alloc(), gateway, id)?;
-    let took = start.elapsed(rt)?.as_micros();
-    ensure!(reply.ends_with(body), "another body is answered");
-    Ok(took)
+    take_all(gateway, id, reply)?;
+    Ok(start.elapsed(rt)?.as_micros())
 }
 
-/// Takes all that waits on a connection.
-fn taken(alloc: Global, gateway: &mut Gateway<MemStore>, id: u64) -> anyhow::Result<Vec<u8>> {
-    let mut reply = Vec::with_capacity(alloc, BODY + PIECE)?;
+/// Takes all that waits on a connection. The memory for it is that of the turn before, as a socket's is.
+fn take_all(gateway: &mut Gateway<MemStore>, id: u64, reply: &mut Vec<u8>) -> anyhow::Result<()> {
+    reply.clear();
     for _take in 0..BODY {
         if !gateway.waiting(id) {
             break;
         }
         reply.extend_from_slice(&gateway.take(id, PIECE)?)?;
     }
-    Ok(reply)
+    Ok(())
 }
 
 /// Loses the shares 0 to 6 of the file.

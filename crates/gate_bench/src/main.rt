@@ -1,16 +1,22 @@
 //! Times the work on a body of 4 MiB. `gate_bench TURNS` prints the least microseconds that one of so many turns took
 //! of each part: `apply`, its encryption; `encode`, the seven secondary blocks of its three primary ones; `decode`, its
 //! primary blocks from the last three; `put`, `get` and `get_secondary`, through the gateway, from the first three shares
-//! and from the last three; `hash_put` and `hash_get`, the hashing in them alone. Without an argument it prints nothing.
+//! and from the last three; `hash_put` and `hash_get`, the hashing in them alone; `gather_10` and `gather_100000`, a
+//! thousand gatherings of a file's ten shares, from a grid of ten shares and from one of a hundred thousand.
+//! `gate_bench refusal BEFORE` makes so many allocations, serves three small requests and looks at what a refused
+//! allocation leaves. Without an argument it prints nothing.
 #![tactic(auto)]
 
 mod arguments;
 mod cipher;
 mod code;
 mod files;
+mod gather;
 mod hashing;
+mod refusal;
 
-use crate::arguments::turns;
+use crate::arguments::{Command, asked};
+use crate::refusal::Outcome;
 use std::process::ExitCode;
 use std::rt::Clock;
 
@@ -19,21 +25,34 @@ const BODY: usize = 4_194_304;
 
 /// Status 0, or 1 where a turn failed or memory was refused, or 2 at wrong arguments.
 fn main(rt: HostRuntime) -> ExitCode {
-    let turns = match turns(&rt) {
-        Ok(Some(turns)) => turns,
-        Ok(None) => return ExitCode::SUCCESS,
+    let result = match asked(&rt) {
+        Ok(Command::Nothing) => return ExitCode::SUCCESS,
+        Ok(Command::Refusal(before)) => return look_at_refusal(&rt, before),
+        Ok(Command::Turns(turns)) => bench(&rt, turns),
         Err(fault) => {
             let _ = eprintln!(rt; "gate_bench: {fault}");
             return fault.status();
         }
     };
-    match bench(&rt, turns) {
+    match result {
         Ok(()) => ExitCode::SUCCESS,
         Err(error) => {
             let _ = eprintln!(rt; "gate_bench: {error}");
             ExitCode::from(1)
         }
     }
+}
+
+/// Prints what came of the three connections. Status 0, or 1 where something is wrong.
+fn look_at_refusal(rt: &(impl Print + AllocGlobal), before: u32) -> ExitCode {
+    let (words, status) = match refusal::serve_three(rt.alloc(), before) {
+        Outcome::Served => ("served", 0),
+        Outcome::Cut => ("cut", 0),
+        Outcome::Refused => ("refused", 0),
+        Outcome::Wrong(words) => (words, 1),
+    };
+    let _ = println!(rt; "{words}");
+    ExitCode::from(status)
 }
 
 /// Prints the least times of so many turns. The bytes that are worked on come from the count, which no compiler knows.
@@ -51,5 +70,8 @@ fn bench(rt: &(impl Print + Clock + AllocGlobal), turns: u32) -> anyhow::Result<
     let (hash_put, hash_get) = hashing::least(rt, turns, byte)?;
     println!(rt; "hash_put {hash_put}")?;
     println!(rt; "hash_get {hash_get}")?;
+    let (few, many) = gather::least(rt, turns, byte)?;
+    println!(rt; "gather_10 {few}")?;
+    println!(rt; "gather_100000 {many}")?;
     Ok(())
 }

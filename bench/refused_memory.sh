@@ -1,0 +1,29 @@
+#!/bin/sh
+# Each allocation of a put, a get and a request that waits beside them is refused in turn. The program is run without its
+# proof: one allocation of each run, with a fixed number, is refused, and the runs differ in how many come before the
+# exchange. Each has to end in `served`, `cut` (a piece was refused memory, its connection is cut, and the one that
+# waited is answered) or `refused` (another call was refused memory).
+set -eu
+cd "$(dirname "$0")/../crates/gate_bench"
+last=500
+folder=$(mktemp -d)
+trap 'rm -rf "$folder"' EXIT
+
+for before in $(seq 0 $last); do
+    name=$(printf '%04d' "$before")
+    : > "$folder/$name"
+    echo "$before" > "$folder/$name.args"
+done
+rt try --fail-alloc $last --cases "$folder" -- refusal > "$folder/answers" 2>&1 || {
+    cat "$folder/answers"
+    exit 1
+}
+
+count() { grep -c "^$1\$" "$folder/answers" || true; }
+served=$(count served) cut=$(count cut) refused=$(count refused)
+echo "allocations refused in turn: $cut cut a connection, $refused refused a call, $served runs met none"
+# The first run's exchange is over before the refused allocation, so none of its allocations is left out.
+grep -A 1 '^== 0000$' "$folder/answers" | grep -q '^served$'
+test "$cut" -gt 0
+test "$refused" -gt 0
+test $((served + cut + refused)) -eq $((last + 1))
