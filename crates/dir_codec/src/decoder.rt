@@ -15,8 +15,8 @@ use crate::entry::Entry;
 use crate::fault::DirFault;
 use crate::metadata::read_metadata;
 use crate::parts::{Parts, first_entry};
-use crate::text::Text;
 use caps::{Cap, parse_bytes};
+use octets::Text;
 use std::alloc::{AllocError, Global};
 use unicode_normalization::is_nfc;
 

@@ -1,7 +1,7 @@
 //! Entries of a directory.
 
-use crate::text::Text;
 use caps::Cap;
+use octets::Text;
 
 /// An entry of a directory: a child under its name.
 #[derive(Debug, Drop)]

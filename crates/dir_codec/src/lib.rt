@@ -6,8 +6,6 @@
 mod directory;
 /// Entries of a directory.
 mod entry;
-/// Texts that a value owns.
-mod text;
 /// Why there is no directory.
 mod fault;
 /// From a text to the directory whose text it is.
@@ -32,4 +30,3 @@ pub use directory::Directory;
 pub use encoder::encode;
 pub use entry::Entry;
 pub use fault::DirFault;
-pub use text::Text;

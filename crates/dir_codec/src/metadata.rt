@@ -6,7 +6,7 @@ ghost use Rattle.dir_codec.specs.Metadata.{json_of, is_whole, items_are_whole, m
 ghost use Rattle.dir_codec.specs.declared.fault.DirFault.TheVariants.{NoMemory, BadMetadata};
 
 use crate::fault::DirFault;
-use crate::text::Text;
+use octets::Text;
 use serde_json::{Map, Value};
 use std::alloc::{AllocError, Global};
 

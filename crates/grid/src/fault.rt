@@ -1,6 +1,7 @@
 //! Why a grid refuses.
 ghost use Rattle.std.specs.Prelude.{◌≡◌};
 ghost use Rattle.grid.specs.StoreAnswers.{answer_of as answer_said};
+ghost use Rattle.grid.specs.declared.fault.GridFault.TheVariants.{NoMemory, WriteFailed};
 
 use octets::WriteFault;
 use share_store::StoreFault;
@@ -35,9 +36,6 @@ pub enum GridFault {
 }
 
 impl From<WriteFault> for GridFault {
-    ghost use Rattle.std.specs.Prelude.{◌≡◌};
-    ghost use Rattle.grid.specs.declared.fault.GridFault.TheVariants.{WriteFailed};
-
     ghost from_gives = { λ _ e. e ≡ WriteFailed };
 
     fn from(_: WriteFault) -> Self {
@@ -46,9 +44,6 @@ impl From<WriteFault> for GridFault {
 }
 
 impl From<AllocError> for GridFault {
-    ghost use Rattle.std.specs.Prelude.{◌≡◌};
-    ghost use Rattle.grid.specs.declared.fault.GridFault.TheVariants.{NoMemory};
-
     ghost from_gives = { λ _ e. e ≡ NoMemory };
 
     fn from(_: AllocError) -> Self {
@@ -57,9 +52,6 @@ impl From<AllocError> for GridFault {
 }
 
 impl<T: Drop> From<AllocFailed<T>> for GridFault {
-    ghost use Rattle.std.specs.Prelude.{◌≡◌};
-    ghost use Rattle.grid.specs.declared.fault.GridFault.TheVariants.{NoMemory};
-
     ghost from_gives = { λ _ e. e ≡ NoMemory };
 
     fn from(_: AllocFailed<T>) -> Self {

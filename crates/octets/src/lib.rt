@@ -1,9 +1,11 @@
-//! Bytes and the small things that every layer does with them: owned bytes, decimal numbers, cutting at a byte, writing
-//! whole, and the one test of how many shares are enough of how many.
+//! Bytes and the small things that every layer does with them: owned bytes, owned text, decimal numbers, cutting at a
+//! byte, writing whole, and the one test of how many shares are enough of how many.
 #![tactic(auto)]
 
 /// Owned bytes.
 mod bytes;
+/// Owned text.
+mod text;
 /// Cutting at a byte.
 mod cut;
 /// Decimal numbers.
@@ -26,4 +28,5 @@ pub use cut::split_at_byte;
 pub use fault::WriteFault;
 pub use number::read_number;
 pub use sharing::is_sharing;
+pub use text::Text;
 pub use writing::write_whole;

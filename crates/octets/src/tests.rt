@@ -19,6 +19,15 @@ fn bytes_are_held_without_a_copy(rt: HostRuntime) -> Result<(), AllocError> {
 }
 
 #[test]
+fn text_is_that_of_its_string(rt: HostRuntime) -> Result<(), AllocError> {
+    for string in ["", "foobar", "é/日"] {
+        let text = Text::from_string(String::from_str(rt.alloc(), string)?);
+        assert_eq!(rt; text.as_str(), string);
+    }
+    Ok(())
+}
+
+#[test]
 fn numbers_have_no_leading_zeros_and_no_sign(rt: HostRuntime) {
     let texts = [
         ("0", Some(0)),

@@ -2,9 +2,9 @@
 ghost use Rattle.std.specs.Prelude.{◌≡◌};
 ghost use Rattle.path_walk.specs.declared.fault.PathFault.TheVariants.{NoMemory};
 
-use crate::text::Text;
 use chk_file::ReadFault;
 use dir_codec::DirFault;
+use octets::Text;
 use std::alloc::{AllocError, AllocFailed};
 use thiserror::Error;
 

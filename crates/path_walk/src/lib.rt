@@ -4,8 +4,8 @@
 //! from the cap down the names, through directories that it reads from a grid.
 #![tactic(auto)]
 
-/// A text, and a list of names.
-mod text;
+/// A list of names.
+mod name_list;
 /// Why a path was refused, and why a walk stopped.
 mod fault;
 /// The segments of a path.
@@ -22,6 +22,6 @@ mod tests;
 mod walk_tests;
 
 pub use fault::{PathFault, WalkFault};
+pub use name_list::Names;
 pub use path::names;
-pub use text::{Names, Text};
 pub use walker::walk;

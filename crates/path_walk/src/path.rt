@@ -7,8 +7,9 @@ ghost use Rattle.path_walk.specs.Names.{texts, nfc_text, is_empty, names_of};
 ghost use Rattle.path_walk.specs.declared.fault.PathFault.TheVariants.{NotUtf8, NoMemory};
 
 use crate::fault::PathFault;
+use crate::name_list::Names;
 use crate::segments::{has_bad_escape, segments, without_end_slash};
-use crate::text::{Names, Text};
+use octets::Text;
 use percent_encoding::{DecodeError, percent_decode};
 use std::alloc::{AllocError, Global};
 use unicode_normalization::to_nfc;

@@ -4,6 +4,7 @@ use caps::{Cap, parse, print, storage_index};
 use chk_file::upload;
 use dir_codec::{encode, from_children_json};
 use grid::Grid;
+use octets::Text;
 use share_store::MemStore;
 use std::alloc::Global;
 use std::test::Fail;

@@ -8,12 +8,12 @@ ghost use Rattle.path_walk.specs.Way.{IsChild, IsStop, Leads, Stops};
 ghost use Rattle.path_walk.specs.declared.fault.WalkFault.TheVariants.{NoMemory};
 
 use crate::fault::WalkFault;
-use crate::text::{Names, Text};
+use crate::name_list::Names;
 use caps::Cap;
 use chk_file::read;
 use dir_codec::{Entry, decode};
 use grid::Grid;
-use octets::Bytes;
+use octets::{Bytes, Text};
 use share_store::Store;
 use std::alloc::{AllocError, Global};
 

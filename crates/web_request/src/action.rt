@@ -6,7 +6,7 @@ ghost use Rattle.web_request.specs.Actions.{action_of, upload_action, node_actio
 use crate::fault::WebFault;
 use crate::query::Query;
 use crate::request::Resource;
-use path_walk::Text;
+use octets::Text;
 
 /// What is asked for, of a resource that is known.
 #[derive(Clone, Copy, Debug, PartialEq, Eq)]

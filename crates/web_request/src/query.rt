@@ -3,7 +3,7 @@ ghost use Rattle.std.specs.Prelude.{◌≡◌, codes, IfOk, if◌then◌else◌,
 ghost use Rattle.web_request.specs.Queries.{pairs, first_of, first_of_both, query_of};
 
 use form_urlencoded::parse;
-use path_walk::Text;
+use octets::Text;
 use std::alloc::{AllocError, Global};
 
 /// The first value of each key that counts.

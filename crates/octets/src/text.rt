@@ -1,4 +1,4 @@
-//! Texts that a value owns.
+//! Text that a value owns.
 ghost use Rattle.std.specs.Prelude.{◌≡◌, string_bytes};
 
 use std::marker::Model;
@@ -19,7 +19,7 @@ impl Model for Text {
 
 impl Text {
     /// The text of a string, which isn't copied.
-    pub(crate) fn from_string(string: String) -> Self
+    pub fn from_string(string: String) -> Self
         ensures { result ≡ string_bytes string }
     {
         Text { string }
