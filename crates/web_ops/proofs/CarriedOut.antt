@@ -1,0 +1,198 @@
+-- Calls that store an upload, and requests.
+use Rattle.std.proofs.Common.{Fits, w8, get_or, ◌≡◌, ◌+◌, ◌<◌, ◌≤◌, ℕ, List, [], length, take, Bool, true, false, cond, Option, Some, None, Result, Ok, Err, IfOk, OnOk, refl, sym, ap, subst, ◌∙◌, arith, inl}
+use Rattle.std.specs.Prelude.{◌↔◌, ◌&&◌, ◌==◌, if◌then◌else◌, IsTrue, nat_lt, unwrap_or}
+use Rattle.std.specs.Cmp.Lexicographic.{slice_cmp}
+use Rattle.std.specs.Ordering.{eq_by_cmp, nat_cmp}
+use Rattle.std.specs.Result.{IsOkUnless}
+use Rattle.std.proofs.lemmas.Bool.Decides.{nat_tests}
+use Rattle.std.proofs.lemmas.List.{take_all, get_or_default}
+use Rattle.std.proofs.lemmas.Result.{IfOk-weaker}
+use Rattle.std.specs.declared.alloc.AllocError.{AllocError}
+use Rattle.caps.specs.declared.cap.Cap.{Cap}
+use Rattle.share_store.specs.Shares.{ShareKey}
+use Rattle.grid.specs.Standing.{Standing, standing}
+use Rattle.grid.specs.Placement.{placed, server_of}
+use Rattle.erasure.specs.Code.{AreBytes}
+use Rattle.grid.specs.GridState.{GridState, stood, maps_of, room_at, failures_at, IsHonest, NoneFailed}
+use Rattle.grid.specs.Leaves.{Leaves, IsUnchanged}
+use Rattle.grid.specs.NewBytes.{HasRoom}
+use Rattle.grid.specs.Changed.{ArePut}
+use Rattle.chk_file.specs.Look.{Look}
+use Rattle.chk_file.specs.Marks.{shown}
+use Rattle.chk_file.specs.Upload.{Upload, index, shares_of, cap_of}
+use Rattle.chk_file.specs.World.{World, after_upload}
+use Rattle.web_request.specs.declared.request.Request.{Request}
+use Rattle.web_ops.specs.declared.reply.Reply.{Reply}
+use Rattle.dir_codec.specs.declared.entry.Entry.{Entry}
+use Rattle.dir_codec.specs.Children.{made}
+use Rattle.dir_codec.specs.DirectoryText.{directory_text}
+use Rattle.web_request.specs.declared.request.Request.TheVariants.{Mkdir}
+use Rattle.web_ops.specs.Encoding.{Encoding, upload_of}
+use Rattle.web_ops.specs.Uploads.{if_long, as_directory, made_upload, upload_in}
+use Rattle.web_ops.specs.Replies.{cap_reply, bad_children}
+use Rattle.web_ops.specs.Answers.{made_reply}
+use Rattle.web_ops.specs.Replied.{IsStored, IsMade}
+use Rattle.web_ops.specs.Changes.{IsBegunIn}
+use Rattle.web_ops.specs.Calls.{IsFound, IsCarriedOut, IsPerformed}
+use Rattle.web_ops.proofs.Found.{leaves_self, unchanged_self, unasked}
+
+-- ---- a call that stores nothing
+
+pub nothing_stored : (Fits : Reply → Type 0) (says : Look → Reply) (r : Result Reply AllocError) (old new : GridState)
+    → IsFound Fits says r old new → IsCarriedOut None Fits says r old new
+nothing_stored Fits says r old new found = record {
+  leaves = found.leaves;
+  fits = found.fits;
+  bytes = IfOk-weaker r _ _ (λ x e. tt) found.fits;
+  begun = found.unchanged;
+  written = λ honest room calm. found.written honest calm;
+  stored = λ honest room calm. IfOk-weaker r _ _ (λ x e. found.unchanged honest) found.fits;
+  world = λ honest room calm. IfOk-weaker r _ _ (λ x e w is. ap standing (found.unchanged honest).maps ∙ is) found.fits;
+}
+
+-- ---- uploads
+
+same_grid : (old new : GridState) → new ≡ old → IsUnchanged old new
+same_grid old new e = record { maps = ap maps_of e; rooms = λ s. ap (λ g. room_at g s) e }
+
+no_more : (n : ℕ) → n ≤ n
+no_more n = omega arith
+
+long : (n : ℕ) → nat_lt 55 n ≡ true → 55 < n
+long n e = grind (arith, nat_tests)
+
+short : (n : ℕ) → nat_lt 55 n ≡ false → n ≤ 55
+short n e = grind (arith, nat_tests)
+
+module _ (u : Upload) (cap : Cap) (r : Result Reply AllocError) (old new : GridState) (leaves : Leaves old new) (bytes : AreBytes u.bytes) (same : length u.bytes ≤ 55 → new ≡ old) where
+  stored_by : (b : Bool) → (b ≡ true → 55 < length u.bytes) → (b ≡ false → length u.bytes ≤ 55) → IfOk r (λ x. x ≡ cap_reply cap)
+      → (55 < length u.bytes → IsHonest old → ArePut (index u) (shares_of u) old new)
+      → (IsHonest old → (w : World) → stood old ≡ shown w.marks → stood new ≡ shown (after_upload (length old) u w).marks)
+      → IsCarriedOut (cond b (Some u) None) (IsStored cap) (λ look. cap_reply cap) r old new
+  stored_by true many few is put stand = record {
+    leaves = leaves;
+    fits = IfOk-weaker r _ _ (λ x e. inl e) is;
+    bytes = IfOk-weaker r _ _ (λ x e. bytes) is;
+    begun = λ honest. (length (shares_of u), subst (λ s. ArePut (index u) s old new) (sym (take_all (length (shares_of u)) (shares_of u) (no_more (length (shares_of u))))) (put (many refl) honest));
+    written = λ honest room calm. is;
+    stored = λ honest room calm. IfOk-weaker r _ _ (λ x e. put (many refl) honest) is;
+    world = λ honest room calm. IfOk-weaker r _ _ (λ x e. stand honest) is;
+  }
+  stored_by false many few is put stand = record {
+    leaves = leaves;
+    fits = IfOk-weaker r _ _ (λ x e. inl e) is;
+    bytes = IfOk-weaker r _ _ (λ x e. tt) is;
+    begun = λ honest. same_grid old new (same (few refl));
+    written = λ honest room calm. is;
+    stored = λ honest room calm. IfOk-weaker r _ _ (λ x e. same_grid old new (same (few refl))) is;
+    world = λ honest room calm. IfOk-weaker r _ _ (λ x e w stands. ap stood (same (few refl)) ∙ stands) is;
+  }
+
+  -- the upload was stored
+  pub stored : IfOk r (λ x. x ≡ cap_reply cap)
+      → (55 < length u.bytes → IsHonest old → ArePut (index u) (shares_of u) old new)
+      → (IsHonest old → (w : World) → stood old ≡ shown w.marks → stood new ≡ shown (after_upload (length old) u w).marks)
+      → IsCarriedOut (if_long u) (IsStored cap) (λ look. cap_reply cap) r old new
+  stored is put stand = stored_by (nat_lt 55 (length u.bytes)) (long (length u.bytes)) (short (length u.bytes)) is put stand
+
+  stopped_by : (b : Bool) → (b ≡ true → 55 < length u.bytes) → (b ≡ false → length u.bytes ≤ 55) → IfOk r (IsStored cap)
+      → (IsHonest old → (m : ℕ) × ArePut (index u) (take m (shares_of u)) old new)
+      → (IsHonest old → HasRoom old (index u) (shares_of u) → NoneFailed old new → OnOk r ⊥) → (length u.bytes ≤ 55 → OnOk r ⊥)
+      → IsCarriedOut (cond b (Some u) None) (IsStored cap) (λ look. cap_reply cap) r old new
+  stopped_by true many few fits begun never_long never_short = record {
+    leaves = leaves;
+    fits = fits;
+    bytes = IfOk-weaker r _ _ (λ x e. bytes) fits;
+    begun = begun;
+    written = λ honest room calm. IfOk-weaker r _ _ (λ x e. absurd e) (never_long honest room calm);
+    stored = λ honest room calm. IfOk-weaker r _ _ (λ x e. absurd e) (never_long honest room calm);
+    world = λ honest room calm. IfOk-weaker r _ _ (λ x e. absurd e) (never_long honest room calm);
+  }
+  stopped_by false many few fits begun never_long never_short = record {
+    leaves = leaves;
+    fits = fits;
+    bytes = IfOk-weaker r _ _ (λ x e. tt) fits;
+    begun = λ honest. same_grid old new (same (few refl));
+    written = λ honest room calm. IfOk-weaker r _ _ (λ x e. absurd e) (never_short (few refl));
+    stored = λ honest room calm. IfOk-weaker r _ _ (λ x e. absurd e) (never_short (few refl));
+    world = λ honest room calm. IfOk-weaker r _ _ (λ x e. absurd e) (never_short (few refl));
+  }
+
+  -- the upload was stopped: not where there is room and no store fails, nor where it is short
+  pub stopped : IfOk r (IsStored cap)
+      → (IsHonest old → (m : ℕ) × ArePut (index u) (take m (shares_of u)) old new)
+      → (IsHonest old → HasRoom old (index u) (shares_of u) → NoneFailed old new → OnOk r ⊥) → (length u.bytes ≤ 55 → OnOk r ⊥)
+      → IsCarriedOut (if_long u) (IsStored cap) (λ look. cap_reply cap) r old new
+  stopped fits begun never_long never_short = stopped_by (nat_lt 55 (length u.bytes)) (long (length u.bytes)) (short (length u.bytes)) fits begun never_long never_short
+
+-- numbers of eight bits are bytes
+pub all_fit : (bytes : List ℕ) → ((i : ℕ) → Fits w8 (get_or bytes i 0)) → AreBytes bytes
+all_fit bytes h k d l = let fits : Fits w8 (get_or bytes k 0) = h k in rw (get_or_default bytes k d 0 l) (omega arith)
+
+-- a store's count of failures doesn't rise where none failed
+pub rose : (old new : GridState) (s : ℕ) → failures_at old s < failures_at new s → NoneFailed old new → ⊥
+rose old new s less none = let same = none s in omega (arith, less, same)
+
+-- a result that is another error than this one
+pub unless : {T E : Type 0} (r : Result T E) (e f : E) → r ≡ Err f → IsOkUnless r e → f ≡ e
+unless r e f is h = subst (λ x. IsOkUnless x e) is h
+
+-- nothing is made of what is refused
+pub none_of : {A E : Type 0} (o : Option A) (r : Result A E) (fault : E) → ((x : A) → (o ≡ Some x) ↔ (r ≡ Ok x)) → r ≡ Err fault → o ≡ None
+none_of None r fault iff is = refl
+none_of (Some x) r fault iff is = let that = (iff x).0 refl in cc
+
+-- ---- requests
+
+pub same_request : (e : Encoding) (request asked : Request) (r : Result Reply AllocError) (old new : GridState) → asked ≡ request
+    → IsPerformed e request r old new → IsPerformed e asked r old new
+same_request e request asked r old new is done = subst (λ q. IsPerformed e q r old new) (sym is) done
+
+plus_none : (n : ℕ) → n + 0 ≡ n
+plus_none n = omega arith
+
+-- no shares at all are put where nothing changes
+placed_none : (count : ℕ) (index : List ℕ) (before : Standing) → placed count index [] before ≡ before
+placed_none count index before =
+    let point : (s : ℕ) (q : ShareKey) → placed count index [] before s q ≡ before s q = λ s q. nothing (eq_by_cmp (slice_cmp nat_cmp) q.0 index) q.1 (s == server_of count index q.1) (before s q) in
+    λ j s q. point s q j
+  where
+    nothing : (e : Bool) (k : ℕ) (t : Bool) (b : Option (List ℕ)) → (if e && nat_lt k 0 && t then Some (unwrap_or b []) else b) ≡ b
+    nothing true k true b = grind (arith, nat_tests)
+    nothing true k false b = grind (arith, nat_tests)
+    nothing false k t b = refl
+
+nothing_begun : (o : Option Upload) (g : GridState) → IsBegunIn o g g
+nothing_begun None g = unchanged_self g
+nothing_begun (Some u) g = (0, record { stands = sym (placed_none (length g) (index u) (stood g)); rooms = λ s. plus_none (room_at g s) })
+
+-- memory was refused before anything was stored
+pub not_begun : (e : Encoding) (request : Request) (fault : AllocError) (g : GridState) → IsPerformed e request (Err fault) g g
+not_begun e request fault g = record {
+  leaves = leaves_self g;
+  fits = tt;
+  bytes = tt;
+  begun = λ honest. nothing_begun (upload_in e request) g;
+  written = λ honest room calm. tt;
+  stored = λ honest room calm. tt;
+  world = λ honest room calm. tt;
+}
+
+-- ---- directories
+
+pub directory_stored : (e : Encoding) (json items : List ℕ) (entries : List Entry) (r : Result Reply AllocError) (old new : GridState) → made json ≡ Some entries → items ≡ directory_text entries
+    → IsCarriedOut (if_long (upload_of e items)) (IsStored (as_directory (cap_of (upload_of e items)))) (λ look. cap_reply (as_directory (cap_of (upload_of e items)))) r old new
+    → IsPerformed e (Mkdir json) r old new
+directory_stored e json items entries r old new some text done =
+    subst (λ o. IsCarriedOut (made_upload e o) (IsMade e o) (λ look. made_reply e o) r old new) (sym some)
+    (subst (λ t. IsCarriedOut (if_long (upload_of e t)) (IsStored (as_directory (cap_of (upload_of e t)))) (λ look. cap_reply (as_directory (cap_of (upload_of e t)))) r old new) text done)
+
+pub no_directory : (e : Encoding) (json : List ℕ) (r : Result Reply AllocError) (g : GridState) → made json ≡ None → IfOk r (λ x. x ≡ bad_children)
+    → IsPerformed e (Mkdir json) r g g
+no_directory e json r g none is =
+    subst (λ o. IsCarriedOut (made_upload e o) (IsMade e o) (λ look. made_reply e o) r g g) (sym none)
+    (nothing_stored _ _ r g g (unasked _ _ bad_children r g is refl (λ look. refl)))
+
+-- a test that was not met
+pub not_met : (b : Bool) (P : Type 0) → (IsTrue b ↔ P) → b ≡ false → P → ⊥
+not_met b P iff e p = let t : b ≡ true = iff.1 p in cc

@@ -1,0 +1,13 @@
+use Rattle.std.proofs.Common.{subst}
+use Rattle.web_ops.specs.Encoding.{encoding_of, upload_of}
+use Rattle.chk_file.specs.Upload.{cap_of}
+use Rattle.web_ops.specs.Replies.{cap_reply}
+use Rattle.web_ops.specs.Replied.{IsStored}
+use Rattle.web_ops.specs.Uploads.{if_long}
+use Rattle.web_ops.specs.Calls.{IsCarriedOut}
+use Rattle.web_ops.proofs.storing.put.Goals as goal
+
+pub returns : goal.returns
+returns g c =
+    let e = encoding_of c.args.k c.args.n c.args.secret.now in
+    subst (λ items. IsCarriedOut (if_long (upload_of e items)) (IsStored (cap_of (upload_of e items))) (λ look. cap_reply (cap_of (upload_of e items))) c.store.result c.args.grid.now c.store.new.grid) c.into_vec.ensures c.store.ensures

@@ -1,0 +1,9 @@
+pub mod Encoding
+pub mod Replies
+pub mod Uploads
+pub mod Answers
+pub mod Reach
+pub mod Agree
+pub mod Replied
+pub mod Changes
+pub mod Calls

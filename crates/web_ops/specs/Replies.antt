@@ -1,0 +1,101 @@
+-- The replies, each with its status, its fields and its body (RFC 9110, sections 8.3, 10.2.1, 14.4 and 15).
+use Rattle.std.specs.Prelude.{ℕ, suc, ◌-◌, List, [], ◌∷◌, ◌++◌, length, take, drop, codes, Option, Some, None}
+use Rattle.caps.specs.CapTexts.{cap_text}
+use Rattle.caps.specs.declared.cap.Cap.{Cap}
+use Rattle.range_view.specs.declared.range.Resolved.{Resolved}
+use Rattle.range_view.specs.declared.range.Resolved.TheVariants.{Whole, Part, Unsatisfiable}
+use Rattle.range_view.specs.Resolved.{resolved}
+use Rattle.web_request.specs.declared.fault.WebFault.{WebFault}
+use Rattle.web_request.specs.declared.fault.WebFault.TheVariants.{BadTarget, NoResource, BadMethod, BadQuery, BadEscape, NotUtf8, TooManyNames, EmptyName, BadCap, NoMemory}
+use Rattle.web_ops.specs.declared.reply.Status.{Status}
+use Rattle.web_ops.specs.declared.reply.Status.TheVariants as status
+use Rattle.web_ops.specs.declared.reply.MediaType.{MediaType}
+use Rattle.web_ops.specs.declared.reply.MediaType.TheVariants.{OctetStream, PlainText, Json}
+use Rattle.web_ops.specs.declared.reply.Field.{Field}
+use Rattle.web_ops.specs.declared.reply.Field.TheVariants.{ContentRange, UnsatisfiedRange, Allow}
+use Rattle.web_ops.specs.declared.reply.Reply.{Reply}
+
+abbrev pub reply_with : Status → MediaType → Option Field → List ℕ → Reply
+reply_with answered media_type field body = record {
+  status = answered;
+  fields = record { content_type = media_type; more = field };
+  body = body;
+}
+
+-- ---- what was asked for
+
+-- the cap of what was stored
+abbrev pub cap_reply : Cap → Reply
+cap_reply cap = reply_with status.Ok PlainText None (cap_text cap)
+
+abbrev pub json_reply : List ℕ → Reply
+json_reply text = reply_with status.Ok Json None text
+
+-- a file's bytes, all of them
+abbrev pub file_reply : List ℕ → Reply
+file_reply bytes = reply_with status.Ok OctetStream None bytes
+
+-- those from one place to another, both of them too
+abbrev pub part_reply : ℕ → ℕ → List ℕ → Reply
+part_reply from to bytes =
+    reply_with status.PartialContent OctetStream (Some (ContentRange from to (length bytes))) (take (suc (to - from)) (drop from bytes))
+
+-- ---- faults: their words and a line feed
+
+abbrev pub fault_with : Status → Option Field → List ℕ → Reply
+fault_with answered field words = reply_with answered PlainText field (words ++ 10 ∷ [])
+
+abbrev pub fault_reply : Status → List ℕ → Reply
+fault_reply answered words = fault_with answered None words
+
+abbrev pub unsatisfiable : ℕ → Reply
+unsatisfiable size = fault_with status.RangeNotSatisfiable (Some (UnsatisfiedRange size)) (codes "range not satisfiable")
+
+abbrev pub not_readable : Reply
+not_readable = fault_reply status.BadRequest (codes "not a readable cap")
+
+abbrev pub no_child : Reply
+no_child = fault_reply status.NotFound (codes "no such child")
+
+abbrev pub not_directory : Reply
+not_directory = fault_reply status.BadRequest (codes "not a directory")
+
+abbrev pub not_enough_shares : Reply
+not_enough_shares = fault_reply status.Gone (codes "not enough shares")
+
+abbrev pub is_directory : Reply
+is_directory = fault_reply status.BadRequest (codes "directory needs t=json")
+
+abbrev pub bad_children : Reply
+bad_children = fault_reply status.BadRequest (codes "bad children")
+
+abbrev pub store_full : Reply
+store_full = fault_reply status.ServiceUnavailable (codes "store full")
+
+abbrev pub store_down : Reply
+store_down = fault_reply status.ServiceUnavailable (codes "store down")
+
+-- what is no request; memory that ran out is told by no reply
+abbrev pub refusal_reply : WebFault → Reply
+refusal_reply BadTarget = fault_reply status.BadRequest (codes "bad target")
+refusal_reply NoResource = fault_reply status.NotFound (codes "no such resource")
+refusal_reply (BadMethod resource) = fault_with status.MethodNotAllowed (Some (Allow resource)) (codes "method not allowed")
+refusal_reply BadQuery = fault_reply status.BadRequest (codes "bad query")
+refusal_reply BadEscape = fault_reply status.BadRequest (codes "bad escape")
+refusal_reply NotUtf8 = fault_reply status.BadRequest (codes "not utf-8")
+refusal_reply TooManyNames = fault_reply status.BadRequest (codes "too many names")
+refusal_reply EmptyName = fault_reply status.BadRequest (codes "empty name")
+refusal_reply BadCap = fault_reply status.BadRequest (codes "bad cap")
+refusal_reply NoMemory = fault_reply status.BadRequest []
+
+-- ---- ranges
+
+abbrev pub resolved_reply : Resolved → List ℕ → Reply
+resolved_reply Whole bytes = file_reply bytes
+resolved_reply (Part from to) bytes = part_reply from to bytes
+resolved_reply Unsatisfiable bytes = unsatisfiable (length bytes)
+
+-- a file's bytes, or as much of them as a range asks for
+abbrev pub bytes_reply : Option (List ℕ) → List ℕ → Reply
+bytes_reply None bytes = file_reply bytes
+bytes_reply (Some range) bytes = resolved_reply (resolved range (length bytes)) bytes

@@ -1,0 +1,61 @@
+//! Checks of what a path leads to.
+ghost use Rattle.std.specs.Prelude.{◌≡◌, ◌==◌, ◌&&◌, not, length};
+ghost use Rattle.caps.specs.Weakening.{weakened};
+ghost use Rattle.web_ops.specs.Answers.{is_verify_cap, health_reply, check_reply};
+ghost use Rattle.web_ops.specs.Replied.{IsHealth, IsAnsweredFrom};
+ghost use Rattle.web_ops.specs.Calls.{IsFound};
+
+use crate::node::{is_verify_cap, walk_refused};
+use crate::replies::{json_reply, not_readable};
+use crate::reply::Reply;
+use caps::{Cap, weaken};
+use grid::Grid;
+use json_view::{check_json, literal_check_json};
+use path_walk::{Names, walk};
+use share_store::Store;
+use std::alloc::{AllocError, Global};
+
+/// How healthy what the names lead to from a cap is.
+pub fn check<S: Store>(
+    alloc: Global,
+    grid: &mut Grid<S>,
+    cap: &Cap,
+    names: &Names,
+    verify: bool,
+) -> Result<Reply, AllocError>
+    ensures { IsFound (IsAnsweredFrom (is_verify_cap cap.now && not (length names.now == 0))
+        (λ end. IsHealth (weakened end)) cap.now names.now)
+        (λ look. check_reply look cap.now names.now verify) result grid.old grid.new }
+{
+    if leads_nowhere(cap, names) {
+        return not_readable(alloc);
+    }
+    match walk(alloc, grid, cap, names) {
+        Ok(end) => health(alloc, grid, &end, verify),
+        Err(fault) => walk_refused(alloc, &fault),
+    }
+}
+
+/// Whether there are names behind a verify cap, from which none leads on.
+fn leads_nowhere(cap: &Cap, names: &Names) -> bool
+    ensures { result ≡ (is_verify_cap cap.now && not (length names.now == 0)) }
+{
+    is_verify_cap(cap) && names.as_slice().len() != 0
+}
+
+/// How healthy what a cap names is. What stands in its cap is healthy.
+fn health<S: Store>(
+    alloc: Global,
+    grid: &mut Grid<S>,
+    cap: &Cap,
+    verify: bool,
+) -> Result<Reply, AllocError>
+    ensures { IsFound (IsHealth (weakened cap.now)) (λ look. health_reply look verify cap.now)
+        result grid.old grid.new }
+{
+    let Some(verify_cap) = weaken(cap) else {
+        return Ok(json_reply(literal_check_json(alloc)?));
+    };
+    let health = chk_file::check(alloc, grid, &verify_cap, verify)?;
+    Ok(json_reply(check_json(alloc, &verify_cap.fields.si, &health)?))
+}

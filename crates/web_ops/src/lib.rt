@@ -1,0 +1,29 @@
+//! What the web API answers (Tahoe-LAFS's webapi document): requests are carried out over a grid of stores, and what is
+//! no request is refused.
+//!
+//! [`perform`] carries out a request and gives its reply, [`refusal`] gives the reply to what is none. How replies become
+//! bytes, and whether their body is sent, is not settled here.
+#![tactic(auto)]
+
+/// Replies.
+mod reply;
+/// The replies that are given.
+mod replies;
+/// Replies to what is no request.
+mod refused;
+/// Carrying out requests.
+mod performer;
+/// Storing files and directories.
+mod storing;
+/// The bytes and the JSON of what a path leads to.
+mod node;
+/// Checks of what a path leads to.
+mod checking;
+/// What holds of the answers.
+pub mod laws;
+#[cfg(test)]
+mod tests;
+
+pub use performer::perform;
+pub use refused::refusal;
+pub use reply::{Field, Fields, MediaType, Reply, Status};

@@ -1,0 +1,147 @@
+//! The bytes and the JSON of what a path leads to.
+ghost use Rattle.std.specs.Prelude.{◌≡◌, ◌≢◌, ◌↔◌, IfOk, IsTrue};
+ghost use Rattle.dir_codec.specs.declared.fault.DirFault.TheVariants.{NoMemory as TextNoMemory};
+ghost use Rattle.path_walk.specs.declared.fault.WalkFault.TheVariants.{NoMemory};
+ghost use Rattle.web_ops.specs.Answers.{is_verify_cap, walk_reply, content_reply, listing_reply, node_json_reply, node_reply, get_reply};
+ghost use Rattle.web_ops.specs.Replied.{IsContent, IsNodeJson, IsNode, IsAnsweredFrom};
+ghost use Rattle.web_ops.specs.Calls.{IsFound};
+
+use crate::replies::{
+    bytes_reply, is_directory, json_reply, no_child, not_directory, not_enough_shares, not_readable,
+};
+use crate::reply::Reply;
+use caps::Cap;
+use chk_file::{ReadFault, read};
+use dir_codec::{DirFault, decode};
+use grid::Grid;
+use json_view::{dir_json, file_json};
+use octets::Bytes;
+use path_walk::{Names, WalkFault, walk};
+use share_store::Store;
+use std::alloc::{AllocError, Global};
+
+/// The bytes of what the names lead to from a cap, or its JSON.
+pub fn get<S: Store>(
+    alloc: Global,
+    grid: &mut Grid<S>,
+    cap: &Cap,
+    names: &Names,
+    json: bool,
+    range: Option<Bytes>,
+) -> Result<Reply, AllocError>
+    ensures { IsFound (IsAnsweredFrom (is_verify_cap cap.now) (IsNode json range) cap.now names.now)
+        (λ look. get_reply look.gives cap.now names.now json range) result grid.old grid.new }
+{
+    if is_verify_cap(cap) {
+        return not_readable(alloc);
+    }
+    match walk(alloc, grid, cap, names) {
+        Ok(end) => node(alloc, grid, end, json, range),
+        Err(fault) => walk_refused(alloc, &fault),
+    }
+}
+
+/// Whether a cap tells good shares from bad and reads nothing.
+pub fn is_verify_cap(cap: &Cap) -> bool
+    ensures { result ≡ is_verify_cap cap.now }
+{
+    match cap {
+        Cap::ChkVerify(_) | Cap::DirChkVerify(_) => true,
+        Cap::Chk(_) | Cap::Lit(_) | Cap::DirChk(_) | Cap::DirLit(_) => false,
+    }
+}
+
+/// The reply where a walk stopped.
+pub fn walk_refused(alloc: Global, fault: &WalkFault) -> Result<Reply, AllocError>
+    ensures { IfOk result (λ reply.
+        (fault.now ≢ NoMemory) × (reply ≡ walk_reply fault.now)) }
+{
+    match fault {
+        WalkFault::NoChild(_) => no_child(alloc),
+        WalkFault::NotDirectory => not_directory(alloc),
+        WalkFault::NotEnoughShares => not_enough_shares(alloc),
+        WalkFault::NoMemory => Err(AllocError),
+    }
+}
+
+/// The bytes of what a cap names, or its JSON.
+fn node<S: Store>(
+    alloc: Global,
+    grid: &mut Grid<S>,
+    cap: Cap,
+    json: bool,
+    range: Option<Bytes>,
+) -> Result<Reply, AllocError>
+    ensures { IsFound (IsNode json range cap) (λ look. node_reply look.gives json range cap)
+        result grid.old grid.new }
+{
+    if json {
+        node_json(alloc, grid, &cap)
+    } else {
+        content(alloc, grid, cap, range)
+    }
+}
+
+/// The bytes of a file. Nothing of a directory is looked at.
+fn content<S: Store>(
+    alloc: Global,
+    grid: &mut Grid<S>,
+    cap: Cap,
+    range: Option<Bytes>,
+) -> Result<Reply, AllocError>
+    ensures { IsFound (IsContent range cap) (λ look. content_reply look.gives range cap)
+        result grid.old grid.new }
+{
+    match cap {
+        Cap::Chk(fields) => match read(alloc, grid, &fields) {
+            Ok(bytes) => bytes_reply(alloc, range, Bytes::from_vec(bytes)),
+            Err(ReadFault::NotEnoughShares) => not_enough_shares(alloc),
+            Err(ReadFault::NoMemory) => Err(AllocError),
+        },
+        Cap::Lit(bytes) => bytes_reply(alloc, range, bytes),
+        Cap::DirChk(_) | Cap::DirLit(_) => is_directory(alloc),
+        Cap::ChkVerify(_) | Cap::DirChkVerify(_) => not_readable(alloc),
+    }
+}
+
+/// The JSON of a file, of which nothing is looked at, or of a directory with its children.
+fn node_json<S: Store>(alloc: Global, grid: &mut Grid<S>, cap: &Cap) -> Result<Reply, AllocError>
+    ensures { IsFound (IsNodeJson cap.now) (λ look. node_json_reply look.gives cap.now)
+        result grid.old grid.new }
+{
+    match cap {
+        Cap::Chk(_) | Cap::Lit(_) => Ok(json_reply(file_json(alloc, cap)?)),
+        Cap::DirChk(fields) => match read(alloc, grid, fields) {
+            Ok(bytes) => listing(alloc, cap, &bytes),
+            Err(ReadFault::NotEnoughShares) => not_enough_shares(alloc),
+            Err(ReadFault::NoMemory) => Err(AllocError),
+        },
+        Cap::DirLit(bytes) => listing(alloc, cap, bytes.as_slice()),
+        Cap::ChkVerify(_) | Cap::DirChkVerify(_) => not_readable(alloc),
+    }
+}
+
+/// Whether a text was not read because memory was refused, and not for what it says.
+pub fn is_memory(fault: &DirFault) -> bool
+    ensures { IsTrue result ↔ (fault.now ≡ TextNoMemory) }
+{
+    match fault {
+        DirFault::NoMemory => true,
+        DirFault::Torn | DirFault::NotSorted | DirFault::BadName | DirFault::BadCap => false,
+        DirFault::NotImmutable | DirFault::WriteCap | DirFault::BadMetadata => false,
+        DirFault::NotJson | DirFault::BadShape | DirFault::SameName => false,
+        DirFault::FractionalNumber => false,
+    }
+}
+
+/// The JSON of a directory whose text these bytes are.
+fn listing(alloc: Global, cap: &Cap, bytes: &[u8]) -> Result<Reply, AllocError>
+    ensures { IfOk result (λ reply. reply ≡ listing_reply cap.now bytes.now) }
+{
+    dir_codec::laws::texts_and_entries_belong_together();
+    match decode(alloc, bytes) {
+        Ok(directory) => Ok(json_reply(dir_json(alloc, cap, &directory)?)),
+        Err(fault) if is_memory(&fault) => Err(AllocError),
+        Err(_) => not_directory(alloc),
+    }
+}

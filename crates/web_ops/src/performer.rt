@@ -1,0 +1,88 @@
+//! Carrying out requests.
+ghost use Rattle.std.specs.Prelude.{◌≡◌, IfOk, IfSome, OnOk};
+ghost use Rattle.erasure.specs.Code.{AreBytes};
+ghost use Rattle.octets.specs.Sharing.{IsSharing};
+ghost use Rattle.grid.specs.GridState.{stood, IsHonest, NoneFailed};
+ghost use Rattle.grid.specs.Leaves.{Leaves};
+ghost use Rattle.chk_file.specs.Look.{found_in};
+ghost use Rattle.web_ops.specs.Encoding.{encoding_of};
+ghost use Rattle.web_ops.specs.Uploads.{upload_in};
+ghost use Rattle.web_ops.specs.Answers.{heeded, request_reply};
+ghost use Rattle.web_ops.specs.Replied.{IsReply};
+ghost use Rattle.web_ops.specs.Changes.{HasRoomFor, IsStoredIn, IsBegunIn, Follows};
+
+use crate::checking::check;
+use crate::node::get;
+use crate::reply::Reply;
+use crate::storing::{make_directory, put};
+use grid::Grid;
+use octets::Bytes;
+use share_store::Store;
+use std::alloc::{AllocError, Global};
+use web_request::Request;
+
+/// Carries out a request over a grid, and gives its reply. Files and directories are stored so that any `k` of their `n`
+/// shares give them back, with the secret in their keys. A body or a range is moved; a body that a request doesn't take
+/// was let go before.
+///
+/// Refused only where memory is: then a beginning of an upload's shares may stand, in the order of their numbers, and
+/// all else is as it was.
+pub fn perform<S: Store>(
+    alloc: Global,
+    grid: &mut Grid<S>,
+    k: u16,
+    n: u16,
+    secret: &[u8],
+    request: Request,
+) -> Result<Reply, AllocError>
+    requires { IsSharing k n }
+    ensures leaves { Leaves grid.old grid.new }
+
+    // Of any stores: bytes of a stored file or directory are bound to the cap that the names lead to.
+    ensures fits { IfOk result (λ reply. IsReply (encoding_of k n secret.now) request reply) }
+
+    // What is stored are bytes.
+    ensures bytes { OnOk result (IfSome (upload_in (encoding_of k n secret.now) request)
+        (λ u. AreBytes u.bytes)) }
+
+    // Of honest stores, also where memory is refused or a store is full or fails.
+    ensures begun { IsHonest grid.old →
+        IsBegunIn (upload_in (encoding_of k n secret.now) request) grid.old grid.new }
+
+    // Of honest stores that have room for what is stored and don't fail in the call.
+    ensures written { let e = encoding_of k n secret.now in
+        IsHonest grid.old → HasRoomFor grid.old (upload_in e request) →
+        NoneFailed grid.old grid.new → IfOk result (λ reply.
+        reply ≡ request_reply e (found_in (stood grid.old)) request) }
+    ensures stored { let e = encoding_of k n secret.now in
+        IsHonest grid.old → HasRoomFor grid.old (upload_in e request) →
+        NoneFailed grid.old grid.new → OnOk result
+        (IsStoredIn (upload_in e request) grid.old grid.new) }
+    ensures world { let e = encoding_of k n secret.now in
+        IsHonest grid.old → HasRoomFor grid.old (upload_in e request) →
+        NoneFailed grid.old grid.new → OnOk result
+        (Follows (upload_in e request) grid.old grid.new) }
+{
+    match request {
+        Request::Put(bytes) => put(alloc, grid, k, n, secret, bytes),
+        Request::Mkdir(json) => make_directory(alloc, grid, k, n, secret, json.as_slice()),
+        Request::Get {
+            cap,
+            names,
+            json,
+            head_only,
+            range,
+        } => {
+            let heeded = heeded(head_only, range);
+            get(alloc, grid, &cap, &names, json, heeded)
+        }
+        Request::Check { cap, names, verify } => check(alloc, grid, &cap, &names, verify),
+    }
+}
+
+/// The range that is heeded: none where the head is asked for alone.
+fn heeded(head_only: bool, range: Option<Bytes>) -> Option<Bytes>
+    ensures { result ≡ heeded head_only range }
+{
+    if head_only { None } else { range }
+}

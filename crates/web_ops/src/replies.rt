@@ -1,0 +1,159 @@
+//! The replies that are given.
+ghost use Rattle.std.specs.Prelude.{◌≡◌, ◌∷◌, [], ◌++◌, ◌≤◌, ◌<◌, length, IfOk, None};
+ghost use Rattle.caps.specs.CapTexts.{cap_text};
+ghost use Rattle.web_ops.specs.Replies.{reply_with, cap_reply, json_reply, file_reply, part_reply, unsatisfiable, bytes_reply, not_readable, no_child, not_directory, not_enough_shares, is_directory, bad_children, store_full, store_down};
+
+use crate::reply::{Field, Fields, MediaType, Reply, Status};
+use caps::Cap;
+use octets::Bytes;
+use range_view::{Resolved, resolve};
+use std::alloc::{AllocError, Global};
+
+/// A reply with these parts.
+pub fn reply_with(
+    status: Status,
+    content_type: MediaType,
+    more: Option<Field>,
+    body: Bytes,
+) -> Reply
+    ensures { result ≡ reply_with status content_type more body }
+{
+    Reply {
+        status,
+        fields: Fields { content_type, more },
+        body,
+    }
+}
+
+/// A fault: this line, with its line feed.
+pub fn fault_with(
+    alloc: Global,
+    status: Status,
+    more: Option<Field>,
+    line: &[u8],
+) -> Result<Reply, AllocError>
+    ensures { IfOk result (λ reply. reply ≡ reply_with status MediaType.PlainText more line.now) }
+{
+    let body = Bytes::from_slice(alloc, line)?;
+    Ok(reply_with(status, MediaType::PlainText, more, body))
+}
+
+/// The text of a cap.
+pub fn cap_reply(alloc: Global, cap: &Cap) -> Result<Reply, AllocError>
+    ensures { IfOk result (λ reply. reply ≡ cap_reply cap.now) }
+{
+    caps::laws::caps_have_one_text();
+    let text = caps::print(alloc, cap)?;
+    let body = Bytes::from_vec(text.into_bytes());
+    Ok(reply_with(Status::Ok, MediaType::PlainText, None, body))
+}
+
+/// A JSON text, which is moved.
+pub fn json_reply(text: Vec<u8>) -> Reply
+    ensures { result ≡ json_reply text.items }
+{
+    reply_with(Status::Ok, MediaType::Json, None, Bytes::from_vec(text))
+}
+
+/// The bytes of a file, which are moved, or a copy of as many of them as a range asks for.
+pub fn bytes_reply(alloc: Global, range: Option<Bytes>, bytes: Bytes) -> Result<Reply, AllocError>
+    ensures { IfOk result (λ reply. reply ≡ bytes_reply range bytes) }
+{
+    let Some(range) = range else {
+        return Ok(file_reply(bytes));
+    };
+    match resolve(range.as_slice(), bytes.len() as u64) {
+        Resolved::Whole => Ok(file_reply(bytes)),
+        Resolved::Part(from, to) => part_reply(alloc, from, to, bytes.as_slice()),
+        Resolved::Unsatisfiable => unsatisfiable(alloc, bytes.len() as u64),
+    }
+}
+
+/// The bytes of a file, which are moved.
+fn file_reply(bytes: Bytes) -> Reply
+    ensures { result ≡ file_reply bytes }
+{
+    reply_with(Status::Ok, MediaType::OctetStream, None, bytes)
+}
+
+/// The bytes of a file from one place to another, both of them too.
+fn part_reply(alloc: Global, from: u64, to: u64, bytes: &[u8]) -> Result<Reply, AllocError>
+    requires order { from ≤ to }
+    requires inside { to < length bytes.now }
+    ensures { IfOk result (λ reply. reply ≡ part_reply from to bytes.now) }
+{
+    let part = &bytes[from as usize..to as usize + 1];
+    let body = Bytes::from_slice(alloc, part)?;
+    let range = Field::ContentRange(from, to, bytes.len() as u64);
+    Ok(reply_with(
+        Status::PartialContent,
+        MediaType::OctetStream,
+        Some(range),
+        body,
+    ))
+}
+
+/// No byte of a file of this size is in the range.
+fn unsatisfiable(alloc: Global, size: u64) -> Result<Reply, AllocError>
+    ensures { IfOk result (λ reply. reply ≡ unsatisfiable size) }
+{
+    let range = Field::UnsatisfiedRange(size);
+    let line = b"range not satisfiable\n";
+    fault_with(alloc, Status::RangeNotSatisfiable, Some(range), line)
+}
+
+/// A verify cap gives no bytes.
+pub fn not_readable(alloc: Global) -> Result<Reply, AllocError>
+    ensures { IfOk result (λ reply. reply ≡ not_readable) }
+{
+    fault_with(alloc, Status::BadRequest, None, b"not a readable cap\n")
+}
+
+/// A directory has no child of the name.
+pub fn no_child(alloc: Global) -> Result<Reply, AllocError>
+    ensures { IfOk result (λ reply. reply ≡ no_child) }
+{
+    fault_with(alloc, Status::NotFound, None, b"no such child\n")
+}
+
+/// What should be a directory is none.
+pub fn not_directory(alloc: Global) -> Result<Reply, AllocError>
+    ensures { IfOk result (λ reply. reply ≡ not_directory) }
+{
+    fault_with(alloc, Status::BadRequest, None, b"not a directory\n")
+}
+
+/// Too few good shares were found.
+pub fn not_enough_shares(alloc: Global) -> Result<Reply, AllocError>
+    ensures { IfOk result (λ reply. reply ≡ not_enough_shares) }
+{
+    fault_with(alloc, Status::Gone, None, b"not enough shares\n")
+}
+
+/// A directory has JSON, and no bytes of a file.
+pub fn is_directory(alloc: Global) -> Result<Reply, AllocError>
+    ensures { IfOk result (λ reply. reply ≡ is_directory) }
+{
+    fault_with(alloc, Status::BadRequest, None, b"directory needs t=json\n")
+}
+
+/// The JSON names no children.
+pub fn bad_children(alloc: Global) -> Result<Reply, AllocError>
+    ensures { IfOk result (λ reply. reply ≡ bad_children) }
+{
+    fault_with(alloc, Status::BadRequest, None, b"bad children\n")
+}
+
+/// A store had no room.
+pub fn store_full(alloc: Global) -> Result<Reply, AllocError>
+    ensures { IfOk result (λ reply. reply ≡ store_full) }
+{
+    fault_with(alloc, Status::ServiceUnavailable, None, b"store full\n")
+}
+
+/// A store failed.
+pub fn store_down(alloc: Global) -> Result<Reply, AllocError>
+    ensures { IfOk result (λ reply. reply ≡ store_down) }
+{
+    fault_with(alloc, Status::ServiceUnavailable, None, b"store down\n")
+}

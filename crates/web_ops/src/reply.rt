@@ -1,0 +1,57 @@
+//! Replies.
+
+use octets::Bytes;
+use web_request::Resource;
+
+/// The status of a reply (RFC 9110, section 15).
+#[derive(Clone, Copy, Debug, PartialEq, Eq)]
+pub enum Status {
+    Ok = 200,
+    PartialContent = 206,
+    BadRequest = 400,
+    NotFound = 404,
+    MethodNotAllowed = 405,
+    Gone = 410,
+    RangeNotSatisfiable = 416,
+    ServiceUnavailable = 503,
+}
+
+/// What a body is (RFC 9110, section 8.3).
+#[derive(Clone, Copy, Debug, PartialEq, Eq)]
+pub enum MediaType {
+    /// `application/octet-stream`: bytes of a file.
+    OctetStream,
+    /// `text/plain; charset=utf-8`: a cap, or the words of a fault.
+    PlainText,
+    /// `application/json`.
+    Json,
+}
+
+/// A field that some replies have after their Content-Type.
+#[derive(Clone, Copy, Debug, PartialEq, Eq)]
+pub enum Field {
+    /// Content-Range of a part of a file (RFC 9110, section 14.4): the places of its first and its last byte, from 0,
+    /// and the size of the file in bytes.
+    ContentRange(u64, u64, u64),
+    /// Content-Range of a file of this many bytes, none of which is in the range that was asked for.
+    UnsatisfiedRange(u64),
+    /// Allow (RFC 9110, section 10.2.1): the methods that a resource takes.
+    Allow(Resource),
+}
+
+/// The fields of a reply, but for those on how long the body is and whether the connection closes.
+#[derive(Clone, Copy, Debug, PartialEq, Eq)]
+pub struct Fields {
+    /// The Content-Type.
+    pub content_type: MediaType,
+    /// What stands after it.
+    pub more: Option<Field>,
+}
+
+/// A reply. Its body is that of GET, also where the request was for the head alone.
+#[derive(Debug, Drop)]
+pub struct Reply {
+    pub status: Status,
+    pub fields: Fields,
+    pub body: Bytes,
+}

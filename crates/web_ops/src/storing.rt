@@ -1,0 +1,114 @@
+//! Storing files and directories.
+ghost use Rattle.std.specs.Prelude.{◌≡◌, if◌then◌else◌};
+ghost use Rattle.octets.specs.Sharing.{IsSharing};
+ghost use Rattle.erasure.specs.Code.{AreBytes};
+ghost use Rattle.chk_file.specs.Upload.{uploaded, cap_of};
+ghost use Rattle.web_request.specs.declared.request.Request.TheVariants.{Put, Mkdir};
+ghost use Rattle.web_ops.specs.Encoding.{encoding_of};
+ghost use Rattle.web_ops.specs.Uploads.{as_directory, if_long};
+ghost use Rattle.web_ops.specs.Replies.{cap_reply};
+ghost use Rattle.web_ops.specs.Replied.{IsStored};
+ghost use Rattle.web_ops.specs.Calls.{IsCarriedOut, IsPerformed};
+
+use crate::node::is_memory;
+use crate::replies::{bad_children, cap_reply, store_down, store_full};
+use crate::reply::Reply;
+use caps::Cap;
+use chk_file::upload;
+use dir_codec::{encode, from_children_json};
+use grid::{Grid, GridFault};
+use octets::Bytes;
+use share_store::Store;
+use std::alloc::{AllocError, Global};
+
+/// Stores a file, and gives its cap.
+pub fn put<S: Store>(
+    alloc: Global,
+    grid: &mut Grid<S>,
+    k: u16,
+    n: u16,
+    secret: &[u8],
+    bytes: Bytes,
+) -> Result<Reply, AllocError>
+    requires { IsSharing k n }
+    ensures { IsPerformed (encoding_of k n secret.now) (Put bytes) result grid.old grid.new }
+{
+    store(alloc, grid, k, n, secret, bytes.into_vec(), false)
+}
+
+/// Stores the directory of the children that a JSON text names, and gives its cap.
+pub fn make_directory<S: Store>(
+    alloc: Global,
+    grid: &mut Grid<S>,
+    k: u16,
+    n: u16,
+    secret: &[u8],
+    json: &[u8],
+) -> Result<Reply, AllocError>
+    requires { IsSharing k n }
+    ensures { IsPerformed (encoding_of k n secret.now) (Mkdir json.now) result grid.old grid.new }
+{
+    dir_codec::laws::made_children_are_named();
+    match from_children_json(alloc, json) {
+        Ok(directory) => {
+            let text = encode(alloc, &directory)?;
+            store(alloc, grid, k, n, secret, text, true)
+        }
+        Err(fault) if is_memory(&fault) => Err(AllocError),
+        Err(_) => bad_children(alloc),
+    }
+}
+
+/// Stores bytes, and gives their cap, as that of a directory where they are a directory's text.
+fn store<S: Store>(
+    alloc: Global,
+    grid: &mut Grid<S>,
+    k: u16,
+    n: u16,
+    secret: &[u8],
+    bytes: Vec<u8>,
+    directory: bool,
+) -> Result<Reply, AllocError>
+    requires { IsSharing k n }
+    ensures { let u = uploaded k n secret.now bytes.items in
+        let cap = if directory then as_directory (cap_of u) else cap_of u in
+        IsCarriedOut (if_long u) (IsStored cap) (λ _. cap_reply cap) result grid.old grid.new }
+{
+    are_bytes(&bytes);
+    match upload(alloc, grid, k, n, secret, bytes) {
+        Ok(cap) => {
+            let named = named(cap, directory);
+            cap_reply(alloc, &named)
+        }
+        Err(GridFault::Full(_)) => store_full(alloc),
+        Err(GridFault::Down(_)) => store_down(alloc),
+        Err(GridFault::NoMemory) => Err(AllocError),
+        Err(GridFault::NoServer) => unreachable!(),
+        Err(GridFault::BadImage(_)) => unreachable!(),
+        Err(GridFault::ReadFailed) => unreachable!(),
+        Err(GridFault::WriteFailed) => unreachable!(),
+    }
+}
+
+/// A law and no more: what a slice holds are bytes.
+fn are_bytes(bytes: &[u8])
+    ensures { AreBytes bytes.now }
+{}
+
+/// The cap of what was stored, as that of a directory where it is one.
+fn named(cap: Cap, directory: bool) -> Cap
+    ensures { result ≡ (if directory then as_directory cap else cap) }
+{
+    if directory { as_directory(cap) } else { cap }
+}
+
+/// The directory's cap in place of its text's.
+fn as_directory(cap: Cap) -> Cap
+    ensures { result ≡ as_directory cap }
+{
+    match cap {
+        Cap::Chk(fields) => Cap::DirChk(fields),
+        Cap::Lit(bytes) => Cap::DirLit(bytes),
+        other => other,
+    }
+}
