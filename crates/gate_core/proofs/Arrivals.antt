@@ -1,5 +1,5 @@
 -- What one call does to a gateway.
-use Rattle.std.proofs.Common.{is_some, ◌≡◌, ◌≢◌, ℕ, zero, suc, ◌<◌, List, [], ◌∷◌, ◌++◌, ◌⊎◌, length, take, map as list_map, Bool, true, false, Option, Some, None, Result, Ok, Err, refl, sym, ap, subst, ◌∙◌}
+use Rattle.std.proofs.Common.{is_some, ◌≡◌, ◌≢◌, ℕ, List, [], ◌∷◌, ◌++◌, ◌⊎◌, length, take, Bool, true, false, Option, Some, None, Result, Ok, Err, refl, sym, ap, subst, ◌∙◌}
 use Rattle.std.specs.Prelude.{◌||◌, MatchOption, IsTrue, ◌↔◌, not, OnOk, OnErr, IfOk, IfSome, IsErrOf}
 use Rattle.std.proofs.lemmas.Result.{on_ok_weaker, on_err_weaker}
 use Rattle.std.specs.FinMap as map
@@ -15,10 +15,11 @@ use Rattle.gate_core.specs.declared.stage.Stage.TheVariants as stage
 use Rattle.gate_core.specs.declared.fault.GatewayFault.{GatewayFault}
 use Rattle.gate_core.specs.declared.fault.GatewayFault.TheVariants.{NotOpen, Known}
 use Rattle.gate_core.specs.declared.fault.RestoreFault.TheVariants.{Grid}
-use Rattle.gate_core.specs.Settings.{ParametersValue, Settings, settings_of}
+use Rattle.web_ops.specs.Encoding.{Encoding}
+use Rattle.gate_core.specs.Settings.{Settings, settings_of}
 use Rattle.gate_core.specs.Events.{Event, Open, Bytes, End, Take, Lose, Spoil, joined, has_ended}
 use Rattle.gate_core.specs.Items.{is_closed}
-use Rattle.gate_core.specs.Held.{Held, Connections, State, held_at, waiting, waiting_in, is_over, is_closed_in, is_done_in, stage_refusal, open_refusal, bytes_refusal, cut_refusal, take_refusal, OthersSame}
+use Rattle.gate_core.specs.Held.{Held, Connections, State, held_at, waiting, waiting_in, is_over, is_closed_in, is_done_in, stage_refusal, open_refusal, bytes_refusal, cut_refusal, take_refusal}
 use Rattle.gate_core.specs.Lefts.{with_held, with_grid, opened, taken, ended, cut}
 use Rattle.gate_core.specs.Came.{Opening, stage_of, IsAt, CameAt, Came, IsRoomy, GoesOn}
 use Rattle.gate_core.specs.Served.{IsFed, IsReceived}
@@ -132,13 +133,13 @@ opened_came law g h id none is opening events came = subst (λ s. Came opening s
 -- ---- the grid was changed, and nothing else
 
 -- a gateway with these parameters
-abbrev pub made : ParametersValue → Connections → GridState → State
+abbrev pub made : Encoding → Connections → GridState → State
 made p m grid = record { settings = settings_of p (length grid); connections = m; grid = grid }
 
-other_grid : (p : ParametersValue) (m : Connections) (a b : GridState) → Leaves a b → made p m b ≡ with_grid (made p m a) b
+other_grid : (p : Encoding) (m : Connections) (a b : GridState) → Leaves a b → made p m b ≡ with_grid (made p m a) b
 other_grid p m a b leaves i = record { settings = settings_of p (leaves.servers i); connections = m; grid = b }
 
-pub grid_left : (p : ParametersValue) (m : Connections) (a b : GridState) (g : State) → made p m a ≡ g → Leaves a b → made p m b ≡ with_grid g b
+pub grid_left : (p : Encoding) (m : Connections) (a b : GridState) (g : State) → made p m a ≡ g → Leaves a b → made p m b ≡ with_grid g b
 grid_left p m a b g was leaves = subst (λ s. made p m b ≡ with_grid s b) was (other_grid p m a b leaves)
 
 if_ok : {T : Type 0} (r : Result T GridFault) (H X : Type 0) → (H → OnOk r X) → OnOk r (H → X)
@@ -149,7 +150,7 @@ if_err : {T : Type 0} (r : Result T GridFault) (H X : Type 0) → (H → OnErr r
 if_err (Ok x) H X f = tt
 if_err (Err e) H X f = f
 
-module _ (p : ParametersValue) (m : Connections) (a b : GridState) (g : State) (was : made p m a ≡ g) (leaves : Leaves a b) where
+module _ (p : Encoding) (m : Connections) (a b : GridState) (g : State) (was : made p m a ≡ g) (leaves : Leaves a b) where
   pub lost_came : ((opening : Opening) (g : State) (events : List Event) (server : ℕ) (key : ShareKey) (grid : GridState) → Came opening g events → Leaves g.grid grid → (IsHonest g.grid → IsLost server key g.grid grid) → Came opening (with_grid g grid) (events ++ Lose server key ∷ []))
       → (server : ℕ) (key : ShareKey) (r : Result Bool GridFault) → (IsHonest a → OnOk r (IsLost server key a b)) → OnOk r (GoesOn g (made p m b) (Lose server key))
   lost_came law server key r ok =

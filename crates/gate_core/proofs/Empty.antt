@@ -1,5 +1,5 @@
 -- Stores that hold nothing.
-use Rattle.std.proofs.Common.{◌≡◌, ◌⊎◌, inl, inr, ◌+◌, ◌<◌, ◌≤◌, ℕ, zero, suc, List, [], ◌∷◌, length, map, All, Option, Some, None, slice_get, get_or, refl, ap, sym, subst, ◌∙◌, arith}
+use Rattle.std.proofs.Common.{◌≡◌, ◌⊎◌, inl, inr, ◌<◌, ◌≤◌, ℕ, zero, List, [], ◌∷◌, length, map, All, Option, Some, None, slice_get, get_or, refl, ap, subst, ◌∙◌, arith}
 use Rattle.std.specs.Prelude.{Bool, IsTrue, option_and_then}
 use Rattle.std.proofs.lemmas.Option.{slice_get-map, slice_get_cases}
 use Rattle.std.proofs.lemmas.List.Elements.{All-tail, All-cons, All-nil}
@@ -7,7 +7,7 @@ use Rattle.std.proofs.lemmas.List.Sums.{sum_by-cons}
 use Rattle.std.specs.Option.{option_map}
 use Rattle.std.specs.FinMap as finite
 use Rattle.share_store.specs.Shares.{Shares, ShareKey, Entry, bytes_in, bytes_of, key_cmp}
-use Rattle.grid.specs.Standing.{Standing, standing}
+use Rattle.grid.specs.Standing.{standing}
 use Rattle.grid.specs.GridState.{StoreState, states, stood, maps_of, IsHonest}
 use Rattle.chk_file.specs.World.{empty}
 use Rattle.chk_file.specs.Marks.{shown}

@@ -1,5 +1,5 @@
 -- What one more call does to a gateway that came from its calls.
-use Rattle.std.proofs.Common.{◌≡◌, ◌≢◌, ℕ, ◌+◌, ◌-◌, List, [], ◌∷◌, ◌++◌, length, take, drop, Bool, true, false, cond, eqb, arith, Option, Some, None, refl, sym, ap, subst, ◌∙◌, ⊎_elim}
+use Rattle.std.proofs.Common.{◌≡◌, ◌≢◌, ℕ, ◌+◌, ◌-◌, List, [], ◌∷◌, ◌++◌, length, take, Bool, true, false, cond, eqb, arith, Option, Some, None, refl, sym, ap, subst, ◌∙◌, ⊎_elim}
 use Rattle.std.specs.Prelude.{◌||◌}
 use Rattle.std.specs.Ordering.{nat_cmp}
 use Rattle.std.specs.FinMap as map
@@ -11,25 +11,26 @@ use Rattle.std.specs.List.{flat_map, list_any}
 use Rattle.std.proofs.lemmas.Bool.{cases_eq}
 use Rattle.std.proofs.lemmas.List.{append_assoc, append-nil, take-append-drop}
 use Rattle.http_edge.specs.Frame.{frame}
-use Rattle.http_edge.specs.Left.{Left, part_of, rest, frame_from, rest_from}
+use Rattle.http_edge.specs.Left.{part_of, rest, frame_from, rest_from}
 use Rattle.chk_file.specs.World.{World}
 use Rattle.chk_file.specs.Look.{by_fit}
 use Rattle.gate_core.specs.declared.stage.Stage.TheVariants as stage
-use Rattle.grid.specs.GridState.{GridState, stood, room_at, maps_of, IsHonest, NoneFailed}
+use Rattle.grid.specs.GridState.{GridState, stood, room_at, IsHonest, NoneFailed}
 use Rattle.grid.specs.Leaves.{Leaves, IsUnchanged}
 use Rattle.grid.specs.Changed.{IsLost, IsSpoiled}
 use Rattle.grid.specs.Standing.{standing}
 use Rattle.gate_core.specs.Settings.{Settings}
-use Rattle.gate_core.specs.Events.{Event, Open, Bytes, End, Take, Lose, Spoil, caller_of, piece_of, given_by, is_end, calls_of, joined, handed, has_ended}
-use Rattle.gate_core.specs.Items.{Entry, asked_by, completed, items}
+use Rattle.gate_core.specs.Events.{Event, Open, Bytes, End, Take, Lose, Spoil, caller_of, piece_of, given_by, is_end, joined, handed, has_ended}
+use Rattle.gate_core.specs.Items.{asked_by, completed, items}
 use Rattle.gate_core.specs.Runs.{world_after, said_by}
-use Rattle.gate_core.specs.Rooms.{Rooms, rooms_after, HasRoomFor}
+use Rattle.gate_core.specs.Rooms.{rooms_after, HasRoomFor}
 use Rattle.gate_core.specs.Held.{Held, State, held_at}
 use Rattle.gate_core.specs.Lefts.{with_held, with_grid, opened, received, taken, ended}
 use Rattle.gate_core.specs.Came.{Opening, Shows, stage_of, IsAt, IsFresh, CameAt, Came, IsRoomy, Starts}
-use Rattle.gate_core.specs.Served.{IsSaid, AreServed, IsReceived}
+use Rattle.gate_core.specs.Served.{IsReceived}
 use Rattle.gate_core.proofs.Maps.{get-insert_here, get-insert_other}
 use Rattle.gate_core.proofs.Calls.{calls_of-other, is_known-mine, is_known-other, joined-mine, handed-mine, has_ended-mine, or_false, or_true}
+use Rattle.gate_core.proofs.Brought.{AllBytes, none_bring, items_bring, bytes-append}
 use Rattle.gate_core.proofs.Entries.{world_after-append, rooms_after-append, said_by-append, HasRoomFor-rest, items-push, items-empty, completed-bytes, said_by-other}
 
 -- ---- a call of another connection, or of none
@@ -153,6 +154,7 @@ Came-put opening g id new events e mine nothing came at =
       servers = came.servers;
       stores = subst (λ xs. Shows g.grid (world_after g.settings opening.world xs) (rooms_after g.settings opening.world opening.rooms xs)) (sym same) came.stores;
       each = Each-put opening g id new events e mine came.each at;
+      bytes = subst (AllBytes g.settings) (sym same) came.bytes;
     }
 
 -- what is held of an id came from its calls
@@ -185,11 +187,12 @@ open_goes false e = refl
 Came-settled : (opening : Opening) (old : Settings) (h : State) (events : List Event) → h.settings ≡ old
     → length h.grid ≡ old.servers
     → Shows h.grid (world_after old opening.world (items events)) (rooms_after old opening.world opening.rooms (items events))
-    → ((id : ℕ) → CameAt old opening.world id (held_at h id) events) → Came opening h events
-Came-settled opening old h events same servers stores each = record {
+    → ((id : ℕ) → CameAt old opening.world id (held_at h id) events) → AllBytes old (items events) → Came opening h events
+Came-settled opening old h events same servers stores each bytes = record {
   servers = servers ∙ ap (λ s. s.servers) (sym same);
   stores = subst (λ s. Shows h.grid (world_after s opening.world (items events)) (rooms_after s opening.world opening.rooms (items events))) (sym same) stores;
   each = subst (λ s. (id : ℕ) → CameAt s opening.world id (held_at h id) events) (sym same) each;
+  bytes = subst (λ s. AllBytes s (items events)) (sym same) bytes;
 }
 
 pub Came-bytes : ((s more : List ℕ) → frame (s ++ more) ≡ frame s ++ frame_from (rest s) more) → ((s more : List ℕ) → rest (s ++ more) ≡ rest_from (rest s) more)
@@ -223,6 +226,7 @@ Came-bytes items_join left_join opening g h events id held piece came found goin
     (at.stage ∙ ap stage_of (sym (or_false (has_ended id events))))
     (ap (said_by by_fit s id w) done ∙ sym told.said)
     refl)))
+    (subst (AllBytes s) (sym all) (bytes-append s before (asked_by id those) came.bytes (items_bring s id those got.fed.served.bytes)))
 
 -- ---- what the operator does
 
@@ -238,8 +242,8 @@ plus_none n = omega arith
 -- a call of no connection that left the stores so
 Came-grid : (opening : Opening) (g : State) (grid : GridState) (events : List Event) (e : Event) → caller_of e ≡ None → Came opening g events → length grid ≡ length g.grid
     → Shows grid (world_after g.settings (world_after g.settings opening.world (items events)) (completed events e)) (rooms_after g.settings (world_after g.settings opening.world (items events)) (rooms_after g.settings opening.world opening.rooms (items events)) (completed events e))
-    → Came opening (with_grid g grid) (events ++ e ∷ [])
-Came-grid opening g grid events e none came count shows =
+    → AllBytes g.settings (completed events e) → Came opening (with_grid g grid) (events ++ e ∷ [])
+Came-grid opening g grid events e none came count shows brings =
     let s = g.settings in
     let before = items events in
     let done = completed events e in
@@ -250,6 +254,7 @@ Came-grid opening g grid events e none came count shows =
           (subst (λ v. Shows grid v (rooms_after s opening.world opening.rooms (before ++ done))) (sym (world_after-append s opening.world before done))
           (subst (λ r. Shows grid (world_after s (world_after s opening.world before) done) r) (sym (rooms_after-append s opening.world opening.rooms before done)) shows));
       each = λ id. CameAt-other s opening.world id (held_at g id) events e (λ same. never_some id (sym none ∙ same)) (came.each id);
+      bytes = subst (AllBytes s) (sym (items-push events e)) (bytes-append s before done came.bytes brings);
     }
 
 pub Came-lost : ((server : ℕ) (key : ShareKey) (marks : Marks) → shown (lost_mark server key marks) ≡ without server key (shown marks))
@@ -264,7 +269,7 @@ Came-lost follow opening g events server key grid came leaves lost =
       room = λ s. (lost came.stores.honest).rooms s
           ∙ ap (λ st. room_at g.grid s + cond (eqb s server) (length (unwrap_or (st s key) [])) 0) came.stores.stand
           ∙ ap (λ r. r + cond (eqb s server) (length (unwrap_or (shown w.marks s key) [])) 0) (came.stores.room s ∙ sym (minus_none (rooms s)));
-    })
+    }) (none_bring g.settings)
 
 pub Came-spoiled : ((server : ℕ) (key : ShareKey) (place : ℕ) (marks : Marks) → shown (spoiled_mark server key place marks) ≡ spoiled server key place (shown marks))
     → (opening : Opening) (g : State) (events : List Event) (server : ℕ) (key : ShareKey) (place : ℕ) (grid : GridState) → Came opening g events → Leaves g.grid grid → (IsHonest g.grid → IsSpoiled server key place g.grid grid)
@@ -276,7 +281,7 @@ Came-spoiled follow opening g events server key place grid came leaves spoilt =
       honest = leaves.honest came.stores.honest;
       stand = (spoilt came.stores.honest).stands ∙ ap (spoiled server key place) came.stores.stand ∙ sym (follow server key place w.marks);
       room = λ s. (spoilt came.stores.honest).rooms s ∙ came.stores.room s ∙ sym (plus_none (rooms s));
-    })
+    }) (none_bring g.settings)
 
 pub Came-unchanged : (opening : Opening) (g : State) (events : List Event) (grid : GridState) → Came opening g events → Leaves g.grid grid → (IsHonest g.grid → IsUnchanged g.grid grid) → Came opening (with_grid g grid) events
 Came-unchanged opening g events grid came leaves same = record {
@@ -287,6 +292,7 @@ Came-unchanged opening g events grid came leaves same = record {
     room = λ s. (same came.stores.honest).rooms s ∙ came.stores.room s;
   };
   each = came.each;
+  bytes = came.bytes;
 }
 
 -- ---- the first
@@ -300,4 +306,5 @@ Came-begins w g none servers stand honest = record {
   stores = subst (λ xs. Shows g.grid (world_after g.settings w xs) (rooms_after g.settings w (room_at g.grid) xs)) (sym items-empty) (record { honest = honest; stand = stand; room = λ s. refl });
   each = λ id. subst (λ o. CameAt g.settings w id o []) (sym (unnamed g id none))
       (record { unknown = refl; read = refl; going = refl; given = refl; out = ap (said_by by_fit g.settings id w) items-empty });
+  bytes = subst (AllBytes g.settings) (sym items-empty) (none_bring g.settings);
 }

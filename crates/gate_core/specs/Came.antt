@@ -1,6 +1,7 @@
 -- Which calls a gateway stands for.
-use Rattle.std.specs.Prelude.{◌≡◌, ℕ, List, [], ◌∷◌, ◌++◌, length, Bool, true, false, Option, Some, None}
+use Rattle.std.specs.Prelude.{◌≡◌, ℕ, List, [], ◌∷◌, ◌++◌, length, Bool, true, false, Option, Some, None, All}
 use Rattle.http_edge.specs.Left.{rest}
+use Rattle.erasure.specs.Code.{AreBytes}
 use Rattle.chk_file.specs.Marks.{shown}
 use Rattle.chk_file.specs.World.{World}
 use Rattle.chk_file.specs.Look.{by_fit}
@@ -11,6 +12,7 @@ use Rattle.gate_core.specs.Settings.{Settings}
 use Rattle.gate_core.specs.Events.{Event, is_known, joined, handed, has_ended}
 use Rattle.gate_core.specs.Items.{items}
 use Rattle.gate_core.specs.Runs.{world_after, said_by}
+use Rattle.gate_core.specs.Uploaded.{uploads_of}
 use Rattle.gate_core.specs.Rooms.{Rooms, rooms_after, HasRoomFor}
 use Rattle.gate_core.specs.Held.{Held, State, held_at}
 
@@ -50,11 +52,12 @@ abbrev pub CameAt : Settings → World → ℕ → Option Held → List Event �
 CameAt settings opening id None events = IsFresh settings opening id events
 CameAt settings opening id (Some held) events = IsAt settings opening id held events
 
--- What a gateway holds came from these calls, where this stood at first. No history is stored.
+-- What a gateway holds came from these calls, where this stood at first; what they upload are bytes. No history is stored.
 pub record Came (opening : Opening) (g : State) (events : List Event) : Type 0 where
   pub servers : length g.grid ≡ g.settings.servers
   pub stores : Shows g.grid (world_after g.settings opening.world (items events)) (rooms_after g.settings opening.world opening.rooms (items events))
   pub each : (id : ℕ) → CameAt g.settings opening.world id (held_at g id) events
+  pub bytes : All (λ u. AreBytes u.bytes) (uploads_of g.settings (items events))
 
 -- the stores have the room for what these calls bring
 abbrev pub IsRoomy : Settings → Opening → List Event → Type 0

@@ -1,5 +1,5 @@
 -- What calls leave of a connection, said without the calls that led there.
-use Rattle.std.specs.Prelude.{ℕ, List, [], ◌++◌, take, drop}
+use Rattle.std.specs.Prelude.{ℕ, List, [], ◌++◌, drop}
 use Rattle.std.specs.FinMap as map
 use Rattle.http_edge.specs.Left.{part_of, rest_from}
 use Rattle.gate_core.specs.declared.stage.Stage.TheVariants.{Open, Ended, Cut}

@@ -1,12 +1,14 @@
 pub mod Settings
-pub mod Replies
 pub mod Requests
+pub mod Wire
 pub mod Answers
 pub mod Events
 pub mod Items
 pub mod Runs
 pub mod Reach
 pub mod Agrees
+pub mod Uploaded
+pub mod Apart
 pub mod Rooms
 pub mod Held
 pub mod Lefts

@@ -1,5 +1,5 @@
 -- Which items of others a caller's answers rest on.
-use Rattle.std.specs.Prelude.{ℕ, List, [], ◌∷◌, ◌++◌, Bool, true, false, ◌==◌, ◌||◌, filter, nat_eq, if◌then◌else◌, Option, Some, None}
+use Rattle.std.specs.Prelude.{ℕ, List, [], ◌∷◌, ◌++◌, Bool, true, false, ◌==◌, ◌||◌, filter, nat_eq, if◌then◌else◌, Option, Some, None, Ok, Err}
 use Rattle.std.specs.List.{list_any}
 use Rattle.std.specs.Cmp.Lexicographic.{pointwise}
 use Rattle.http_edge.specs.declared.item.Item.{Item}
@@ -10,24 +10,21 @@ use Rattle.caps.specs.StorageIndex.{index_of}
 use Rattle.chk_file.specs.Upload.{Upload, index}
 use Rattle.chk_file.specs.World.{World}
 use Rattle.chk_file.specs.Look.{Look, by_held}
+use Rattle.web_ops.specs.Reach.{met as met_by_request}
 use Rattle.gate_core.specs.Settings.{Settings}
-use Rattle.gate_core.specs.declared.request.Request.{Request}
-use Rattle.gate_core.specs.declared.request.Request.TheVariants.{Put, Get, BadCap, NotServed}
-use Rattle.gate_core.specs.Requests.{request_of}
+use Rattle.gate_core.specs.Requests.{Interpreted, asked_of}
 use Rattle.gate_core.specs.Items.{Entry, Asked, Lost, Spoiled}
 use Rattle.gate_core.specs.Runs.{upload_by, after_entry}
 
 -- ---- the caps that are met
 
-abbrev pub met_in : Look → Request → List Cap
-met_in look (Put bytes) = []
-met_in look (Get name) = name ∷ []
-met_in look BadCap = []
-met_in look NotServed = []
+abbrev pub met_asked : Look → Interpreted → List Cap
+met_asked look (Ok request) = met_by_request look request
+met_asked look (Err fault) = []
 
 -- the caps that the answer to an item looks for
 unfoldable pub met : Look → Item → List Cap
-met look (RequestItem head body close) = met_in look (request_of head body)
+met look (RequestItem head body close) = met_asked look (asked_of head body)
 met look (Fault fault head_only) = []
 
 -- those of an item of these callers

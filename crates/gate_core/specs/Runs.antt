@@ -1,34 +1,27 @@
 -- What items leave in the world, and what a caller is to be told of them.
-use Rattle.std.specs.Prelude.{ℕ, List, [], ◌∷◌, ◌++◌, length, ◌==◌, nat_lt, if◌then◌else◌, Option, Some, None}
+use Rattle.std.specs.Prelude.{ℕ, List, [], ◌∷◌, ◌++◌, ◌==◌, if◌then◌else◌, Option, None, Ok, Err}
 use Rattle.http_edge.specs.declared.item.Item.{Item}
 use Rattle.http_edge.specs.declared.item.Item.TheVariants.{Request as RequestItem, Fault}
-use Rattle.caps.specs.declared.cap.Cap.{Cap}
 use Rattle.chk_file.specs.Upload.{Upload}
-use Rattle.chk_file.specs.World.{World, after_upload, after_lose, after_spoil}
+use Rattle.chk_file.specs.World.{World, after_lose, after_spoil}
 use Rattle.chk_file.specs.Look.{Look, by_held}
-use Rattle.gate_core.specs.Settings.{Settings}
-use Rattle.gate_core.specs.declared.request.Request.{Request}
-use Rattle.gate_core.specs.declared.request.Request.TheVariants.{Put, Get, BadCap, NotServed}
-use Rattle.gate_core.specs.Requests.{request_of}
-use Rattle.gate_core.specs.Answers.{upload_of, answer}
+use Rattle.web_ops.specs.Encoding.{Encoding}
+use Rattle.web_ops.specs.Uploads.{upload_in, after_stored}
+use Rattle.gate_core.specs.Settings.{Settings, encoding_in}
+use Rattle.gate_core.specs.Requests.{Interpreted, asked_of}
+use Rattle.gate_core.specs.Answers.{answer}
 use Rattle.gate_core.specs.Items.{Entry, Asked, Lost, Spoiled}
 
 -- ---- the world after items
 
--- the upload whose shares a request leaves: bytes that are too many to stand in a cap
-abbrev pub upload_in : Settings → Request → Option Upload
-upload_in settings (Put bytes) = if nat_lt 55 (length bytes) then Some (upload_of settings bytes) else None
-upload_in settings (Get name) = None
-upload_in settings BadCap = None
-upload_in settings NotServed = None
+-- the upload whose shares a request leaves, where it is one
+abbrev pub upload_asked : Encoding → Interpreted → Option Upload
+upload_asked e (Ok request) = upload_in e request
+upload_asked e (Err fault) = None
 
 unfoldable pub upload_by : Settings → Item → Option Upload
-upload_by settings (RequestItem head body close) = upload_in settings (request_of head body)
+upload_by settings (RequestItem head body close) = upload_asked (encoding_in settings) (asked_of head body)
 upload_by settings (Fault fault head_only) = None
-
-abbrev pub after_stored : ℕ → Option Upload → World → World
-after_stored servers None w = w
-after_stored servers (Some u) w = after_upload servers u w
 
 abbrev pub after_entry : Settings → Entry → World → World
 after_entry settings (Asked id item) w = after_stored settings.servers (upload_by settings item) w

@@ -6,12 +6,10 @@
 mod fault;
 /// What a gateway is set up with.
 mod parameters;
-/// What a request asks for.
-mod request;
-/// The replies that are given.
-mod replies;
-/// Carrying out requests over a grid.
-mod performer;
+/// Answering requests over a grid.
+mod answerer;
+/// Replies as they are sent.
+mod wire;
 /// Bytes that wait to be taken.
 mod output;
 /// Answering items over a grid.

@@ -16,9 +16,9 @@ pub struct Parameters {
 
 impl Model for Parameters {
     ghost use Rattle.octets.specs.Sharing.{IsSharing};
-    ghost use Rattle.gate_core.specs.Settings.{ParametersValue};
+    ghost use Rattle.web_ops.specs.Encoding.{Encoding};
 
-    ghost Value = { ParametersValue };
+    ghost Value = { Encoding };
 
     ghost view = { λ p. record { k = p.k; n = p.n; secret = p.secret } };
 

@@ -5,11 +5,10 @@ ghost use Rattle.gate_core.specs.Settings.{settings_of};
 ghost use Rattle.gate_core.specs.Answers.{asks_head};
 ghost use Rattle.gate_core.specs.Served.{AreServedAfter};
 
+use crate::answerer::answer;
 use crate::output::Output;
 use crate::parameters::Parameters;
-use crate::performer::perform;
-use crate::replies::framing_reply;
-use crate::request::request_of;
+use crate::wire::{framing_reply, wired};
 use grid::Grid;
 use http_edge::{Head, Item};
 use share_store::Store;
@@ -51,8 +50,8 @@ fn serve<S: Store>(
     match item {
         Item::Request { head, body, close } => {
             let head_only = asks_head(&head);
-            let request = request_of(alloc, &head, body)?;
-            let reply = perform(alloc, parameters, grid, request)?;
+            let given = answer(alloc, parameters, grid, head, body)?;
+            let reply = wired(alloc, given)?;
             output.push_reply(&reply, head_only, close)
         }
         Item::Fault { fault, head_only } => {

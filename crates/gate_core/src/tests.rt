@@ -29,6 +29,9 @@ const FILE: &[u8] =
 const TEXT: &[u8] =
     b"HTTP/1.1 200 OK\r\nContent-Type: text/plain; charset=utf-8\r\nContent-Length: ";
 
+/// JSON as it is sent.
+const JSON: &[u8] = b"HTTP/1.1 200 OK\r\nContent-Type: application/json\r\nContent-Length: ";
+
 /// k of n on one store in memory, with this room and this secret.
 fn made(
     alloc: Global,
@@ -152,25 +155,78 @@ fn quiet_calls(gateway: &mut Gateway<MemStore>) -> Result<bool, Fail> {
 }
 
 #[test]
-fn what_is_not_served_is_said(rt: HostRuntime) -> Result<(), Fail> {
+fn each_kind_of_reply_is_sent(rt: HostRuntime) -> Result<(), Fail> {
     let mut gateway = gateway(rt.alloc(), 0)?;
-    for (head, status) in [
+    for (head, wanted) in [
         (
-            b"GET /uri/URI:DIR2-LIT:".as_slice(),
-            b"HTTP/1.1 501 Not Implemented\r\n".as_slice(),
+            b"HEAD /uri/URI:LIT:my HTTP/1.1\r\nHost: g\r\n\r\n".as_slice(),
+            b"HTTP/1.1 200 OK\r\nContent-Type: application/octet-stream\r\nContent-Length: 1\r\n\r\n".as_slice(),
         ),
-        (b"HEAD /uri/URI:LIT:my", b"HTTP/1.1 501 Not Implemented\r\n"),
-        (b"GET /uri/URI:LIT:MY", b"HTTP/1.1 400 Bad Request\r\n"),
         (
-            b"GET /uri/URI:CHK-Verifier:sq4jz3p4ngj6es3fircm3jysru:ro65en3n4zxwl3gfinnekkeqado3jxpde7tfaj3sr7als57h4qoa:3:10:56",
-            b"HTTP/1.1 400 Bad Request\r\n",
+            b"GET /uri/URI:LIT:mzxw6 HTTP/1.1\r\nHost: g\r\nRange: bytes=1-\r\n\r\n",
+            b"HTTP/1.1 206 Partial Content\r\nContent-Type: application/octet-stream\r\nContent-Length: 2\r\nContent-Range: bytes 1-2/3\r\n\r\noo",
+        ),
+        (
+            b"GET /uri/URI:LIT:mzxw6 HTTP/1.1\r\nHost: g\r\nRange: bytes=3-\r\n\r\n",
+            b"HTTP/1.1 416 Range Not Satisfiable\r\nContent-Type: text/plain; charset=utf-8\r\nContent-Length: 22\r\nContent-Range: bytes */3\r\n\r\nrange not satisfiable\n",
+        ),
+        (
+            b"DELETE /uri/URI:LIT:my HTTP/1.1\r\nHost: g\r\n\r\n",
+            b"HTTP/1.1 405 Method Not Allowed\r\nContent-Type: text/plain; charset=utf-8\r\nContent-Length: 19\r\nAllow: GET, HEAD, POST\r\n\r\nmethod not allowed\n",
+        ),
+        (
+            b"GET /uri HTTP/1.1\r\nHost: g\r\n\r\n",
+            b"HTTP/1.1 405 Method Not Allowed\r\nContent-Type: text/plain; charset=utf-8\r\nContent-Length: 19\r\nAllow: POST, PUT\r\n\r\nmethod not allowed\n",
+        ),
+        (
+            b"GET /uri/URI:LIT:MY HTTP/1.1\r\nHost: g\r\n\r\n",
+            b"HTTP/1.1 400 Bad Request\r\nContent-Type: text/plain; charset=utf-8\r\nContent-Length: 8\r\n\r\nbad cap\n",
+        ),
+        (
+            b"GET /uri/URI:CHK-Verifier:sq4jz3p4ngj6es3fircm3jysru:ro65en3n4zxwl3gfinnekkeqado3jxpde7tfaj3sr7als57h4qoa:3:10:56 HTTP/1.1\r\nHost: g\r\n\r\n",
+            b"HTTP/1.1 400 Bad Request\r\nContent-Type: text/plain; charset=utf-8\r\nContent-Length: 19\r\n\r\nnot a readable cap\n",
         ),
     ] {
-        let request = joined(rt.alloc(), &[head, b" HTTP/1.1\r\nHost: g\r\n\r\n"])?;
-        let reply = asked(&mut gateway, &request)?;
-        assert!(rt; reply.starts_with(status));
+        answers(&rt, &mut gateway, head, wanted)?;
     }
     Ok(())
+}
+
+/// A directory of one file, whose bytes stand in its cap: a netstring for its entry, in base32.
+const DIRECTORY: &[u8] = b"URI:DIR2-LIT:gi3dumj2mewdcmb2kvjesosmjfkdu3lzfqydulbshj5x2lbm";
+
+#[test]
+fn a_directory_is_served(rt: HostRuntime) -> Result<(), Fail> {
+    let alloc = rt.alloc();
+    let mut gateway = gateway(alloc, 0)?;
+    let request = message(
+        alloc,
+        b"POST /uri?t=mkdir-immutable HTTP/1.1\r\nHost: g\r\nContent-Length: ",
+        b"{\"a\":[\"filenode\",{\"ro_uri\":\"URI:LIT:my\"}]}",
+    )?;
+    answers(
+        &rt,
+        &mut gateway,
+        &request,
+        &message(alloc, TEXT, DIRECTORY)?,
+    )?;
+    let child = get(alloc, &joined(alloc, &[DIRECTORY, b"/a"])?)?;
+    answers(&rt, &mut gateway, &child, &message(alloc, FILE, b"f")?)?;
+    let missing = asked(
+        &mut gateway,
+        &get(alloc, &joined(alloc, &[DIRECTORY, b"/b"])?)?,
+    )?;
+    assert!(rt; missing.starts_with(b"HTTP/1.1 404 Not Found\r\n"));
+    let listing = get(alloc, &joined(alloc, &[DIRECTORY, b"/?t=json"])?)?;
+    let json = joined(
+        alloc,
+        &[
+            b"[\"dirnode\",{\"children\":{\"a\":[\"filenode\",{\"metadata\":{},\"mutable\":false,\"ro_uri\":\"URI:LIT:my\",\"size\":1}]},\"mutable\":false,\"ro_uri\":\"",
+            DIRECTORY,
+            b"\"}]",
+        ],
+    )?;
+    answers(&rt, &mut gateway, &listing, &message(alloc, JSON, &json)?)
 }
 
 #[test]

@@ -81,6 +81,7 @@ came_first grid g is starts =
         room = λ s. ap (λ t. room_at t s) is ∙ room_is grid.servers grid.room s;
       };
       each = came.each;
+      bytes = came.bytes;
     }
 
 pub begin_made : (log : List Step) (was : Option Grid) (grid : Grid) (g : State) → IsAt log was None → g.settings ≡ settings_by grid → g.grid ≡ replicate grid.servers (fresh grid.room) → Starts empty g → are_parameters grid ≡ true

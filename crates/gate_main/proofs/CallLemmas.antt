@@ -1,5 +1,5 @@
 -- Calls that commands ask for.
-use Rattle.std.proofs.Common.{◌≡◌, ◌≢◌, ℕ, ◌≤◌, ◌<◌, List, [], ◌∷◌, ◌++◌, length, take, drop, Bool, true, false, cond, Option, Some, None, Result, Ok, Err, refl, sym, ap, subst, ◌∙◌, arith, nat_lt}
+use Rattle.std.proofs.Common.{inl, inr, ◌≡◌, ◌≢◌, ℕ, ◌≤◌, ◌<◌, List, [], ◌∷◌, ◌++◌, length, take, drop, Bool, true, false, cond, Option, Some, None, Result, Ok, Err, refl, sym, ap, subst, ◌∙◌, arith, nat_lt}
 use Rattle.std.specs.Prelude.{MatchOption, is_some, IsErrOf, ◌↔◌, ◌&&◌, not, unwrap_or}
 use Rattle.std.proofs.Math.Seq.{drop-append_seam}
 use Rattle.std.proofs.lemmas.List.{append-nil}
@@ -30,7 +30,7 @@ use Rattle.gate_main.specs.declared.command.Command.TheVariants as command
 use Rattle.gate_main.specs.declared.command.Grid.{Grid}
 use Rattle.gate_main.specs.declared.command.Share.{Share}
 use Rattle.gate_main.specs.declared.reply.Reply.{Reply}
-use Rattle.gate_main.specs.declared.reply.Reply.TheVariants.{Done, Refused, GridRefused, Given, Answered}
+use Rattle.gate_main.specs.declared.reply.Reply.TheVariants.{Done, Refused, GridRefused, Given, Imaged, Answered}
 
 -- ---- `open`
 
@@ -202,4 +202,24 @@ module _ (old new : State) (share : Share) (fault : GridFault) (reply : Reply) (
     settings = ap (λ (s : State). s.settings) left;
     told = λ grid events set came. sym is ∙ refused_reply grid events _ set came;
     came = λ grid events set came calm. refused_came grid events came;
+  }
+
+-- ---- `image`
+
+module _ (old new : State) (left : new ≡ with_grid old new.grid) (on : (opening : Opening) (events : List Event) → Came opening old events → Came opening new events) where
+  stays : (grid : Grid) (events : List Event) → Came (opening_by grid) old events → Came (opening_by grid) new (events ++ [])
+  stays grid events came = subst (Came (opening_by grid) new) (sym (append-nil events)) (on (opening_by grid) events came)
+
+  pub imaged : (bytes : List ℕ) → IsCalled old new command.Image (Imaged bytes)
+  imaged bytes = record {
+    settings = ap (λ (s : State). s.settings) left;
+    told = λ grid events set came. inl (bytes, refl);
+    came = λ grid events set came calm. stays grid events came;
+  }
+
+  pub image_refused : (fault : GridFault) (reply : Reply) → reply ≡ GridRefused fault → IsCalled old new command.Image reply
+  image_refused fault reply is = subst (IsCalled old new command.Image) (sym is) record {
+    settings = ap (λ (s : State). s.settings) left;
+    told = λ grid events set came. inr (fault, refl);
+    came = λ grid events set came calm. stays grid events came;
   }

@@ -6,10 +6,16 @@ use std::alloc::{AllocError, Global};
 use std::io::BufReader;
 use std::test::Fail;
 
+/// Directories, and the paths through them.
+mod directories;
 /// Arguments, statuses, words and peers.
 mod edges;
 /// Files on servers.
 mod rows;
+/// Scripts with the answers that they are to have.
+mod scripts;
+/// Heads, ranges, JSON and checks.
+mod views;
 
 /// What a script is answered, and the fault that ended its run.
 fn ran(alloc: Global, script: &[u8]) -> (Vec<u8>, Option<ScriptFault>) {

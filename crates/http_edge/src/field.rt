@@ -53,4 +53,12 @@ impl Fields {
     {
         self.fields.as_slice()
     }
+
+    /// The vector that holds the fields, which isn't copied.
+    pub fn into_vec(self) -> Vec<Field>
+        ensures { result.items ≡ self }
+    {
+        let Fields { fields: vector } = self;
+        vector
+    }
 }

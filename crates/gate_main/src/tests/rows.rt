@@ -1,174 +1,13 @@
 //! Scripts over files on servers, with their answers.
+use super::scripts::{A56, BIG, OCTETS, SMALL, Script, big_file, reply_of};
 use super::*;
-use crate::text::escape;
-use octets::Bytes;
-use std::alloc::{AllocError, Global};
-use std::process::Abort;
 use std::test::Fail;
-
-const SMALL: &str =
-    "URI:CHK:xciehu7wkhrkdhseyznarsl6n4:ro65en3n4zxwl3gfinnekkeqado3jxpde7tfaj3sr7als57h4qoa:3:10:56";
-
-const BIG: &str =
-    "URI:CHK:cpgmyfu7y4nqyhvkcqfcsmnqvq:cvffjve3vt7bw5r2bn4fpzm22wnb5vsv7pduk635eeclhal7bo5q:3:10:200000";
 
 const GONE: &[u8] =
     b"HTTP/1.1 410 Gone\r\nContent-Type: text/plain; charset=utf-8\r\nContent-Length: 18\r\n\r\nnot enough shares\n";
 
 const FULL: &[u8] =
     b"HTTP/1.1 503 Service Unavailable\r\nContent-Type: text/plain; charset=utf-8\r\nContent-Length: 11\r\n\r\nstore full\n";
-
-/// A script and the answers that it is to have.
-struct Script {
-    alloc: Global,
-    text: Vec<u8>,
-    wanted: Vec<u8>,
-}
-
-impl Drop for Script {
-    fn drop(self) {
-        let Script {
-            alloc: _,
-            text: _,
-            wanted: _,
-        } = self;
-    }
-}
-
-impl Script {
-    fn new(alloc: Global) -> Script {
-        Script {
-            alloc,
-            text: Vec::new(alloc),
-            wanted: Vec::new(alloc),
-        }
-    }
-
-    fn line(&mut self, line: &str, answer: &str) -> Result<(), AllocError> {
-        self.text.extend_from_slice(line.as_bytes())?;
-        self.text.push(b'\n')?;
-        self.wanted.extend_from_slice(answer.as_bytes())?;
-        self.wanted.push(b'\n')?;
-        Ok(())
-    }
-
-    /// These bytes come on a connection.
-    fn send(&mut self, id: &str, piece: &[u8]) -> Result<(), AllocError> {
-        self.text.extend_from_slice(b"bytes ")?;
-        self.text.extend_from_slice(id.as_bytes())?;
-        self.text.push(b' ')?;
-        escape(piece, &mut self.text)?;
-        self.text.push(b'\n')?;
-        self.wanted.extend_from_slice(b"ok\n")?;
-        Ok(())
-    }
-
-    fn put(&mut self, id: &str, length: &str, body: &[u8]) -> Result<(), AllocError> {
-        let mut request = Vec::new(self.alloc);
-        request.extend_from_slice(b"PUT /uri HTTP/1.1\r\nHost: g\r\nContent-Length: ")?;
-        request.extend_from_slice(length.as_bytes())?;
-        request.extend_from_slice(b"\r\n\r\n")?;
-        request.extend_from_slice(body)?;
-        self.send(id, &request)
-    }
-
-    fn get(&mut self, id: &str, cap: &str) -> Result<(), AllocError> {
-        let mut request = Vec::new(self.alloc);
-        request.extend_from_slice(b"GET /uri/")?;
-        request.extend_from_slice(cap.as_bytes())?;
-        request.extend_from_slice(b" HTTP/1.1\r\nHost: g\r\n\r\n")?;
-        self.send(id, &request)
-    }
-
-    /// So many bytes are taken, and these are given.
-    fn take(&mut self, id: &str, most: &str, given: &[u8]) -> Result<(), AllocError> {
-        self.text.extend_from_slice(b"take ")?;
-        self.text.extend_from_slice(id.as_bytes())?;
-        self.text.push(b' ')?;
-        self.text.extend_from_slice(most.as_bytes())?;
-        self.text.push(b'\n')?;
-        self.wanted.extend_from_slice(b"bytes ")?;
-        escape(given, &mut self.wanted)?;
-        self.wanted.push(b'\n')?;
-        Ok(())
-    }
-
-    fn gives(&mut self, id: &str, given: &[u8]) -> Result<(), AllocError> {
-        self.take(id, "4000000", given)
-    }
-
-    fn gives_cap(&mut self, id: &str, length: &str, cap: &str) -> Result<(), AllocError> {
-        let reply = joined(
-            self.alloc,
-            [
-                b"HTTP/1.1 200 OK\r\nContent-Type: text/plain; charset=utf-8\r\nContent-Length: ".as_slice(),
-                length.as_bytes(),
-                b"\r\n\r\n".as_slice(),
-                cap.as_bytes(),
-            ]
-            .as_slice(),
-        )?;
-        self.gives(id, &reply)
-    }
-
-    fn gives_file(&mut self, id: &str, length: &str, bytes: &[u8]) -> Result<(), AllocError> {
-        let reply = file_reply(self.alloc, length, bytes)?;
-        self.gives(id, &reply)
-    }
-
-    /// Loses the shares of these numbers of the big file, where there is one server.
-    fn lose(&mut self, numbers: &[&str]) -> Result<(), AllocError> {
-        for number in numbers {
-            self.text
-                .extend_from_slice(b"lose 0 qg2arnqdrcwls5l3fr6ulmwa4y ")?;
-            self.text.extend_from_slice(number.as_bytes())?;
-            self.text.push(b'\n')?;
-            self.wanted.extend_from_slice(b"yes\n")?;
-        }
-        Ok(())
-    }
-
-    fn holds(&self, rt: &impl Abort) {
-        let (answers, fault) = ran(self.alloc, &self.text);
-        assert!(rt; answers.as_slice() == self.wanted.as_slice());
-        assert_eq!(rt; fault, None);
-    }
-}
-
-fn file_reply(alloc: Global, length: &str, bytes: &[u8]) -> Result<Vec<u8>, AllocError> {
-    joined(
-        alloc,
-        [
-            b"HTTP/1.1 200 OK\r\nContent-Type: application/octet-stream\r\nContent-Length: ".as_slice(),
-            length.as_bytes(),
-            b"\r\n\r\n".as_slice(),
-            bytes,
-        ]
-        .as_slice(),
-    )
-}
-
-/// 200,000 bytes.
-fn big_file(alloc: Global) -> Result<Bytes, AllocError> {
-    let mut bytes = Vec::with_capacity(alloc, 200_000)?;
-    for at in 0..200_000u32 {
-        bytes.push((at % 251) as u8)?;
-    }
-    Ok(Bytes::from_vec(bytes))
-}
-
-/// A grid of one server with ample room and two connections, on which the big file was put by the first.
-fn with_big(alloc: Global) -> Result<Script, AllocError> {
-    let mut script = Script::new(alloc);
-    script.line("grid 3 10 1 10000000 -", "ok")?;
-    script.line("open 1", "ok")?;
-    script.line("open 2", "ok")?;
-    script.put("1", "200000", big_file(alloc)?.as_slice())?;
-    script.gives_cap("1", "99", BIG)?;
-    Ok(script)
-}
-
-const A56: &[u8] = b"aaaaaaaaaaaaaaaaaaaaaaaaaaaaaaaaaaaaaaaaaaaaaaaaaaaaaaaa";
 
 #[test]
 fn short_files_are_in_their_caps(rt: HostRuntime) -> Result<(), Fail> {
@@ -179,6 +18,11 @@ fn short_files_are_in_their_caps(rt: HostRuntime) -> Result<(), Fail> {
     script.gives_cap("1", "8", "URI:LIT:")?;
     script.get("1", "URI:LIT:")?;
     script.gives_file("1", "0", b"")?;
+    script.asks("GET /uri/URI:LIT:?t=json", "", "")?;
+    script.gives_json(
+        "59",
+        r#"["filenode",{"mutable":false,"ro_uri":"URI:LIT:","size":0}]"#,
+    )?;
     script.put("1", "55", &A56[..55])?;
     script.gives_cap(
         "1",
@@ -216,7 +60,7 @@ fn a_put_is_answered_alike_however_it_is_cut(rt: HostRuntime) -> Result<(), Fail
 #[test]
 fn a_big_file_is_given_while_three_shares_stand(rt: HostRuntime) -> Result<(), Fail> {
     let big = big_file(rt.alloc())?;
-    let mut script = with_big(rt.alloc())?;
+    let mut script = Script::with_big(rt.alloc())?;
     script.get("1", BIG)?;
     script.gives_file("1", "200000", big.as_slice())?;
     script.lose(["1", "2", "3", "4", "5", "6", "7"].as_slice())?;
@@ -239,7 +83,7 @@ fn a_big_file_is_given_while_three_shares_stand(rt: HostRuntime) -> Result<(), F
 #[test]
 fn another_cap_gives_nothing(rt: HostRuntime) -> Result<(), Fail> {
     let big = big_file(rt.alloc())?;
-    let mut script = with_big(rt.alloc())?;
+    let mut script = Script::with_big(rt.alloc())?;
     script.get("1", BIG)?;
     script.gives_file("1", "200000", big.as_slice())?;
     for other in [
@@ -284,7 +128,7 @@ fn a_put_and_a_get_in_turns_are_each_answered(rt: HostRuntime) -> Result<(), Fai
 fn a_read_by_another_leaves_no_trace(rt: HostRuntime) -> Result<(), Fail> {
     let big = big_file(rt.alloc())?;
     for other_reads in [true, false] {
-        let mut script = with_big(rt.alloc())?;
+        let mut script = Script::with_big(rt.alloc())?;
         if other_reads {
             script.get("2", BIG)?;
             script.gives_file("2", "200000", big.as_slice())?;
@@ -299,9 +143,10 @@ fn a_read_by_another_leaves_no_trace(rt: HostRuntime) -> Result<(), Fail> {
 
 #[test]
 fn a_reply_goes_on_after_its_shares_are_lost(rt: HostRuntime) -> Result<(), Fail> {
-    let reply = file_reply(rt.alloc(), "200000", big_file(rt.alloc())?.as_slice())?;
+    let big = big_file(rt.alloc())?;
+    let reply = reply_of(rt.alloc(), "200 OK", OCTETS, "200000", "", big.as_slice())?;
     let (front, rest) = reply.split_at(reply.len().min(1000));
-    let mut script = with_big(rt.alloc())?;
+    let mut script = Script::with_big(rt.alloc())?;
     script.get("1", BIG)?;
     script.take("1", "1000", front)?;
     script.lose(["0", "1", "2", "3", "4", "5", "6", "7", "8", "9"].as_slice())?;

@@ -4,8 +4,8 @@ use Rattle.gate_core.proofs.server.serve.Goals as goal
 
 pub returns-in_ok-reply-in-Request-clause-served : goal.returns-in_ok-reply-in-Request-clause-served
 returns-in_ok-reply-in-Request-clause-served g c =
-    on_ok_weaker c.push_reply.result (λ pushed. served_request _ c.args.item c.in-Request.head c.in-Request.body c.in-Request.close c.asks_head-head_only.result c.in_ok-request-in-Request.request c.in_ok-reply-in-Request.reply c.args.output.now _ c.args.grid.now c.perform.new.grid
-    c.in-Request.is c.asks_head-head_only.ensures c.in_ok-request-in-Request.ensures c.perform.ensures.leaves c.in_ok-reply-in-Request.ensures.reply pushed) c.push_reply.ensures
+    on_ok_weaker c.push_reply.result (λ pushed. served_request _ c.args.item c.in-Request.head c.in-Request.body c.in-Request.close c.asks_head-head_only.result c.in_ok-given-in-Request.given c.in_ok-reply-in-Request.reply c.args.output.now _ c.args.grid.now c.answer.new.grid
+    c.in-Request.is c.asks_head-head_only.ensures c.in_ok-reply-in-Request.ensures c.answer.ensures.leaves c.in_ok-given-in-Request.ensures.reply pushed) c.push_reply.ensures
 
 pub returns-in_ok-reply-in-Fault-clause-served : goal.returns-in_ok-reply-in-Fault-clause-served
 returns-in_ok-reply-in-Fault-clause-served g c =

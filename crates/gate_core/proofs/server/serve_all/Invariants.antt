@@ -1,5 +1,4 @@
 use Rattle.std.proofs.Common.{length}
-use Rattle.grid.specs.Leaves.{Leaves}
 use Rattle.gate_core.specs.Settings.{settings_of}
 use Rattle.gate_core.specs.Served.{AreServedAfter}
 use Rattle.gate_core.proofs.server.serve_all.Given as goal

@@ -1,5 +1,4 @@
 use Rattle.std.proofs.Common.{None, refl, ap, sym, ◌∙◌, take}
-use Rattle.std.specs.FinMap as map
 use Rattle.std.proofs.lemmas.Result.{on_ok_weaker, on_err_weaker, IfOk-weaker}
 use Rattle.gate_core.specs.Held.{waiting_in}
 use Rattle.gate_core.specs.Lefts.{taken}
