@@ -1,8 +1,10 @@
 #!/bin/sh
-# curl and wget against `serve`: what comes back is compared. Each connection is counted, so the program ends by itself.
+# curl and wget against `serve`: what comes back is compared, JSON by json_replies.py beside this file. Each connection is
+# counted, so the program ends by itself. It needs curl, wget, ss (iproute2) and python3.
 # usage: bench/clients.sh PROGRAM
 set -eu
 program=${1:?usage: bench/clients.sh PROGRAM}
+here=$(cd "$(dirname "$0")" && pwd)
 folder=$(mktemp -d)
 server=
 finish() {
@@ -17,7 +19,7 @@ fail() {
 
 port=$(python3 -c 'import socket; s = socket.socket(); s.bind(("127.0.0.1", 0)); print(s.getsockname()[1])')
 base="http://127.0.0.1:$port"
-timeout 120 "$program" serve "127.0.0.1:$port" 9 > "$folder/out" 2> "$folder/words" &
+timeout 300 "$program" serve "127.0.0.1:$port" 34 > "$folder/out" 2> "$folder/words" &
 server=$!
 # Each connection counts, so the port is looked for without one.
 for _ in $(seq 100); do
@@ -61,6 +63,103 @@ test "$($curl -o "$folder/bad" -w '%{http_code}' "$base/uri/URI:LIT:m")" = 400 |
 # 9: a short file is in its cap
 printf foo > "$folder/short"
 test "$($curl -T "$folder/short" "$base/uri")" = URI:LIT:mzxw6 || fail 'a short file'
+
+json() {
+    python3 "$here/json_replies.py" "$@"
+}
+
+# A reply whose head and body are kept: its status, and a field of its head.
+fetch() {
+    status=$($curl -D "$folder/head" -o "$folder/back" -w '%{http_code}' "$@")
+}
+field() {
+    tr -d '\r' < "$folder/head" | sed -n "s/^$1: //p"
+}
+# A refusal: what is asked for, the status and the line of text.
+refused() {
+    fetch "$1"
+    test "$status $(cat "$folder/back")" = "$2" || fail "$1 is answered $status $(cat "$folder/back") and not $2"
+}
+
+# 10, 11: a directory of a file, a short file and an empty directory, and one above it
+decomposed=$(printf 'e\314\201 1/2?')
+composed=$(printf '\303\251 1/2?')
+json children "$decomposed=$cap" short=URI:LIT:mzxw6 none=URI:DIR2-LIT: > "$folder/children"
+inner=$($curl --data-binary "@$folder/children" "$base/uri?t=mkdir-immutable")
+size=$(json directory_size "$decomposed=$cap" short=URI:LIT:mzxw6 none=URI:DIR2-LIT:)
+case $inner in URI:DIR2-CHK:*:3:10:"$size") ;; *) fail "no cap of a directory of $size bytes: $inner" ;; esac
+json children "down=$inner" > "$folder/children"
+outer=$($curl --data-binary "@$folder/children" "$base/uri?t=mkdir-immutable")
+case $outer in URI:DIR2-CHK:*) ;; *) fail "no cap of the upper directory: $outer" ;; esac
+
+# 12, 13: the file by its path, its name in either form
+for name in "$composed" "$decomposed"; do
+    fetch "$base/uri/$outer/down/$(json escape "$name")"
+    test "$status" = 200 || fail "a path is answered $status"
+    cmp "$folder/file" "$folder/back" || fail 'other bytes by a path'
+done
+
+# 14 to 17: paths that lead nowhere
+refused "$base/uri/$outer/up" '404 no such child'
+refused "$base/uri/$outer/down/short/x" '400 not a directory'
+refused "$base/uri/$outer/down" '400 directory needs t=json'
+refused "$base/uri/$outer/%zz" '400 bad escape'
+
+# 18 to 20: ranges at the front, over the end of a segment, and at the end
+for range in '0-99 0 99' '131000-131200 131000 131200' '-1000 999000 999999'; do
+    set -- $range
+    fetch -r "$1" "$base/uri/$cap"
+    test "$status" = 206 || fail "the range $1 is answered $status"
+    test "$(field Content-Range)" = "bytes $2-$3/1000000" || fail "the range $1 is $(field Content-Range)"
+    tail -c "+$(($2 + 1))" "$folder/file" | head -c "$(($3 - $2 + 1))" | cmp - "$folder/back" || fail "other bytes for the range $1"
+done
+
+# 21: a range past the end
+fetch -r 1000000- "$base/uri/$cap"
+test "$status $(cat "$folder/back")" = '416 range not satisfiable' || fail "a range past the end is answered $status"
+test "$(field Content-Range)" = 'bytes */1000000' || fail "a range past the end is told $(field Content-Range)"
+
+# 22, 23: heads alone, of a file and of its JSON
+$curl -I "$base/uri/$cap" > "$folder/back"
+printf 'HTTP/1.1 200 OK\r\nContent-Type: application/octet-stream\r\nContent-Length: 1000000\r\n\r\n' | cmp - "$folder/back" || fail 'the head of a file'
+$curl -I "$base/uri/URI:LIT:mzxw6ytboi?t=json" > "$folder/back"
+printf 'HTTP/1.1 200 OK\r\nContent-Type: application/json\r\nContent-Length: 69\r\n\r\n' | cmp - "$folder/back" || fail 'the head of JSON'
+
+# 24, 25: a download that was cut is gone on with, and one that is whole is left
+head -c 400001 "$folder/file" > "$folder/cut"
+wget --continue --server-response --tries=1 --timeout=30 -O "$folder/cut" "$base/uri/$cap" 2> "$folder/words_of_wget" || fail 'wget got no rest'
+grep -q 'Content-Range: bytes 400001-999999/1000000' "$folder/words_of_wget" || fail "wget didn't ask for the rest"
+cmp "$folder/file" "$folder/cut" || fail 'the rest has other bytes'
+wget --continue --quiet --tries=1 --timeout=30 -O "$folder/cut" "$base/uri/$cap" || fail "wget isn't content with a whole file"
+cmp "$folder/file" "$folder/cut" || fail 'a whole file was changed'
+
+# 26 to 28: JSON of a file, of a directory, and of a node at the end of a path
+fetch "$base/uri/$cap?t=json"
+test "$status $(field Content-Type)" = '200 application/json' || fail "t=json is answered $status, $(field Content-Type)"
+json file "$folder/back" "$cap" || fail 'the JSON of a file'
+fetch "$base/uri/$inner?t=json"
+json directory "$folder/back" "$inner" "$decomposed=$cap" short=URI:LIT:mzxw6 none=URI:DIR2-LIT: || fail 'the JSON of a directory'
+fetch "$base/uri/$outer/down/short?t=json"
+json file "$folder/back" URI:LIT:mzxw6 || fail 'the JSON of a child'
+
+# 29 to 32: checks of a file, of a directory by its path, of a verify cap, and of what is in its cap
+verify=$(json verify "$cap")
+fetch -X POST "$base/uri/$cap?t=check&output=JSON"
+test "$status $(field Content-Type)" = '200 application/json' || fail "a check is answered $status, $(field Content-Type)"
+json check "$folder/back" "$cap" || fail 'the check of a file'
+fetch -X POST "$base/uri/$outer/down?t=check&output=JSON&verify=true"
+json check "$folder/back" "$inner" || fail 'the check of a directory'
+fetch -X POST "$base/uri/$verify?t=check&output=JSON&verify=true"
+json check "$folder/back" "$verify" || fail 'the check of a verify cap'
+fetch -X POST "$base/uri/URI:LIT:mzxw6?t=check&output=JSON&verify=true"
+json check "$folder/back" URI:LIT:mzxw6 || fail 'the check of what is in its cap'
+
+# 33: a verify cap gives no bytes
+refused "$base/uri/$verify" '400 not a readable cap'
+
+# 34: a method that is none of the target's
+fetch -X DELETE "$base/uri"
+test "$status $(field Allow)" = '405 POST, PUT' || fail "another method is answered $status, $(field Allow)"
 
 wait "$server" || fail "the program's status is $?"
 server=
