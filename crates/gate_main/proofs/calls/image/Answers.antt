@@ -8,5 +8,5 @@ returns-in-Ok c = imaged c.args.gateway.now c.image.new.self c.image.ensures.lef
 pub returns : goal.returns
 returns c =
     MatchResult-weaker c.grid_refused.result c.grid_refused.ensures
-    (λ reply is. image_refused c.args.gateway.now c.image.new.self c.image.ensures.left c.image.ensures.came c.fault reply is.0)
+    (λ reply is. image_refused c.args.gateway.now c.image.new.self c.image.ensures.left c.image.ensures.came c.before.before.in-Err.fault reply is.0)
     (λ _ _. tt)
