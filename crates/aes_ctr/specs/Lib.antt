@@ -7,3 +7,4 @@ pub mod Cipher
 pub mod Words
 pub mod Keystream
 pub mod Crypt
+pub mod Groups

@@ -1,12 +1,13 @@
 //! A key and its keystream.
 
-ghost use Rattle.std.specs.Prelude.{◌≡◌, ℕ, ◌+◌, ◌*◌, ◌/◌, ◌%◌, ◌^◌, ◌<◌, ◌≤◌, List, length, bit_xor, slice_index, EachIndex};
+ghost use Rattle.std.specs.Prelude.{◌≡◌, ℕ, ◌+◌, ◌*◌, ◌/◌, ◌%◌, ◌^◌, ◌<◌, ◌≤◌, List, [], ◌∷◌, length, bit_xor, slice_index, EachIndex};
 ghost use Rattle.aes_ctr.specs.Cipher.{encrypt};
 ghost use Rattle.aes_ctr.specs.Words.{columns, word_byte};
 ghost use Rattle.aes_ctr.specs.Keystream.{counter_block};
 ghost use Rattle.aes_ctr.specs.Crypt.{crypt_from};
+ghost use Rattle.aes_ctr.specs.Groups.{ServeBlocks, two_rounds};
 
-use crate::rounds::encrypted;
+use crate::group::Group;
 use crate::schedule::expanded;
 use std::marker::Model;
 
@@ -50,20 +51,39 @@ impl Key {
         let mut done = 0;
         while done < bytes.len() {
             let place = offset + done as u64;
-            let skip = (place % 16) as usize;
-            let end = bytes.len().min(done + (16 - skip));
-            self.apply_in_block(place, &mut bytes[done..end]);
+            let skip = (place % 4096) as usize;
+            let end = bytes.len().min(done + (4096 - skip));
+            self.apply_in_group(place, &mut bytes[done..end]);
             done = end;
         }
     }
 
-    /// `apply` to bytes whose places are in one block of the keystream.
-    #[inline(always)]
-    fn apply_in_block(&self, place: u64, bytes: &mut [u8])
-        requires { place % 16 + length bytes.old ≤ 16 }
+    /// `apply` to bytes whose places are in one group of 256 blocks of the keystream.
+    fn apply_in_group(&self, place: u64, bytes: &mut [u8])
+        requires fits { place + length bytes.old < 2 ^ 64 }
+        requires within { place % 4096 + length bytes.old ≤ 4096 }
         ensures { bytes.new ≡ crypt_from self.now place bytes.old }
     {
-        let words = self.block(place / 16);
+        let group = self.group(place / 16);
+        let mut done = 0;
+        while done < bytes.len() {
+            let at = place + done as u64;
+            let skip = (at % 16) as usize;
+            let end = bytes.len().min(done + (16 - skip));
+            self.apply_in_block(&group, at, &mut bytes[done..end]);
+            done = end;
+        }
+    }
+
+    /// `apply` to bytes whose places are in one block of a group.
+    #[inline(always)]
+    fn apply_in_block(&self, group: &Group, place: u64, bytes: &mut [u8])
+        requires serves { ServeBlocks self.now (place / 16 / 256)
+            (two_rounds group.now.key group.now.first group.now.second) }
+        requires within { place % 16 + length bytes.old ≤ 16 }
+        ensures { bytes.new ≡ crypt_from self.now place bytes.old }
+    {
+        let words = self.block(group, place / 16);
         if bytes.len() == 16 {
             add_words(bytes, words);
         } else {
@@ -71,19 +91,29 @@ impl Key {
         }
     }
 
-    /// Block `number` of the keystream.
+    /// The group of block `number` of the keystream.
+    fn group(&self, number: u64) -> Group
+        ensures { ServeBlocks self.now (number / 256)
+            (two_rounds result.key result.first result.second) }
+    {
+        Group::new(&self.round_keys, counter_words(number))
+    }
+
+    /// Block `number` of the keystream, which is one of a group.
     #[inline(always)]
-    fn block(&self, number: u64) -> [u32; 4]
+    fn block(&self, group: &Group, number: u64) -> [u32; 4]
+        requires { ServeBlocks self.now (number / 256)
+            (two_rounds group.now.key group.now.first group.now.second) }
         ensures { columns result ≡ encrypt self.now (counter_block number) }
     {
-        encrypted(&self.round_keys, counter_words(number))
+        group.encrypted(&self.round_keys, (number % 0x1_0000_0000) as u32)
     }
 }
 
 /// Counter block `number`.
 #[inline(always)]
 fn counter_words(number: u64) -> [u32; 4]
-    ensures { columns result ≡ counter_block number }
+    ensures { result ≡ 0 ∷ 0 ∷ number / 2 ^ 32 ∷ number % 2 ^ 32 ∷ [] }
 {
     [0, 0, (number >> 32) as u32, (number % 0x1_0000_0000) as u32]
 }

@@ -4,6 +4,8 @@
 //! both encrypts and decrypts, whole or piece by piece. No call takes memory.
 #![tactic(auto)]
 
+// What 256 blocks in a row have in common.
+mod group;
 // A key, and its keystream added to bytes.
 mod key;
 // What holds of bytes under a keystream.

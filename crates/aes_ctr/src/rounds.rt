@@ -4,8 +4,9 @@ ghost use Rattle.std.specs.Prelude.{◌≡◌, ℕ, ◌<◌, List, [], ◌∷◌
 ghost use Rattle.aes_ctr.specs.Field.{times};
 ghost use Rattle.aes_ctr.specs.SBox.{s_box};
 ghost use Rattle.aes_ctr.specs.Rounds.{sub_bytes, shift_rows, mix_columns, mixed, add_round_key};
-ghost use Rattle.aes_ctr.specs.Cipher.{encrypt};
+ghost use Rattle.aes_ctr.specs.Cipher.{after_rounds, encrypt};
 ghost use Rattle.aes_ctr.specs.Words.{word_bytes, word_byte, columns, AreRoundKeys};
+ghost use Rattle.aes_ctr.specs.Groups.{row_0, row_1, row_2, row_3, column_word};
 
 use crate::schedule::sub;
 use crate::tables::{FROM_ROW_0, FROM_ROW_1, FROM_ROW_2, FROM_ROW_3};
@@ -13,32 +14,36 @@ use crate::tables::{FROM_ROW_0, FROM_ROW_1, FROM_ROW_2, FROM_ROW_3};
 /// What the byte in the first row of a word adds to the column that SubBytes and MixColumns make. So the next three
 /// do for the other rows.
 #[inline(always)]
-fn from_row_0(word: u32) -> u32
-    ensures { let s = s_box (word_byte word 0) in word_bytes result
+pub(crate) fn from_row_0(word: u32) -> u32
+    ensures word { result ≡ row_0 word }
+    ensures bytes { let s = s_box (word_byte word 0) in word_bytes result
         ≡ times 2 s ∷ s ∷ s ∷ times 3 s ∷ [] }
 {
     FROM_ROW_0[((word >> 24) % 256) as usize]
 }
 
 #[inline(always)]
-fn from_row_1(word: u32) -> u32
-    ensures { let s = s_box (word_byte word 1) in word_bytes result
+pub(crate) fn from_row_1(word: u32) -> u32
+    ensures word { result ≡ row_1 word }
+    ensures bytes { let s = s_box (word_byte word 1) in word_bytes result
         ≡ times 3 s ∷ times 2 s ∷ s ∷ s ∷ [] }
 {
     FROM_ROW_1[((word >> 16) % 256) as usize]
 }
 
 #[inline(always)]
-fn from_row_2(word: u32) -> u32
-    ensures { let s = s_box (word_byte word 2) in word_bytes result
+pub(crate) fn from_row_2(word: u32) -> u32
+    ensures word { result ≡ row_2 word }
+    ensures bytes { let s = s_box (word_byte word 2) in word_bytes result
         ≡ s ∷ times 3 s ∷ times 2 s ∷ s ∷ [] }
 {
     FROM_ROW_2[((word >> 8) % 256) as usize]
 }
 
 #[inline(always)]
-fn from_row_3(word: u32) -> u32
-    ensures { let s = s_box (word_byte word 3) in word_bytes result
+pub(crate) fn from_row_3(word: u32) -> u32
+    ensures word { result ≡ row_3 word }
+    ensures bytes { let s = s_box (word_byte word 3) in word_bytes result
         ≡ s ∷ s ∷ times 3 s ∷ times 2 s ∷ [] }
 {
     FROM_ROW_3[(word % 256) as usize]
@@ -46,8 +51,9 @@ fn from_row_3(word: u32) -> u32
 
 /// A column after a round, from the words that ShiftRows takes its four bytes from.
 #[inline(always)]
-fn column(a: u32, b: u32, c: u32, d: u32, key: u32) -> u32
-    ensures { let s = s_box (word_byte a 0) in
+pub(crate) fn column(a: u32, b: u32, c: u32, d: u32, key: u32) -> u32
+    ensures word { result ≡ column_word a b c d key }
+    ensures bytes { let s = s_box (word_byte a 0) in
         let t = s_box (word_byte b 1) in
         let u = s_box (word_byte c 2) in
         let v = s_box (word_byte d 3) in
@@ -57,6 +63,35 @@ fn column(a: u32, b: u32, c: u32, d: u32, key: u32) -> u32
         ∷ [] }
 {
     from_row_0(a) ^ from_row_1(b) ^ from_row_2(c) ^ from_row_3(d) ^ key
+}
+
+/// A column after a round but for what its byte in the first row adds. So the next three are for the other rows.
+#[inline(always)]
+pub(crate) fn column_but_row_0(b: u32, c: u32, d: u32, key: u32) -> u32
+    ensures { result ≡ bit_xor (bit_xor (bit_xor (row_1 b) (row_2 c)) (row_3 d)) key }
+{
+    from_row_1(b) ^ from_row_2(c) ^ from_row_3(d) ^ key
+}
+
+#[inline(always)]
+pub(crate) fn column_but_row_1(a: u32, c: u32, d: u32, key: u32) -> u32
+    ensures { result ≡ bit_xor (bit_xor (bit_xor (row_0 a) (row_2 c)) (row_3 d)) key }
+{
+    from_row_0(a) ^ from_row_2(c) ^ from_row_3(d) ^ key
+}
+
+#[inline(always)]
+pub(crate) fn column_but_row_2(a: u32, b: u32, d: u32, key: u32) -> u32
+    ensures { result ≡ bit_xor (bit_xor (bit_xor (row_0 a) (row_1 b)) (row_3 d)) key }
+{
+    from_row_0(a) ^ from_row_1(b) ^ from_row_3(d) ^ key
+}
+
+#[inline(always)]
+pub(crate) fn column_but_row_3(a: u32, b: u32, c: u32, key: u32) -> u32
+    ensures { result ≡ bit_xor (bit_xor (bit_xor (row_0 a) (row_1 b)) (row_2 c)) key }
+{
+    from_row_0(a) ^ from_row_1(b) ^ from_row_2(c) ^ key
 }
 
 /// A column after the last round, which mixes no columns.
@@ -75,14 +110,6 @@ fn last_column(a: u32, b: u32, c: u32, d: u32, key: u32) -> u32
         sub((d % 256) as u8),
     ];
     u32::from_be_bytes(bytes) ^ key
-}
-
-/// The sum with a round key.
-#[inline(always)]
-fn with_key(s: [u32; 4], key: &[u32; 4]) -> [u32; 4]
-    ensures { columns result ≡ add_round_key (columns s) (columns key.now) }
-{
-    [s[0] ^ key[0], s[1] ^ key[1], s[2] ^ key[2], s[3] ^ key[3]]
 }
 
 /// A whole round.
@@ -115,14 +142,14 @@ fn last_round(s: [u32; 4], key: &[u32; 4]) -> [u32; 4]
     ]
 }
 
-/// The encryption of a block by the round keys of a key.
+/// The encryption of a block from its state after two rounds on, by the round keys of a key.
 #[inline(always)]
-pub(crate) fn encrypted(keys: &[[u32; 4]; 11], block: [u32; 4]) -> [u32; 4]
-    ensures { (key : List ℕ) → AreRoundKeys key keys.now
-        → columns result ≡ encrypt key (columns block) }
+pub(crate) fn encrypted_from_two(keys: &[[u32; 4]; 11], state: [u32; 4]) -> [u32; 4]
+    ensures { (key block : List ℕ) → AreRoundKeys key keys.now
+        → columns state ≡ after_rounds key block 2 → columns result ≡ encrypt key block }
 {
-    let mut s = with_key(block, &keys[0]);
-    for n in 1..10 {
+    let mut s = state;
+    for n in 3..10 {
         let next = round(s, &keys[n]);
         s = next;
     }

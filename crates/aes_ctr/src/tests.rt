@@ -1,10 +1,11 @@
 //! Keys, bytes and keystreams that other programs and the standards give.
 
 use crate::Key;
+use crate::group::Group;
 use crate::key::bytes_of;
-use crate::rounds::encrypted;
 use crate::schedule::{expanded, words_of};
 use std::alloc::Global;
+use std::process::Abort;
 use std::test::Fail;
 
 /// The 16 bytes of a text in hex.
@@ -78,18 +79,97 @@ const OPENSSL: [(&str, u64, &str, &str); 10] = [
     ),
 ];
 
+/// The same at and about the ends of groups of 256 blocks: blocks 255, 256 and 257, 65535 and 65536, and those where the
+/// third byte, the fourth and the sixth of a counter begin to change.
+const ACROSS_GROUPS: [(&str, u64, &str, &str); 9] = [
+    (
+        "c8b7061a7a6d55b7bf8857da1dd4cef0",
+        4080,
+        "397ecb5c451da48ac539e5420222c71289d72d35b4bbeab0008506b6f0d95114c99f2e0a3f8f242fa1fc87cd73537d8a",
+        "0d2eded1be87cf0623f6c5c8d211625b272549d7af8d86c6a9ff984c8035a7f008cd9a7b4d7f6b2009b642ffe242d0d3",
+    ),
+    (
+        "b9255a255c72e5e91ac2553351f34140",
+        4087,
+        "996478decfb6dee5e253666f01d73a3ce497a76b5a009981fd8cb1663ae075008b",
+        "9065a52e633604998113bfd709bf893d83d11eaac4b1ccb6dd64d2c5ffe04b22bb",
+    ),
+    (
+        "5784f333246befbfe7a4ba0ad1551686",
+        4096,
+        "97f17f6f8cdfea80d59abb84aaa2098c9ae7050c0d2cd19011f9efce3680b946",
+        "5f9c68e3f6dd53f38021ed812befc2c1d66ec7376afc7197e00aad77ec9aea2a",
+    ),
+    (
+        "4157806170afadac5f4281da30e86c84",
+        4115,
+        "eee84b7127d77348da7991fddce9d9b2",
+        "d53dd4f4ce5f8cf11148fd40ca26e707",
+    ),
+    (
+        "2d59b74719c14ac363530db82c5f00fd",
+        1048560,
+        "8a165bd5eab79f0a90c4d52c6faab079330ed62c7be63ad31b5400dece221a60",
+        "dbc27579d036a6524e09918863eb3454eaeb5863fe9fa0835d41982f7d166647",
+    ),
+    (
+        "5772424470be1bde0d9700471b351f4f",
+        268435448,
+        "adb67af27e1de78d0a739fcb5d13bb3c5cc58c205440ceed",
+        "00b3d2bae731ba1424abede0822b5aa2b7a506fbe835bc70",
+    ),
+    (
+        "ef84204fac74d49693c483ff37b893fe",
+        68719476733,
+        "7e1889e44d548f0ac8a1392acbcfec663bf39ee4b5",
+        "43589d1401b14bd34a06bcdbb4382d1f51f7dfb310",
+    ),
+    (
+        "52867f9fe70cd765122bb420f6220e8c",
+        68719476736,
+        "2775134d2edd410e83330a60807030a0",
+        "d2b19fc5e4299c48c11142226a80625f",
+    ),
+    (
+        "aa3d7d6fd99e654031145eb71e2a5b7c",
+        17592186044400,
+        "64046fc3b88ce9194cd93382c621d0b815162649c9173a65e34f6d8824210519",
+        "7ed8d0e63579533d5549b45c1e73f7e6c72a5b6c64edea143ec23da0c385fb56",
+    ),
+];
+
 #[test]
 fn openssl_makes_the_same_bytes(rt: HostRuntime) -> Result<(), Fail> {
     for (key, offset, bytes, want) in OPENSSL {
-        let mut got = hex::decode(rt.alloc(), bytes)?;
-        assert!(rt; u64::MAX - offset >= got.len() as u64);
-        Key::new(sixteen(rt.alloc(), key)?).apply(offset, &mut got);
-        assert_eq!(rt;
-            got.as_slice(),
-            hex::decode(rt.alloc(), want)?.as_slice(),
-            "at {offset}"
-        );
+        same_bytes(&rt, key, offset, bytes, want)?;
     }
+    Ok(())
+}
+
+#[test]
+fn openssl_makes_the_same_bytes_across_groups(rt: HostRuntime) -> Result<(), Fail> {
+    for (key, offset, bytes, want) in ACROSS_GROUPS {
+        same_bytes(&rt, key, offset, bytes, want)?;
+    }
+    Ok(())
+}
+
+/// Applies a key at an offset, and compares.
+fn same_bytes(
+    rt: &(impl Abort + AllocGlobal),
+    key: &str,
+    offset: u64,
+    bytes: &str,
+    want: &str,
+) -> Result<(), Fail> {
+    let mut got = hex::decode(rt.alloc(), bytes)?;
+    assert!(rt; u64::MAX - offset >= got.len() as u64);
+    Key::new(sixteen(rt.alloc(), key)?).apply(offset, &mut got);
+    assert_eq!(rt;
+        got.as_slice(),
+        hex::decode(rt.alloc(), want)?.as_slice(),
+        "at {offset}"
+    );
     Ok(())
 }
 
@@ -128,7 +208,8 @@ const EXAMPLES: [(&str, &str, &str); 2] = [
 fn the_examples_of_the_standard_are_encrypted(rt: HostRuntime) -> Result<(), Fail> {
     for (key, block, want) in EXAMPLES {
         let keys = expanded(sixteen(rt.alloc(), key)?);
-        let got = bytes_of(encrypted(&keys, words_of(sixteen(rt.alloc(), block)?)));
+        let words = words_of(sixteen(rt.alloc(), block)?);
+        let got = bytes_of(Group::new(&keys, words).encrypted(&keys, words[3]));
         assert_eq!(rt; got, sixteen(rt.alloc(), want)?);
     }
     Ok(())
@@ -162,7 +243,8 @@ const COUNTER_MODE: [(&str, &str, &str); 4] = [
 fn the_counter_mode_example_is_encrypted(rt: HostRuntime) -> Result<(), Fail> {
     let keys = expanded(sixteen(rt.alloc(), "2b7e151628aed2a6abf7158809cf4f3c")?);
     for (counter, plaintext, want) in COUNTER_MODE {
-        let mut got = bytes_of(encrypted(&keys, words_of(sixteen(rt.alloc(), counter)?)));
+        let words = words_of(sixteen(rt.alloc(), counter)?);
+        let mut got = bytes_of(Group::new(&keys, words).encrypted(&keys, words[3]));
         for (x, y) in got.iter_mut().zip(sixteen(rt.alloc(), plaintext)?.iter()) {
             *x ^= *y;
         }

@@ -1,11 +1,12 @@
-use Rattle.std.proofs.Common.{◌/◌, ◌%◌, ◌^◌, ◌<◌, arith}
-use Rattle.aes_ctr.specs.Words.{word_byte, word_bytes}
-use Rattle.aes_ctr.proofs.TableLemmas.{from_row_0_of}
+use Rattle.std.proofs.Common.{refl}
+use Rattle.aes_ctr.specs.Groups.{row_0}
+use Rattle.aes_ctr.proofs.GroupLemmas.{row_0_bytes}
 use Rattle.aes_ctr.proofs.rounds.from_row_0.Goals as goal
 
-pub returns : goal.returns
-unfolding word_byte word_bytes
-returns c =
-    let x = c.args.word / 2 ^ 24 % 256 in
-    let within : x < 256 = omega arith in
-    from_row_0_of x within
+pub returns-clause-word : goal.returns-clause-word
+unfolding row_0
+returns-clause-word c = refl
+
+pub returns-clause-bytes : goal.returns-clause-bytes
+unfolding row_0
+returns-clause-bytes c = row_0_bytes c.args.word

@@ -1,11 +1,12 @@
-use Rattle.std.proofs.Common.{◌/◌, ◌%◌, ◌^◌, ◌<◌, arith}
-use Rattle.aes_ctr.specs.Words.{word_byte, word_bytes}
-use Rattle.aes_ctr.proofs.TableLemmas.{from_row_1_of}
+use Rattle.std.proofs.Common.{refl}
+use Rattle.aes_ctr.specs.Groups.{row_1}
+use Rattle.aes_ctr.proofs.GroupLemmas.{row_1_bytes}
 use Rattle.aes_ctr.proofs.rounds.from_row_1.Goals as goal
 
-pub returns : goal.returns
-unfolding word_byte word_bytes
-returns c =
-    let x = c.args.word / 2 ^ 16 % 256 in
-    let within : x < 256 = omega arith in
-    from_row_1_of x within
+pub returns-clause-word : goal.returns-clause-word
+unfolding row_1
+returns-clause-word c = refl
+
+pub returns-clause-bytes : goal.returns-clause-bytes
+unfolding row_1
+returns-clause-bytes c = row_1_bytes c.args.word

@@ -1,11 +1,12 @@
-use Rattle.std.proofs.Common.{◌/◌, ◌%◌, ◌^◌, ◌<◌, arith}
-use Rattle.aes_ctr.specs.Words.{word_byte, word_bytes}
-use Rattle.aes_ctr.proofs.TableLemmas.{from_row_2_of}
+use Rattle.std.proofs.Common.{refl}
+use Rattle.aes_ctr.specs.Groups.{row_2}
+use Rattle.aes_ctr.proofs.GroupLemmas.{row_2_bytes}
 use Rattle.aes_ctr.proofs.rounds.from_row_2.Goals as goal
 
-pub returns : goal.returns
-unfolding word_byte word_bytes
-returns c =
-    let x = c.args.word / 2 ^ 8 % 256 in
-    let within : x < 256 = omega arith in
-    from_row_2_of x within
+pub returns-clause-word : goal.returns-clause-word
+unfolding row_2
+returns-clause-word c = refl
+
+pub returns-clause-bytes : goal.returns-clause-bytes
+unfolding row_2
+returns-clause-bytes c = row_2_bytes c.args.word

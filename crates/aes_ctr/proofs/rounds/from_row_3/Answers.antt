@@ -1,11 +1,12 @@
-use Rattle.std.proofs.Common.{◌%◌, ◌<◌, arith}
-use Rattle.aes_ctr.specs.Words.{word_byte, word_bytes}
-use Rattle.aes_ctr.proofs.TableLemmas.{from_row_3_of}
+use Rattle.std.proofs.Common.{refl}
+use Rattle.aes_ctr.specs.Groups.{row_3}
+use Rattle.aes_ctr.proofs.GroupLemmas.{row_3_bytes}
 use Rattle.aes_ctr.proofs.rounds.from_row_3.Goals as goal
 
-pub returns : goal.returns
-unfolding word_byte word_bytes
-returns c =
-    let x = c.args.word % 256 in
-    let within : x < 256 = omega arith in
-    from_row_3_of x within
+pub returns-clause-word : goal.returns-clause-word
+unfolding row_3
+returns-clause-word c = refl
+
+pub returns-clause-bytes : goal.returns-clause-bytes
+unfolding row_3
+returns-clause-bytes c = row_3_bytes c.args.word

@@ -5,4 +5,4 @@ use Rattle.aes_ctr.proofs.rounds.round.Goals as goal
 
 pub returns : goal.returns
 unfolding sub_bytes shift_rows mix_columns add_round_key columns word_byte word_bytes
-returns c = join_4 c.column.ensures c.column-2.ensures c.column-3.ensures c.column-4.ensures
+returns c = join_4 c.column.ensures.bytes c.column-2.ensures.bytes c.column-3.ensures.bytes c.column-4.ensures.bytes

@@ -22,5 +22,5 @@ loop-done-preserved c =
     let more = crypt_from_more key p bs now i j low high c.loop-done.invariant.so_far in
     record {
       within = high;
-      so_far = ap (λ (w : List ℕ). take i now ++ (w ++ drop (j - i) (drop i now))) c.apply_in_block.ensures ∙ more;
+      so_far = ap (λ (w : List ℕ). take i now ++ (w ++ drop (j - i) (drop i now))) c.apply_in_group.ensures ∙ more;
     }

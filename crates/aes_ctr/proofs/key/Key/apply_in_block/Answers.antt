@@ -11,7 +11,7 @@ returns-then-bytes-eq16 c =
     let p = c.args.place in
     let bytes = c.args.bytes.now in
     let whole : length bytes ≡ 16 = c.if-bytes-eq16.true in
-    crypt_from_block key p bytes c.add_words.new.block c.add_words.auto.block c.requires (λ i h.
+    crypt_from_block key p bytes c.add_words.new.block c.add_words.auto.block c.requires.within (λ i h.
     let at : i ≡ p % 16 + i = omega arith in
     c.add_words.ensures i (omega arith)
     ∙ ap (λ (l : List ℕ). bit_xor (get_or bytes i 0) (get_or l i 0)) c.block-words.ensures
@@ -23,7 +23,7 @@ returns-else-bytes-eq16 c =
     let p = c.args.place in
     let bytes = c.args.bytes.now in
     let stream_is = c.bytes_of.ensures ∙ c.block-words.ensures in
-    crypt_from_block key p bytes c.add.new.bytes c.add.auto.bytes c.requires (λ i h.
+    crypt_from_block key p bytes c.add.new.bytes c.add.auto.bytes c.requires.within (λ i h.
     let within : i < 16 - p % 16 = omega arith in
     c.add.ensures i h
     ∙ ap (bit_xor (get_or bytes i 0))

@@ -1,5 +1,5 @@
-use Rattle.std.proofs.Common.{ℕ, List, [], get_or, ap, ◌∙◌}
-use Rattle.aes_ctr.specs.Cipher.{encrypt}
+use Rattle.std.proofs.Common.{ℕ, List, [], get_or, refl, ap, sym, ◌∙◌}
+use Rattle.aes_ctr.specs.Cipher.{after_rounds, encrypt}
 use Rattle.aes_ctr.specs.Keystream.{counter_block}
 use Rattle.aes_ctr.specs.Words.{columns}
 use Rattle.aes_ctr.proofs.key.Key.block.Goals as goal
@@ -7,5 +7,7 @@ use Rattle.aes_ctr.proofs.key.Key.block.Goals as goal
 pub returns : goal.returns
 returns c =
     let key = columns (get_or c.self.inside.round_keys 0 []) in
-    c.encrypted.ensures key c.self.invariant ∙ ap (encrypt key) c.counter_words.ensures
-    ∙ ap (λ (k : List ℕ). encrypt k (counter_block c.args.number)) c.self.view_is
+    let block = counter_block c.args.number in
+    let two = c.requires c.args.number c.ranges.number.fits refl
+    ∙ ap (λ (k : List ℕ). after_rounds k block 2) (sym c.self.view_is) in
+    c.encrypted.ensures key block c.self.invariant two ∙ ap (λ (k : List ℕ). encrypt k block) c.self.view_is
