@@ -1,7 +1,11 @@
 -- A queue that is taken from its front.
-use Rattle.std.proofs.Common.{◌≡◌, ℕ, ◌≤◌, List, [], length, drop, ap, arith, ◌↔◌, IsTrue}
+use Rattle.std.proofs.Common.{◌≡◌, ℕ, ◌≤◌, ◌+◌, ◌-◌, List, [], ◌∷◌, ◌++◌, length, take, drop, min, sym, ap, ◌∙◌, ⊎_elim, arith, ◌↔◌, Bool, true, false, IsTrue, refl, append-nil, append_assoc}
+use Rattle.http_edge.specs.declared.reply.Reply.{Reply}
+use Rattle.http_edge.specs.Reply.{rendered}
 use Rattle.std.specs.Prelude.{nat_eq}
-use Rattle.std.proofs.lemmas.List.{length-drop, drop_all}
+use Rattle.std.proofs.Math.Seq.{take-append-add, drop-append-add}
+use Rattle.std.proofs.lemmas.List.{length-take, length-drop, take_all, drop_all, take-append-le, drop-append-le}
+use Rattle.std.proofs.lemmas.Bool.{cases_lt}
 use Rattle.std.proofs.lemmas.Bool.Decides.{nat_tests}
 
 nothing_left : (n : ℕ) (xs : List ℕ) → IsTrue (nat_eq n (length xs)) → drop n xs ≡ []
@@ -13,5 +17,56 @@ all_given n xs within none = let l = length-drop n xs in let z = ap length none 
 pub is_empty_iff : (n m : ℕ) (xs : List ℕ) → m ≡ length xs → n ≤ length xs → IsTrue (nat_eq n m) ↔ (drop n xs ≡ [])
 is_empty_iff n m xs is within = rw is (nothing_left n xs, all_given n xs within)
 
-pub none_there : (xs : List ℕ) → IsTrue (nat_eq (length xs) 0) → xs ≡ []
-none_there xs none = drop_all 0 xs (grind (arith, nat_tests))
+nil_front : (a b : List ℕ) → a ++ b ≡ [] → a ≡ []
+nil_front [] b none = refl
+nil_front (x ∷ a) b none = cc
+
+-- two queues where something waits in the first
+pub some_in_front : (a b : List ℕ) (first : Bool) → first ≡ false → IsTrue first ↔ (a ≡ []) → IsTrue first ↔ (a ++ b ≡ [])
+some_in_front a b first some is = (λ yes. let never : false ≡ true = rw some at yes in cc, λ none. is.1 (nil_front a b none))
+
+-- what is taken of two queues, one behind the other
+pub take_both : (n : ℕ) (a b x y : List ℕ) → x ≡ take n a → y ≡ take (n - length x) b → x ++ y ≡ take n (a ++ b)
+take_both n a b x y front back =
+    ⊎_elim
+    (λ short.
+    let long : length x ≡ n = omega (arith, ap length front, length-take n a) in
+    let nothing : n - length x ≡ 0 = omega arith in
+    let none : y ≡ [] = back ∙ ap (λ (k : ℕ). take k b) nothing in
+    ap (λ (r : List ℕ). x ++ r) none ∙ append-nil x ∙ front ∙ sym (take-append-le n a b (omega arith)))
+    (λ full.
+    let whole : x ≡ a = front ∙ take_all n a full in
+    let over : length a + (n - length a) ≡ n = omega arith in
+    ap (λ (r : List ℕ). x ++ r) back ∙ ap (λ (r : List ℕ). r ++ take (n - length r) b) whole ∙ sym (take-append-add a b (n - length a))
+    ∙ ap (λ (k : ℕ). take k (a ++ b)) over)
+    (cases_lt n (length a))
+
+same_rest : (n m : ℕ) (xs : List ℕ) → m ≡ min n (length xs) → drop m xs ≡ drop n xs
+same_rest n m xs is =
+    ⊎_elim
+    (λ short. ap (λ (k : ℕ). drop k xs) (omega arith))
+    (λ full. drop_all m xs (omega arith) ∙ sym (drop_all n xs full))
+    (cases_lt n (length xs))
+
+-- what they have left
+pub drop_both : (n : ℕ) (a b x y : List ℕ) → x ≡ take n a → y ≡ take (n - length x) b → drop (length x) a ++ drop (length y) b ≡ drop n (a ++ b)
+drop_both n a b x y front back =
+    ⊎_elim
+    (λ short.
+    let long : length x ≡ n = omega (arith, ap length front, length-take n a) in
+    let none : length y ≡ 0 = omega (arith, ap length back, length-take (n - length x) b) in
+    ap (λ (k : ℕ). drop (length x) a ++ drop k b) none ∙ ap (λ (k : ℕ). drop k a ++ b) long ∙ sym (drop-append-le n a b (omega arith)))
+    (λ full.
+    let whole : x ≡ a = front ∙ take_all n a full in
+    let over : length a + (n - length a) ≡ n = omega arith in
+    let size : length x ≡ length a = ap length whole in
+    let gone : drop (length x) a ≡ [] = drop_all (length x) a (omega arith) in
+    ap (λ (r : List ℕ). r ++ drop (length y) b) gone ∙ same_rest (n - length a) (length y) b (omega (arith, ap length back, length-take (n - length x) b))
+    ∙ sym (drop-append-add a b (n - length a)) ∙ ap (λ (k : ℕ). drop k (a ++ b)) over)
+    (cases_lt n (length a))
+
+-- a reply whose body is put behind its head
+pub reply_moved : (reply : Reply) (a b joined headed body : List ℕ) (head_only close : Bool) → head_only ≡ false → joined ≡ a ++ b
+    → headed ≡ joined ++ rendered reply true close → body ≡ reply.body → headed ++ body ≡ (a ++ b) ++ rendered reply head_only close
+unfolding rendered
+reply_moved reply a b joined headed body head_only close whole together head moved = rw (whole, head, together, moved) (simp (append_assoc, append-nil))

@@ -10,6 +10,8 @@ mod parameters;
 mod answerer;
 /// Replies as they are sent.
 mod wire;
+/// Bytes that are taken from the front of a buffer.
+mod queue;
 /// Bytes that wait to be taken.
 mod output;
 /// Answering items over a grid.

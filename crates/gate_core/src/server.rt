@@ -52,11 +52,11 @@ fn serve<S: Store>(
             let head_only = asks_head(&head);
             let given = answer(alloc, parameters, grid, head, body)?;
             let reply = wired(alloc, given)?;
-            output.push_reply(&reply, head_only, close)
+            output.push_reply(reply, head_only, close)
         }
         Item::Fault { fault, head_only } => {
             let reply = framing_reply(alloc, fault)?;
-            output.push_reply(&reply, head_only, true)
+            output.push_reply(reply, head_only, true)
         }
     }
 }

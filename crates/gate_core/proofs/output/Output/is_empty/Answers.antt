@@ -1,8 +1,5 @@
-use Rattle.std.proofs.Common.{◌≡◌, length, arith}
-use Rattle.gate_core.proofs.Queues.{is_empty_iff}
+use Rattle.gate_core.proofs.Queues.{some_in_front}
 use Rattle.gate_core.proofs.output.Output.is_empty.Goals as goal
 
-pub returns : goal.returns
-returns c =
-    let same : c.len.result ≡ length c.self.inside.bytes.items = omega (arith, c.self.inside.bytes.ok.0) in
-    rw (← c.self.view_is) (is_empty_iff _ _ _ same c.self.invariant)
+pub returns-else-is_empty : goal.returns-else-is_empty
+returns-else-is_empty c = rw (← c.self.view_is) (some_in_front _ _ _ c.if-is_empty.false c.is_empty.ensures)
