@@ -9,6 +9,7 @@ pub mod Plain
 pub mod Serving
 pub mod Telling
 pub mod Arrivals
+pub mod Isolating
 pub mod Empty
 pub mod Local
 pub mod Members

@@ -13,6 +13,7 @@ pub mod Rooms
 pub mod Held
 pub mod Lefts
 pub mod Came
+pub mod Isolated
 pub mod Replied
 pub mod Served
 pub mod Faithful

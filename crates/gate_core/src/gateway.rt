@@ -16,11 +16,12 @@ ghost use Rattle.gate_core.specs.Items.{is_closed};
 ghost use Rattle.gate_core.specs.Held.{State, Held, held_at, OthersSame, waiting, is_closed_in, is_done_in, open_refusal, bytes_refusal, take_refusal, AreParameters};
 ghost use Rattle.gate_core.specs.Lefts.{with_held, with_grid, opened, taken, ended, cut};
 ghost use Rattle.gate_core.specs.Came.{Opening, Came, IsRoomy, Starts, GoesOn, Stays};
+ghost use Rattle.gate_core.specs.Isolated.{Isolates, IsolatesFirst, IsolatesAfter, IsolatesStill};
 ghost use Rattle.gate_core.specs.Served.{IsReceived};
 
 use crate::connection::Connection;
 use crate::fault::{GatewayFault, RestoreFault};
-use crate::laws::{came_begins, came_goes_on};
+use crate::laws::{came_begins, came_goes_on, isolation, verified_isolation};
 use crate::parameters::Parameters;
 use grid::{Grid, GridFault};
 use octets::is_sharing;
@@ -99,6 +100,7 @@ impl<S: Store + Drop> Gateway<S> {
           grid = states S.shares S.room S.held S.failures S.honest stores.items;
         }) }
         ensures came { IfOk result (λ gateway. Starts empty gateway) }
+        ensures isolated { IfOk result IsolatesFirst }
     {
         came_begins();
         if !are_parameters(k, n, stores.len(), secret.len()) {
@@ -148,6 +150,7 @@ impl<S: Store + Drop> Gateway<S> {
             ≡ Some place) }
         ensures came { IfOk result (λ gateway. (w : World) → stood gateway.grid ≡ shown w.marks →
             Starts w gateway) }
+        ensures isolated { IfOk result IsolatesFirst }
     {
         came_begins();
         if !are_parameters(k, n, stores.len(), secret.len()) {
@@ -178,8 +181,11 @@ impl<S: Store> Gateway<S> {
         ensures err { OnErr result (self.new ≡ self.old) }
         ensures others { OthersSame self.old self.new id }
         ensures came { OnOk result (GoesOn self.old self.new (Open id)) }
+        ensures isolated { OnOk result (IsolatesAfter self.old self.new (Open id)) }
     {
         came_goes_on();
+        isolation();
+        verified_isolation();
         if self.connections.contains_key(&id) {
             return Err(GatewayFault::Known);
         }
@@ -212,8 +218,15 @@ impl<S: Store> Gateway<S> {
             IsRoomy self.old.settings opening (events ++ Bytes id piece.now ∷ []) →
             NoneFailed self.old.grid self.new.grid →
             Came opening self.new (events ++ Bytes id piece.now ∷ [])) }
+        ensures isolated { OnOk result ((opening : Opening) (events : List Event) →
+            Came opening self.old events →
+            IsRoomy self.old.settings opening (events ++ Bytes id piece.now ∷ []) →
+            NoneFailed self.old.grid self.new.grid →
+            Isolates opening self.new (events ++ Bytes id piece.now ∷ [])) }
     {
         came_goes_on();
+        isolation();
+        verified_isolation();
         let Some(receiver) = self.connections.get_mut(&id) else {
             return Err(GatewayFault::NotOpen);
         };
@@ -231,8 +244,11 @@ impl<S: Store> Gateway<S> {
             OnOk result (self.new ≡ with_held self.old id (ended held)) }
         ensures others { OthersSame self.old self.new id }
         ensures came { OnOk result (GoesOn self.old self.new (End id)) }
+        ensures isolated { OnOk result (IsolatesAfter self.old self.new (End id)) }
     {
         came_goes_on();
+        isolation();
+        verified_isolation();
         let Some(connection) = self.connections.get_mut(&id) else {
             return Err(GatewayFault::NotOpen);
         };
@@ -253,8 +269,12 @@ impl<S: Store> Gateway<S> {
         ensures nothing_there { waiting self.old id ≡ [] → result ≢ Err GatewayFault.NoMemory }
         ensures others { OthersSame self.old self.new id }
         ensures came { IfOk result (λ given. GoesOn self.old self.new (Take id given.items)) }
+        ensures isolated { IfOk result (λ given.
+            IsolatesAfter self.old self.new (Take id given.items)) }
     {
         came_goes_on();
+        isolation();
+        verified_isolation();
         let Some(taker) = self.connections.get_mut(&id) else {
             return Err(GatewayFault::NotOpen);
         };
@@ -300,8 +320,13 @@ impl<S: Store> Gateway<S> {
             OnErr result (IsUnchanged self.old.grid self.new.grid) }
         ensures came { OnOk result (GoesOn self.old self.new (Lose server (index, number))) }
         ensures refused { OnErr result (Stays self.old self.new) }
+        ensures isolated { OnOk result
+            (IsolatesAfter self.old self.new (Lose server (index, number))) }
+        ensures isolated_still { OnErr result (IsolatesStill self.old self.new) }
     {
         came_goes_on();
+        isolation();
+        verified_isolation();
         self.grid.lose(server, index, number)
     }
 
@@ -327,8 +352,13 @@ impl<S: Store> Gateway<S> {
             OnErr result (IsUnchanged self.old.grid self.new.grid) }
         ensures came { OnOk result (GoesOn self.old self.new (Spoil server (index, number) place)) }
         ensures refused { OnErr result (Stays self.old self.new) }
+        ensures isolated { OnOk result
+            (IsolatesAfter self.old self.new (Spoil server (index, number) place)) }
+        ensures isolated_still { OnErr result (IsolatesStill self.old self.new) }
     {
         came_goes_on();
+        isolation();
+        verified_isolation();
         self.grid.spoil(server, index, number, place)
     }
 
@@ -343,8 +373,11 @@ impl<S: Store> Gateway<S> {
             OnOk result (Appends (W.contents writer.old) (W.contents writer.new)
             (image (length self.old.grid) (rows_of (maps_of self.old.grid)))) }
         ensures came { Stays self.old self.new }
+        ensures isolated { IsolatesStill self.old self.new }
     {
         came_goes_on();
+        isolation();
+        verified_isolation();
         self.grid.write_image(writer)
     }
 }

@@ -31,6 +31,7 @@ ghost use Rattle.gate_core.specs.Apart.{hashed, Apart};
 ghost use Rattle.gate_core.specs.Held.{Held, State, held_at, waiting, cut_refusal};
 ghost use Rattle.gate_core.specs.Lefts.{with_held, with_grid, opened, taken, ended, cut};
 ghost use Rattle.gate_core.specs.Came.{Opening, Came, IsRoomy, Starts};
+ghost use Rattle.gate_core.specs.Isolated.{IsIsolated, IsVerified};
 ghost use Rattle.gate_core.specs.Replied.{AreAnswered};
 ghost use Rattle.gate_core.specs.Served.{IsReceived};
 ghost use Rattle.gate_core.specs.Faithful.{Faithful};
@@ -85,11 +86,8 @@ pub fn verified_isolation()
         Came opening g events →
         handed caller events ++ waiting g caller
         ≡ said_by by_fit g.settings caller opening.world (items events) }
-    ensures apart { (opening : Opening) (g : State) (events : List Event) (caller : ℕ) →
-        Came opening g events →
-        handed caller events ++ waiting g caller
-        ≡ said_by by_fit g.settings caller opening.world (kept_by by_fit g.settings
-        (only caller) opening.world (items events)) }
+    ensures apart { (opening : Opening) (g : State) (events : List Event) →
+        Came opening g events → IsVerified opening g events }
 {
     chk_file::laws::changes_are_local();
     web_ops::laws::answers_agree_where_looks_do();
@@ -124,16 +122,34 @@ pub fn premises_are_of_the_kept_items()
     web_ops::laws::answers_agree_where_looks_do();
 }
 
+/// Where no two strings that are hashed in some callers' part of a run collide, the written answers to the items that are
+/// kept for them say what verification finds in the whole run.
+pub fn kept_answers_are_verified()
+    ensures kept { (settings : Settings) (callers : ℕ → Bool) (caller : ℕ) (past : List Entry)
+        (w : World) (entries : List Entry) → callers caller ≡ true →
+        IsProper settings entries → IsLeftBy settings past w →
+        Apart settings callers past w entries →
+        said settings caller w (kept settings callers w entries)
+        ≡ said_by by_fit settings caller w entries }
+    // and so do those to all items
+    ensures whole { (settings : Settings) (callers : ℕ → Bool) (caller : ℕ) (past : List Entry)
+        (w : World) (entries : List Entry) → callers caller ≡ true →
+        IsProper settings entries → IsLeftBy settings past w →
+        Apart settings callers past w entries →
+        said settings caller w entries ≡ said_by by_fit settings caller w entries }
+{
+    chk_file::laws::fit_is_held();
+    chk_file::laws::worlds_stay_sound();
+    web_ops::laws::answers_agree_where_looks_do();
+    worlds_of_runs_are_sound();
+    items_are_local();
+}
+
 /// Where no two strings that are hashed in a caller's part of a run collide, what it was handed and what waits for it is
 /// what the written answers say when the requests of others are dropped, save uploads under a storage index that it met.
 pub fn isolation()
-    ensures apart { (opening : Opening) (past : List Entry) (g : State) (events : List Event)
-        (caller : ℕ) → Came opening g events →
-        IsLeftBy g.settings past opening.world →
-        Apart g.settings (only caller) past opening.world (items events) →
-        handed caller events ++ waiting g caller
-        ≡ said g.settings caller opening.world (kept g.settings (only caller) opening.world
-        (items events)) }
+    ensures apart { (opening : Opening) (g : State) (events : List Event) →
+        Came opening g events → IsIsolated opening g events }
     // where none of all callers collide, what the written answers say of all requests
     ensures whole { (opening : Opening) (past : List Entry) (g : State) (events : List Event)
         (caller : ℕ) → Came opening g events →
@@ -152,12 +168,8 @@ pub fn isolation()
         Apart g.settings (only caller) past opening.world (items events) →
         handed caller others ++ waiting h caller ≡ handed caller events ++ waiting g caller }
 {
-    chk_file::laws::fit_is_held();
-    chk_file::laws::worlds_stay_sound();
-    web_ops::laws::answers_agree_where_looks_do();
-    worlds_of_runs_are_sound();
     premises_are_of_the_kept_items();
-    items_are_local();
+    kept_answers_are_verified();
     verified_isolation();
 }
 

@@ -2,6 +2,7 @@
 use Rattle.std.proofs.Common.{◌≡◌, ◌≢◌, ℕ, ◌≤◌, List, [], ◌∷◌, ◌++◌, length, Bool, true, false, cond, Option, Some, None, Result, Ok, Err, refl, sym, ap, subst, ◌∙◌, arith, nat_le, inl, inr}
 use Rattle.std.specs.Prelude.{replicate, ◌&&◌, ◌⊎◌}
 use Rattle.std.proofs.lemmas.Bool.Decides.{nat_tests}
+use Rattle.octets.specs.Sharing.{IsSharing}
 use Rattle.grid.specs.GridState.{GridState, IsHonest, room_at}
 use Rattle.chk_file.specs.World.{empty}
 use Rattle.gate_core.specs.Settings.{Settings}
@@ -13,7 +14,7 @@ use Rattle.gate_core.specs.declared.fault.GatewayFault.TheVariants.{BadParameter
 use Rattle.gate_main.specs.Stores.{fresh}
 use Rattle.gate_main.specs.Script.{Step, is_grid, is_restore, is_refusal, may_stand}
 use Rattle.gate_main.specs.Replies.{settings_by, opening_by, room_of, are_parameters, IsToldAfter, IsTold}
-use Rattle.gate_main.specs.Running.{CameAfter, IsAt, IsAnswer, Answered}
+use Rattle.gate_main.specs.Running.{CameAfter, CameBy, IsAt, IsAnswer, Answered}
 use Rattle.gate_main.specs.declared.command.Command.{Command}
 use Rattle.gate_main.specs.declared.command.Command.TheVariants as command
 use Rattle.gate_main.specs.declared.command.Grid.{Grid}
@@ -35,6 +36,11 @@ are k n s l is = record {
 
 are_not : (k n s l : ℕ) → AreParameters k n s l → (nat_le 1 k && nat_le k n && nat_le n 256 && nat_le 1 s && nat_le s 256 && nat_le l 256) ≡ true
 are_not k n s l p = grind (arith, nat_tests, p.some_needed, p.enough, p.shares, p.some_server, p.servers_fit, p.secret_fits)
+
+sharing_of : (grid : Grid) → are_parameters grid ≡ true → IsSharing grid.k grid.n
+sharing_of grid good =
+    let p = are grid.k grid.n grid.servers (length grid.secret) good in
+    record { some = p.some_needed; enough = p.enough; limit = p.shares }
 
 true_or_false : (b : Bool) → (b ≡ true) ⊎ (b ≡ false)
 true_or_false true = inl refl
@@ -92,7 +98,7 @@ begin_made log None grid g at set is starts good =
       stands = refl;
       told = record { made = ap (λ b. cond b Done (Refused BadParameters)) (sym good); calm = λ _ _. tt };
       ends = refl;
-      at = λ _. (refl, record { settings = set; calm = λ _ _. came_first grid g is starts });
+      at = λ _. (refl, record { settings = set; sharing = sharing_of grid good; calm = λ _ _. came_first grid g is starts });
     }
 begin_made log (Some was) grid g at set is starts good = absurd at
 
@@ -116,11 +122,12 @@ restored log grid None image g at told set = absurd at
 restored log grid (Some old) image g at told set =
     let step : Step = record { command = command.Restore image; reply = Done } in
     let first : IsTold (record { command = command.Grid grid; reply = Done } ∷ []) = subst IsTold at.0 told in
+    let was : CameBy (record { command = command.Grid grid; reply = Done } ∷ []) old = subst (λ l. CameBy l old) at.0 at.1 in
     subst (λ l. IsAnswer l step None (Some g)) (sym at.0) record {
       stands = refl;
       told = record { made = first.made; calm = λ h _. absurd cc };
       ends = refl;
-      at = λ _. (omega arith, record { settings = set; calm = λ h _. absurd cc });
+      at = λ _. (omega arith, record { settings = set; sharing = was.sharing; calm = λ h _. absurd cc });
     }
 
 pub restore_refused : (log : List Step) (grid : Grid) (gateway : Option State) (image : List ℕ) (reply : Reply) → IsAt log (Some grid) gateway → IsTold log → is_refusal reply ≡ true

@@ -1,9 +1,11 @@
 -- Calls that commands ask for.
-use Rattle.std.proofs.Common.{inl, inr, ◌≡◌, ◌≢◌, ℕ, ◌≤◌, ◌<◌, List, [], ◌∷◌, ◌++◌, length, take, drop, Bool, true, false, cond, Option, Some, None, Result, Ok, Err, refl, sym, ap, subst, ◌∙◌, arith, nat_lt}
+use Rattle.std.proofs.Common.{inl, inr, ◌≡◌, ◌≢◌, ℕ, ◌≤◌, ◌<◌, List, [], ◌∷◌, ◌++◌, length, take, drop, Bool, true, false, cond, Option, Some, None, Result, Ok, Err, refl, sym, ap, subst, ◌∙◌, arith, nat_lt, eq-eqb}
 use Rattle.std.specs.Prelude.{MatchOption, is_some, IsErrOf, ◌↔◌, ◌&&◌, not, unwrap_or}
 use Rattle.std.proofs.Math.Seq.{drop-append_seam}
 use Rattle.std.proofs.lemmas.List.{append-nil}
+use Rattle.std.proofs.lemmas.List.Elements.{All-nil}
 use Rattle.std.proofs.lemmas.Bool.Decides.{nat_tests}
+use Rattle.octets.specs.Sharing.{IsSharing}
 use Rattle.grid.specs.declared.fault.GridFault.{GridFault}
 use Rattle.grid.specs.declared.fault.GridFault.TheVariants as grid_fault
 use Rattle.share_store.specs.Shares.{ShareKey}
@@ -18,13 +20,16 @@ use Rattle.gate_core.specs.declared.fault.GatewayFault.{GatewayFault}
 use Rattle.gate_core.specs.declared.fault.GatewayFault.TheVariants.{Known, NotOpen, NoMemory}
 use Rattle.gate_core.specs.declared.stage.Stage.{Stage}
 use Rattle.gate_core.specs.Events.{Event, Open, Bytes, End, Take, Lose, Spoil, is_known, handed, has_ended}
-use Rattle.gate_core.specs.Items.{items}
-use Rattle.gate_core.specs.Runs.{world_after, said_by}
+use Rattle.gate_core.specs.Items.{Entry, items}
+use Rattle.gate_core.specs.Runs.{world_after, said_by, said}
+use Rattle.gate_core.specs.Reach.{only, kept}
+use Rattle.gate_core.specs.Uploaded.{IsProper, IsLeftBy}
+use Rattle.gate_core.specs.Apart.{Apart}
 use Rattle.gate_core.specs.Held.{Held, State, held_at, waiting, waiting_in, open_refusal, bytes_refusal, take_refusal, stage_refusal}
 use Rattle.gate_core.specs.Lefts.{with_held, with_grid, opened, taken, ended}
 use Rattle.gate_core.specs.Came.{Opening, Came, CameAt, IsRoomy, GoesOn, stage_of}
 use Rattle.gate_core.specs.Served.{IsReceived}
-use Rattle.gate_main.specs.Replies.{settings_by, opening_by, IsCalm, IsReply, is_going, unsaid, world_by, at_server}
+use Rattle.gate_main.specs.Replies.{settings_by, opening_by, IsCalm, IsReply, is_going, unsaid, unsaid_of_kept, IsApart, first_of, IsTaken, world_by, at_server}
 use Rattle.gate_main.specs.Running.{IsCalled}
 use Rattle.gate_main.specs.declared.command.Command.TheVariants as command
 use Rattle.gate_main.specs.declared.command.Grid.{Grid}
@@ -43,7 +48,7 @@ pub open_called : (old new : State) (id : ℕ) (P : Type 0) (Q : GatewayFault �
     → IsCalled old new (command.Open id) Done
 open_called old new id P Q never answer left on = record {
   settings = ap (λ (s : State). s.settings) left;
-  told = λ grid events set came. ap (λ b. cond b (Refused Known) Done) (sym (unknown old.settings empty id (held_at old id) events P Q never answer (came.each id)));
+  told = λ grid events set sharing came. ap (λ b. cond b (Refused Known) Done) (sym (unknown old.settings empty id (held_at old id) events P Q never answer (came.each id)));
   came = λ grid events set came calm. on (opening_by grid) events came;
 }
 
@@ -70,7 +75,7 @@ end_called old new id P Q never answer left on =
     let h = open_held (held_at old id) P Q never answer in
     record {
       settings = ap (λ (s : State). s.settings) (left h.0 h.1);
-      told = λ grid events set came. ap (λ b. cond b Done (Refused NotOpen)) (sym (going old.settings empty id (held_at old id) events P Q never answer (came.each id)));
+      told = λ grid events set sharing came. ap (λ b. cond b Done (Refused NotOpen)) (sym (going old.settings empty id (held_at old id) events P Q never answer (came.each id)));
       came = λ grid events set came calm. on (opening_by grid) events came;
     }
 
@@ -82,7 +87,7 @@ bytes_called old new id piece P Q never answer received before after on =
     let h = open_held (held_at old id) P Q never answer in
     record {
       settings = (received h.0 h.1).settings;
-      told = λ grid events set came. ap (λ b. cond b Done (Refused NotOpen)) (sym (going old.settings empty id (held_at old id) events P Q never answer (came.each id)));
+      told = λ grid events set sharing came. ap (λ b. cond b Done (Refused NotOpen)) (sym (going old.settings empty id (held_at old id) events P Q never answer (came.each id)));
       came = λ grid events set came calm.
           on (opening_by grid) events came (subst (λ (s : Settings). IsRoomy s (opening_by grid) (events ++ Bytes id piece ∷ [])) (sym set) calm) (λ s. after s ∙ sym (before s));
     }
@@ -107,16 +112,39 @@ waits g grid events id (Some h) P Q never answer is set at =
     ∙ ap (drop (length (handed id events))) (sym at.out) ∙ drop-append_seam (handed id events) h.waiting
     ∙ ap waiting_in (sym is)
 
-pub take_called : (old new : State) (id most : ℕ) (given : List ℕ) (P : Type 0) (Q : GatewayFault → Type 0) → ((e : GatewayFault) → Q e → ⊥) → MatchOption (take_refusal (held_at old id)) P Q → given ≡ take most (waiting old id)
+-- what the written answers say of the kept items is what verification finds
+abbrev pub KeptIsVerified : Type 0
+KeptIsVerified = (settings : Settings) (callers : ℕ → Bool) (caller : ℕ) (past : List Entry) (w : World) (entries : List Entry) → callers caller ≡ true → IsProper settings entries → IsLeftBy settings past w → Apart settings callers past w entries
+    → said settings caller w (kept settings callers w entries) ≡ said_by by_fit settings caller w entries
+
+nothing_past : (settings : Settings) → IsSharing settings.k settings.n → IsLeftBy settings [] empty
+nothing_past settings sharing = record { world = refl; proper = record { sharing = sharing; bytes = All-nil _ } }
+
+kept_unsaid : KeptIsVerified → (g : State) (grid : Grid) (events : List Event) (id : ℕ) → g.settings ≡ settings_by grid → IsSharing grid.k grid.n → Came (opening_by grid) g events → IsApart grid id events
+    → unsaid grid id events ≡ unsaid_of_kept grid id events
+kept_unsaid law g grid events id set sharing came apart =
+    let ours : IsProper g.settings (items events) = record { sharing = subst (λ (s : Settings). IsSharing s.k s.n) (sym set) sharing; bytes = came.bytes } in
+    let proper : IsProper (settings_by grid) (items events) = subst (λ s. IsProper s (items events)) set ours in
+    ap (drop (length (handed id events))) (sym (law (settings_by grid) (only id) id [] empty (items events) (eq-eqb id id refl) proper (nothing_past (settings_by grid) sharing) apart))
+
+taken_reply : (g : State) (grid : Grid) (events : List Event) (id most : ℕ) (reply : Reply) → KeptIsVerified → g.settings ≡ settings_by grid → IsSharing grid.k grid.n → Came (opening_by grid) g events
+    → reply ≡ first_of id events most (unsaid grid id events) → IsTaken grid events id most reply
+taken_reply g grid events id most reply law set sharing came is = record {
+  verified = is;
+  isolated = λ apart. is ∙ ap (first_of id events most) (kept_unsaid law g grid events id set sharing came apart);
+}
+
+pub take_called : KeptIsVerified → (old new : State) (id most : ℕ) (given : List ℕ) (P : Type 0) (Q : GatewayFault → Type 0) → ((e : GatewayFault) → Q e → ⊥) → MatchOption (take_refusal (held_at old id)) P Q → given ≡ take most (waiting old id)
     → ((h : Held) → held_at old id ≡ Some h → new ≡ with_held old id (taken most h)) → GoesOn old new (Take id given) → IsCalled old new (command.Take id most) (Given given)
-take_called old new id most given P Q never answer is left on =
+take_called law old new id most given P Q never answer is left on =
     let h = taken_held (held_at old id) P Q never answer in
     record {
       settings = ap (λ (s : State). s.settings) (left h.0 h.1);
-      told = λ grid events set came.
+      told = λ grid events set sharing came.
           let whole : Given given ≡ Given (take most (unsaid grid id events)) =
           ap Given (is ∙ ap (take most) (sym (waits old grid events id (held_at old id) P Q never answer refl set (came.each id)))) in
-          whole ∙ ap (λ b. cond b (Given (take most (unsaid grid id events))) (Refused NotOpen)) (sym (known old.settings empty id (held_at old id) events P Q never answer (came.each id)));
+          taken_reply old grid events id most (Given given) law set sharing came
+          (whole ∙ ap (λ b. cond b (Given (take most (unsaid grid id events))) (Refused NotOpen)) (sym (known old.settings empty id (held_at old id) events P Q never answer (came.each id))));
       came = λ grid events set came calm. on (opening_by grid) events came;
     }
 
@@ -144,7 +172,7 @@ pub lost_called : (old new : State) (share : Share) (lost : Bool) (P : Type 0) �
     → (IsHonest old.grid → lost ≡ is_some (stood old.grid share.server (share.index, share.number))) → GoesOn old new (Lose share.server (share.index, share.number)) → IsCalled old new (command.Lose share) (Answered lost)
 lost_called old new share lost P left no_server never is on = record {
   settings = ap (λ (s : State). s.settings) left;
-  told = λ grid events set came.
+  told = λ grid events set sharing came.
       let key : ShareKey = (share.index, share.number) in
       ap Answered (is came.stores.honest ∙ ap (λ st. is_some (st share.server key)) (looked old grid events set came))
       ∙ ap (λ b. cond b (Answered (is_some (shown (world_by grid events).marks share.server key))) (GridRefused grid_fault.NoServer))
@@ -157,7 +185,7 @@ pub spoiled_called : (old new : State) (share : Share) (place : ℕ) (spoiled : 
     → IsCalled old new (command.Spoil share place) (Answered spoiled)
 spoiled_called old new share place spoiled P left no_server never is on = record {
   settings = ap (λ (s : State). s.settings) left;
-  told = λ grid events set came.
+  told = λ grid events set sharing came.
       let key : ShareKey = (share.index, share.number) in
       ap Answered (is came.stores.honest ∙ ap (λ st. nat_lt place (length (unwrap_or (st share.server key) []))) (looked old grid events set came))
       ∙ ap (λ b. cond b (Answered (nat_lt place (length (unwrap_or (shown (world_by grid events).marks share.server key) [])))) (GridRefused grid_fault.NoServer))
@@ -193,14 +221,14 @@ module _ (old new : State) (share : Share) (fault : GridFault) (reply : Reply) (
   pub lose_refused : IsCalled old new (command.Lose share) reply
   lose_refused = subst (IsCalled old new (command.Lose share)) (sym is) record {
     settings = ap (λ (s : State). s.settings) left;
-    told = λ grid events set came. sym is ∙ refused_reply grid events _ set came;
+    told = λ grid events set sharing came. sym is ∙ refused_reply grid events _ set came;
     came = λ grid events set came calm. refused_came grid events came;
   }
 
   pub spoil_refused : (place : ℕ) → IsCalled old new (command.Spoil share place) reply
   spoil_refused place = subst (IsCalled old new (command.Spoil share place)) (sym is) record {
     settings = ap (λ (s : State). s.settings) left;
-    told = λ grid events set came. sym is ∙ refused_reply grid events _ set came;
+    told = λ grid events set sharing came. sym is ∙ refused_reply grid events _ set came;
     came = λ grid events set came calm. refused_came grid events came;
   }
 
@@ -213,13 +241,13 @@ module _ (old new : State) (left : new ≡ with_grid old new.grid) (on : (openin
   pub imaged : (bytes : List ℕ) → IsCalled old new command.Image (Imaged bytes)
   imaged bytes = record {
     settings = ap (λ (s : State). s.settings) left;
-    told = λ grid events set came. inl (bytes, refl);
+    told = λ grid events set sharing came. inl (bytes, refl);
     came = λ grid events set came calm. stays grid events came;
   }
 
   pub image_refused : (fault : GridFault) (reply : Reply) → reply ≡ GridRefused fault → IsCalled old new command.Image reply
   image_refused fault reply is = subst (IsCalled old new command.Image) (sym is) record {
     settings = ap (λ (s : State). s.settings) left;
-    told = λ grid events set came. inr (fault, refl);
+    told = λ grid events set sharing came. inr (fault, refl);
     came = λ grid events set came calm. stays grid events came;
   }

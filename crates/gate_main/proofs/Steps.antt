@@ -109,12 +109,13 @@ told_after grid reply log old new step other told came called = record {
   calm = λ none calm.
       let same = sym (restores_same log step other) ∙ none in
       let first = calm_first grid (events_of log) (event_by step.command step.reply) (subst (IsCalm grid) (events_more log step) calm) in
-      replies_more grid [] log step (told.calm same first) (called.told grid (events_of log) came.settings (came.calm same first));
+      replies_more grid [] log step (told.calm same first) (called.told grid (events_of log) came.settings came.sharing (came.calm same first));
 }
 
 came_after : (grid : Grid) (log : List Step) (old new : State) (step : Step) → is_restore step.command ≡ false → CameAfter grid log old → IsCalled old new step.command step.reply → CameAfter grid (log ++ step ∷ []) new
 came_after grid log old new step other came called = record {
   settings = called.settings ∙ came.settings;
+  sharing = came.sharing;
   calm = λ none calm.
       let same = sym (restores_same log step other) ∙ none in
       let all = subst (IsCalm grid) (events_more log step) calm in

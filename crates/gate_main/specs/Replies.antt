@@ -8,7 +8,9 @@ use Rattle.chk_file.specs.Look.{by_fit}
 use Rattle.gate_core.specs.Settings.{Settings}
 use Rattle.gate_core.specs.Events.{Event, Open, Bytes, End, Take, Lose, Spoil, is_known, has_ended, handed}
 use Rattle.gate_core.specs.Items.{items}
-use Rattle.gate_core.specs.Runs.{world_after, said_by}
+use Rattle.gate_core.specs.Runs.{world_after, said_by, said}
+use Rattle.gate_core.specs.Reach.{only, kept}
+use Rattle.gate_core.specs.Apart.{Apart}
 use Rattle.gate_core.specs.Came.{Opening, IsRoomy}
 use Rattle.gate_core.specs.declared.fault.GatewayFault.TheVariants.{Known, NotOpen, BadParameters}
 use Rattle.gate_main.specs.declared.command.Command.{Command}
@@ -50,9 +52,28 @@ world_by grid events = world_after (settings_by grid) empty (items events)
 abbrev pub is_going : ℕ → List Event → Bool
 is_going id events = is_known id events && not (has_ended id events)
 
--- what a caller is to be told and was not given yet
+-- what a caller is to be told and was not given yet, where caps give what verification finds
 abbrev pub unsaid : Grid → ℕ → List Event → List ℕ
 unsaid grid id events = drop (length (handed id events)) (said_by by_fit (settings_by grid) id empty (items events))
+
+-- what of the written answers to the items that are kept for a caller it was not given yet
+abbrev pub unsaid_of_kept : Grid → ℕ → List Event → List ℕ
+unsaid_of_kept grid id events = drop (length (handed id events)) (said (settings_by grid) id empty (kept (settings_by grid) (only id) empty (items events)))
+
+-- no two strings collide that are hashed in this caller's part
+abbrev pub IsApart : Grid → ℕ → List Event → Type 0
+IsApart grid id events = Apart (settings_by grid) (only id) [] empty (items events)
+
+-- the first of these bytes, where the connection was opened
+abbrev pub first_of : ℕ → List Event → ℕ → List ℕ → Reply
+first_of id events most bytes = if is_known id events then Given (take most bytes) else Refused NotOpen
+
+-- The reply to `take` has the next bytes that its caller is to be told: what verification finds in the whole run, and where
+-- no two strings of this caller's part collide what the written answers say when the requests of others are dropped, save
+-- uploads under a storage index that it met.
+pub record IsTaken (grid : Grid) (events : List Event) (id most : ℕ) (reply : Reply) : Type 0 where
+  pub verified : reply ≡ first_of id events most (unsaid grid id events)
+  pub isolated : IsApart grid id events → reply ≡ first_of id events most (unsaid_of_kept grid id events)
 
 -- at a server that there is
 abbrev pub at_server : Grid → ℕ → Bool → Reply
@@ -69,7 +90,7 @@ IsReply grid events (command.Restore image) reply = ⊥
 IsReply grid events (command.Open id) reply = reply ≡ (if is_known id events then Refused Known else Done)
 IsReply grid events (command.Bytes id piece) reply = reply ≡ (if is_going id events then Done else Refused NotOpen)
 IsReply grid events (command.End id) reply = reply ≡ (if is_going id events then Done else Refused NotOpen)
-IsReply grid events (command.Take id most) reply = reply ≡ (if is_known id events then Given (take most (unsaid grid id events)) else Refused NotOpen)
+IsReply grid events (command.Take id most) reply = IsTaken grid events id most reply
 IsReply grid events (command.Lose share) reply =
     reply ≡ at_server grid share.server (is_some (shown (world_by grid events).marks share.server (share.index, share.number)))
 IsReply grid events (command.Spoil share place) reply =

@@ -2,6 +2,7 @@
 use Rattle.std.specs.Prelude.{◌≡◌, ◌≤◌, ◌⊎◌, ℕ, List, [], ◌∷◌, ◌++◌, length, true, false, Option, Some, None, Result, Ok, Err, is_none, IfSome, OnSome, ⊤}
 use Rattle.std.specs.Io.{StopsAt, IsEmptyOrEndsWith}
 use Rattle.std.specs.Io.KnownBytes.{Consumes, Appends, IsAtEnd}
+use Rattle.octets.specs.Sharing.{IsSharing}
 use Rattle.octets.specs.Written.{WritesBeginning}
 use Rattle.gate_core.specs.Events.{Event}
 use Rattle.gate_core.specs.Held.{State}
@@ -20,9 +21,11 @@ use Rattle.gate_main.specs.declared.fault.ScriptFault.TheVariants.{BadLine, Read
 
 -- ---- where a run is
 
--- The gateway was set up so, and it came from these calls where no image was restored and the stores have the room.
+-- The gateway was set up so, any k of its n shares are enough, and it came from these calls where no image was restored and
+-- the stores have the room.
 pub record CameAfter (grid : Grid) (log : List Step) (g : State) : Type 0 where
   pub settings : g.settings ≡ settings_by grid
+  pub sharing : IsSharing grid.k grid.n
   pub calm : restores log ≡ false → IsCalm grid (events_of log) → Came (opening_by grid) g (events_of log)
 
 abbrev pub CameFrom : Command → List Step → State → Type 0
@@ -43,7 +46,7 @@ IsAt log (Some grid) (Some g) = (log ≡ record { command = command.Grid grid; r
 -- a call that a command asks for was made, with this reply
 pub record IsCalled (old new : State) (asked : Command) (reply : Reply) : Type 0 where
   pub settings : new.settings ≡ old.settings
-  pub told : (grid : Grid) (events : List Event) → old.settings ≡ settings_by grid → Came (opening_by grid) old events → IsReply grid events asked reply
+  pub told : (grid : Grid) (events : List Event) → old.settings ≡ settings_by grid → IsSharing grid.k grid.n → Came (opening_by grid) old events → IsReply grid events asked reply
   pub came : (grid : Grid) (events : List Event) → old.settings ≡ settings_by grid → Came (opening_by grid) old events → IsCalm grid (events ++ event_by asked reply)
       → Came (opening_by grid) new (events ++ event_by asked reply)
 

@@ -66,6 +66,7 @@ fn end(gateway: &mut MemGateway, id: u64) -> Result<Reply, AllocError>
 fn take(gateway: &mut MemGateway, id: u64, most: u32) -> Result<Reply, AllocError>
     ensures { IfOk result (λ reply. IsCalled gateway.old gateway.new (Command.Take id most) reply) }
 {
+    gate_core::laws::kept_answers_are_verified();
     match gateway.take(id, most as usize) {
         Ok(given) => Ok(Reply::Given(Bytes::from_vec(given))),
         Err(fault) => Reply::refused(fault),
@@ -73,7 +74,8 @@ fn take(gateway: &mut MemGateway, id: u64, most: u32) -> Result<Reply, AllocErro
 }
 
 fn lose(gateway: &mut MemGateway, share: &Share) -> Result<Reply, AllocError>
-    ensures { IfOk result (λ reply. IsCalled gateway.old gateway.new (Command.Lose share.now) reply) }
+    ensures { IfOk result
+        (λ reply. IsCalled gateway.old gateway.new (Command.Lose share.now) reply) }
 {
     gateway.no_store_failed();
     let lost = gateway.lose(share.server as usize, share.index, share.number);

@@ -1,4 +1,4 @@
-use Rattle.std.proofs.Common.{◌≡◌, ℕ, List, ◌++◌, Bool, true, refl, sym, ap, subst, ◌∙◌, eq-eqb}
+use Rattle.std.proofs.Common.{◌≡◌, ℕ, List, ◌++◌, refl, sym, ap, subst, ◌∙◌, eq-eqb}
 use Rattle.tag_hash.specs.Collisions.{NoCollision}
 use Rattle.chk_file.specs.World.{World}
 use Rattle.gate_core.specs.Settings.{Settings}
@@ -10,7 +10,7 @@ use Rattle.gate_core.specs.Held.{State, waiting}
 use Rattle.gate_core.specs.Came.{Opening, Came}
 use Rattle.gate_core.specs.Uploaded.{IsProper, IsLeftBy}
 use Rattle.gate_core.specs.Apart.{hashed, Apart}
-use Rattle.gate_core.proofs.Fits.{IsFitHeld, apart_fit}
+use Rattle.gate_core.specs.Isolated.{IsIsolated}
 use Rattle.gate_core.proofs.laws.isolation.Goals as goal
 
 -- what these bytes are where the premises hold of the settings and the world
@@ -24,33 +24,27 @@ proper_of opening past g events came left = record { sharing = left.proper.shari
 
 pub returns : goal.returns
 returns c =
-    let stay = c.worlds_stay_sound.ensures in
-    let agree = c.answers_agree_where_looks_do.ensures in
     let part = c.premises_are_of_the_kept_items.ensures.hashed in
-    let fit : (s : Settings) (callers : ℕ → Bool) (caller : ℕ) (past : List Entry) (w : World) (xs : List Entry) → callers caller ≡ true → IsLeftBy s past w → IsProper s xs → Apart s callers past w xs → IsFitHeld s callers caller w xs =
-    λ s callers caller past w xs ours left proper apart.
-    apart_fit c.fit_is_held.ensures agree.reply agree.met stay.upload stay.lose stay.spoil s callers caller past w xs ours (c.worlds_of_runs_are_sound.ensures.left s w past left) left proper apart in
-    let alone : (opening : Opening) (past : List Entry) (g : State) (events : List Event) (caller : ℕ) → Came opening g events → Isolated (handed caller events ++ waiting g caller) caller past (items events) g.settings opening.world =
-    λ opening past g events caller came left apart.
+    let alone : (opening : Opening) (g : State) (events : List Event) → Came opening g events → IsIsolated opening g events =
+    λ opening g events came past caller left apart.
     c.verified_isolation.ensures.whole opening g events caller came
-    ∙ (fit g.settings (only caller) caller past opening.world (items events) (eq-eqb caller caller refl) left (proper_of opening past g events came left) apart).said
-    ∙ sym (c.items_are_local.ensures.said g.settings (only caller) caller opening.world (items events) (eq-eqb caller caller refl)) in
+    ∙ sym (c.kept_answers_are_verified.ensures.kept g.settings (only caller) caller past opening.world (items events) (eq-eqb caller caller refl) (proper_of opening past g events came left) left apart) in
     record {
       apart = alone;
       whole = λ opening past g events caller came left apart.
           c.verified_isolation.ensures.whole opening g events caller came
-          ∙ (fit g.settings everyone caller past opening.world (items events) refl left (proper_of opening past g events came left) apart).said;
+          ∙ sym (c.kept_answers_are_verified.ensures.whole g.settings everyone caller past opening.world (items events) refl (proper_of opening past g events came left) left apart);
       same = λ opening other past g h events others caller came came_other world settings left same apart.
           let bytes = handed caller others ++ waiting h caller in
           let mine = only caller in
           let moved : Isolated bytes caller past (items others) g.settings opening.world =
           subst (λ s. Isolated bytes caller past (items others) s opening.world) settings
-          (subst (λ w. Isolated bytes caller past (items others) h.settings w) world (alone other past h others caller came_other)) in
+          (subst (λ w. Isolated bytes caller past (items others) h.settings w) world (alone other h others came_other past caller)) in
           let strings : hashed g.settings mine past opening.world (items events) ≡ hashed g.settings mine past opening.world (items others) =
           sym (part g.settings mine past opening.world (items events))
           ∙ ap (hashed g.settings mine past opening.world) (sym same)
           ∙ part g.settings mine past opening.world (items others) in
           moved left (subst NoCollision strings apart)
           ∙ ap (said g.settings caller opening.world) same
-          ∙ sym (alone opening past g events caller came left apart);
+          ∙ sym (alone opening g events came past caller left apart);
     }

@@ -19,6 +19,6 @@ told s w caller (Some held) events at = at.out
 pub returns : goal.returns
 returns c = record {
   whole = λ opening g events caller came. told g.settings opening.world caller (held_at g caller) events (came.each caller);
-  apart = λ opening g events caller came. told g.settings opening.world caller (held_at g caller) events (came.each caller)
+  apart = λ opening g events came caller. told g.settings opening.world caller (held_at g caller) events (came.each caller)
       ∙ sym (said-kept c.changes_are_local.ensures.upload c.changes_are_local.ensures.files c.answers_agree_where_looks_do.ensures.reply c.answers_agree_where_looks_do.ensures.met by_fit by_fit-local g.settings (only caller) caller opening.world (items events) (eq-eqb caller caller refl));
 }

@@ -5,6 +5,7 @@ use Rattle.gate_core.specs.Settings.{settings_of}
 use Rattle.gate_core.specs.Held.{held_at}
 use Rattle.gate_core.proofs.Maps.{get_found, Changed-lent, Changed-others}
 use Rattle.gate_core.proofs.Arrivals.{same_state, bytes_refused, none_refused, received, cut_left, received_came, where_open, calm_lent}
+use Rattle.gate_core.proofs.Isolating.{isolates}
 use Rattle.gate_core.proofs.gateway.Gateway.bytes.Goals as goal
 
 pub returns-clause-answer : goal.returns-clause-answer
@@ -41,3 +42,7 @@ pub returns-in_default-clause-answer : goal.returns-in_default-clause-answer
 returns-in_default-clause-answer g c =
     none_refused c.args.self.now _ c.args.id _ _ (get_found c.args.self.now.connections _ c.args.id None (ap (λ s. s.connections) c.self.view_is) c.in_default.ensures.value) refl
     (same_state c.args.self.now _ (ap (λ s. s.settings) c.self.view_is) (ap (λ m. map.from_entries m.entries) c.get_mut.follows.holds-at-none ∙ ap (λ s. s.connections) c.self.view_is) (ap (λ s. s.grid) c.self.view_is))
+
+pub returns-clause-isolated : goal.returns-clause-isolated
+returns-clause-isolated g c =
+    on_ok_weaker c.bytes.result (λ on opening events came roomy none. isolates c.isolation.ensures.apart c.verified_isolation.ensures.apart opening _ _ (on opening events came roomy none)) (returns-clause-came g c)

@@ -4,6 +4,7 @@ use Rattle.std.proofs.lemmas.Result.{on_ok_weaker}
 use Rattle.gate_core.specs.Lefts.{ended}
 use Rattle.gate_core.proofs.Maps.{get_found, Changed-lent, Changed-others}
 use Rattle.gate_core.proofs.Arrivals.{same_state, left_by, refused, none_refused, ended_came}
+use Rattle.gate_core.proofs.Isolating.{isolates_after}
 use Rattle.gate_core.proofs.gateway.Gateway.end.Goals as goal
 
 pub returns-clause-answer : goal.returns-clause-answer
@@ -30,3 +31,6 @@ pub returns-in_default-clause-answer : goal.returns-in_default-clause-answer
 returns-in_default-clause-answer g c =
     none_refused c.args.self.now _ c.args.id _ _ (get_found c.args.self.now.connections _ c.args.id None (ap (λ s. s.connections) c.self.view_is) c.in_default.ensures.value) refl
     (same_state c.args.self.now _ (ap (λ s. s.settings) c.self.view_is) (ap (λ m. map.from_entries m.entries) c.get_mut.follows.holds-at-none ∙ ap (λ s. s.connections) c.self.view_is) (ap (λ s. s.grid) c.self.view_is))
+
+pub returns-clause-isolated : goal.returns-clause-isolated
+returns-clause-isolated g c = on_ok_weaker c.end.result (isolates_after c.isolation.ensures.apart c.verified_isolation.ensures.apart c.args.self.now _ _) (returns-clause-came g c)

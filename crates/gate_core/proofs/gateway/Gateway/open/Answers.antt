@@ -3,6 +3,7 @@ use Rattle.std.specs.FinMap as map
 use Rattle.gate_core.specs.Held.{held_at}
 use Rattle.gate_core.proofs.Maps.{written, get-insert_other, get_test, None-from_test}
 use Rattle.gate_core.proofs.Arrivals.{is_with_held, opened_came, open_known, open_fresh}
+use Rattle.gate_core.proofs.Isolating.{isolates_after}
 use Rattle.gate_core.proofs.gateway.Gateway.open.Goals as goal
 
 pub returns-then-contains_key-clause-answer : goal.returns-then-contains_key-clause-answer
@@ -36,3 +37,6 @@ pub returns-clause-answer : goal.returns-clause-answer
 returns-clause-answer g c =
     let absent = get_test c.args.self.now.connections _ c.args.id _ (ap (λ s. s.connections) c.self.view_is) c.contains_key.ensures ∙ c.if-contains_key.false in
     open_fresh _ _ _ absent refl
+
+pub returns-in-Ok-clause-isolated : goal.returns-in-Ok-clause-isolated
+returns-in-Ok-clause-isolated g c = isolates_after c.isolation.ensures.apart c.verified_isolation.ensures.apart c.args.self.now _ _ (returns-in-Ok-clause-came g c)

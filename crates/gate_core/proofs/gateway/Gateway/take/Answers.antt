@@ -4,6 +4,7 @@ use Rattle.gate_core.specs.Held.{waiting_in}
 use Rattle.gate_core.specs.Lefts.{taken}
 use Rattle.gate_core.proofs.Maps.{get_found, Changed-lent, Changed-others, Changed-same}
 use Rattle.gate_core.proofs.Arrivals.{same_state, left_by, take_refused, take_refused_none, taken_came, if_taken}
+use Rattle.gate_core.proofs.Isolating.{isolates_after}
 use Rattle.gate_core.proofs.gateway.Gateway.take.Goals as goal
 
 pub returns-clause-answer : goal.returns-clause-answer
@@ -43,3 +44,6 @@ returns-clause-came g c =
 
 pub returns-in_default-clause-answer : goal.returns-in_default-clause-answer
 returns-in_default-clause-answer g c = take_refused_none c.args.self.now c.args.id _ _ (get_found c.args.self.now.connections _ c.args.id None (ap (λ s. s.connections) c.self.view_is) c.in_default.ensures.value) refl
+
+pub returns-clause-isolated : goal.returns-clause-isolated
+returns-clause-isolated g c = IfOk-weaker c.take.result _ _ (λ given. isolates_after c.isolation.ensures.apart c.verified_isolation.ensures.apart c.args.self.now _ _) (returns-clause-came g c)
