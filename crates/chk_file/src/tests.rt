@@ -118,6 +118,55 @@ fn a_check_tells_what_stands_and_what_is_good(rt: HostRuntime) -> Result<(), Fai
     Ok(())
 }
 
+/// A byte of each text of a share is changed, of another share each, and one at its end.
+#[test]
+fn a_check_finds_each_kind_of_damage(rt: HostRuntime) -> Result<(), Fail> {
+    let alloc = rt.alloc();
+    let mut grid = grid_of_one(alloc)?;
+    let cap = upload(alloc, &mut grid, 3, 10, b"", big_file(alloc)?)?;
+    let fields = read_fields(&cap)?;
+    let index = storage_index(&fields.key);
+    for (number, place) in [
+        // torn at its beginning, another version, another number
+        (0u16, 0u64),
+        (1, 2),
+        (2, 6),
+        // another extension block
+        (3, 22),
+        // another segment hash, another sibling, another block
+        (4, 213),
+        (5, 282),
+        (6, 417),
+        // torn at its end
+        (7, 67_084),
+    ] {
+        assert!(rt; grid.spoil(0, index, number, place)?);
+    }
+    let verify_cap = weaken(&cap).ok_or("no verify cap")?;
+    let judged = check(alloc, &mut grid, &verify_cap, true)?;
+    assert_eq!(rt; judged.good, 2);
+    assert_eq!(rt;
+        judged.corrupt.as_slice(),
+        [
+            (0, 0),
+            (0, 1),
+            (0, 2),
+            (0, 3),
+            (0, 4),
+            (0, 5),
+            (0, 6),
+            (0, 7)
+        ]
+        .as_slice()
+    );
+    // Of another size none is a share.
+    let other = weaken(&Cap::Chk(forged(&fields, 3, 10, 200_001)?)).ok_or("no verify cap")?;
+    let none = check(alloc, &mut grid, &other, true)?;
+    assert_eq!(rt; none.good, 0);
+    assert_eq!(rt; none.corrupt.len(), 10);
+    Ok(())
+}
+
 /// A cap of the same file with other numbers.
 fn forged(fields: &ReadFields, k: u16, n: u16, size: u64) -> Result<ReadFields, Fail> {
     if !octets::is_sharing(k, n) {
