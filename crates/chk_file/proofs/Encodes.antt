@@ -4,6 +4,7 @@ use Rattle.std.specs.Prelude.{◌==◌, All, IfSome, nat_le}
 use Rattle.std.specs.Int.{div_ceil}
 use Rattle.std.specs.Option.{option_map, option_or}
 use Rattle.std.specs.List.{concat, list_all, range_with_len}
+use Rattle.std.specs.Cmp.Lexicographic.{bytes_decides}
 use Rattle.std.specs.Simd.{first_chunks}
 use Rattle.std.proofs.lemmas.Bool.{and_parts, eqb-true, leb-true}
 use Rattle.std.proofs.lemmas.Option.{cond_some, none-some}
@@ -26,7 +27,7 @@ use Rattle.chk_file.specs.Row.{Row, Place, places, first_good, good_at, good_sha
 use Rattle.chk_file.specs.Taken.{AreTaken}
 use Rattle.chk_file.specs.Fit.{blocks_at, decoded_at, segment_from, has_zeros, has_padding, has_root, is_of, crypttext_from, given_by, fit_in}
 use Rattle.chk_file.specs.IsFit.{IsByteRow, IsGivenBy}
-use Rattle.chk_file.proofs.Tools.{true_or_false, same_bytes, All-filter_map}
+use Rattle.chk_file.proofs.Tools.{true_or_false, All-filter_map}
 use Rattle.chk_file.proofs.Pieces.{not_all}
 use Rattle.chk_file.proofs.Sealed.{ReadFrom, GoodIsCut}
 use Rattle.chk_file.proofs.Goods.{of_first, all_taken, numbers-blocks_at, contents-blocks_at, first_long, same_lengths}
@@ -202,7 +203,7 @@ top_of : (p : ParamsValue) (c : List ℕ) (k : ℕ) (shares : List GoodShare) �
 top_of p c zero shares some top = absurd (omega arith)
 top_of p c (suc k) [] some top = cc
 top_of p c (suc k) (share ∷ shares) some top =
-    All-cons (λ (s : GoodShare). (roots_of p c).crypttext_root ≡ s.ueb.crypttext_root) share [] (same_bytes (roots_of p c).crypttext_root share.ueb.crypttext_root top)
+    All-cons (λ (s : GoodShare). (roots_of p c).crypttext_root ≡ s.ueb.crypttext_root) share [] ((bytes_decides (roots_of p c).crypttext_root share.ueb.crypttext_root).0 top)
     (All-nil (λ (s : GoodShare). (roots_of p c).crypttext_root ≡ s.ueb.crypttext_root))
 
 module _ (read : ReadFrom) (is_cut : GoodIsCut) (count : DecodedCount) (are : DecodedBlocks) (back : DecodedGiven) (cut : JoinedCut) (twice : Twice) (is : CryptIs) (long : CryptLength)

@@ -2,6 +2,7 @@
 use Rattle.std.proofs.Common.{◌≡◌, ℕ, zero, suc, ◌<◌, ◌≤◌, List, [], ◌∷◌, length, take, drop, map, get_or, Bool, true, cond, Some, None, refl, sym, ap, subst, ◌∙◌, arith}
 use Rattle.std.specs.Prelude.{◌==◌, All}
 use Rattle.std.specs.List.{concat, list_all, range_with_len}
+use Rattle.std.specs.Cmp.Lexicographic.{bytes_decides}
 use Rattle.std.proofs.lemmas.Bool.{and_from, le-leb}
 use Rattle.std.proofs.lemmas.List.{length-map, take-map, length-take-le}
 use Rattle.std.proofs.lemmas.List.Elements.{All-head, All-tail, All-take, All-map}
@@ -17,7 +18,7 @@ use Rattle.share_codec.specs.GoodShare.{GoodShare}
 use Rattle.chk_file.specs.Row.{Row, good_shares}
 use Rattle.chk_file.specs.Fit.{blocks_at, segment_from, has_zeros, has_padding, has_root, is_of, crypttext_from, given_by, fit_in}
 use Rattle.chk_file.specs.IsFit.{IsGivenBy}
-use Rattle.chk_file.proofs.Tools.{bytes_same, pairs_taken}
+use Rattle.chk_file.proofs.Tools.{pairs_taken}
 use Rattle.chk_file.proofs.Decodes.{made_share}
 use Rattle.chk_file.proofs.Sealed.{ReadFrom, GoodIsCut}
 use Rattle.chk_file.proofs.Sound.{Twice, CryptIs, CryptLength, crypt-twice, length-crypt}
@@ -57,7 +58,7 @@ module _ (p : ParamsValue) (crypttext : List ℕ) where
   root_first zero shares some many all = absurd (omega arith)
   root_first (suc k) [] some many all = absurd (omega arith)
   root_first (suc k) (share ∷ shares) some many all =
-      bytes_same (roots_of p crypttext).crypttext_root share.ueb.crypttext_root (All-head (λ (s : GoodShare). (roots_of p crypttext).crypttext_root ≡ s.ueb.crypttext_root) share [] all)
+      (bytes_decides (roots_of p crypttext).crypttext_root share.ueb.crypttext_root).1 (All-head (λ (s : GoodShare). (roots_of p crypttext).crypttext_root ≡ s.ueb.crypttext_root) share [] all)
 
 module _ (read : ReadFrom) (is_cut : GoodIsCut) (decodes : Decodes) (padded : Padded) (twice : Twice) (is : CryptIs) (long : CryptLength) (stay : CryptBytes)
     (p : ParamsValue) (sharing : IsSharing p.k p.n) (key ueb : List ℕ) (row : Row) (bytes : List ℕ) (key_bytes : AreBytes key) (are : AreBytes bytes) (given : IsGivenBy p key (good_shares p ueb row) bytes) where

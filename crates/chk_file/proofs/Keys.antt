@@ -1,8 +1,9 @@
 -- Where no two uses collide, what verification finds by an upload's cap is what is held.
-use Rattle.std.proofs.Common.{◌≡◌, ℕ, ◌<◌, ◌≤◌, List, [], ◌∷◌, length, take, map, Bool, true, false, cond, eqb, Option, Some, None, refl, sym, ap, subst, ◌∙◌, arith}
+use Rattle.std.proofs.Common.{◌≡◌, ℕ, ◌<◌, ◌≤◌, List, [], ◌∷◌, length, take, map, Bool, true, false, cond, Option, Some, None, refl, sym, ap, subst, ◌∙◌, arith}
 use Rattle.std.specs.Prelude.{nat_le, All, Contains, option_and_then, flat_map, ◌||◌}
 use Rattle.std.specs.Option.{option_map, option_map_or, option_or}
 use Rattle.std.specs.List.{range_with_len, filter_map, cons_option, list_any}
+use Rattle.std.specs.Cmp.Lexicographic.{bytes_decides}
 use Rattle.std.proofs.lemmas.Bool.{and_from, eq-eqb, leb-true}
 use Rattle.std.proofs.lemmas.List.{length-map, take-map, length-take-le}
 use Rattle.std.proofs.lemmas.List.Elements.{All-head, All-tail, All-filter, All-take}
@@ -28,7 +29,7 @@ use Rattle.chk_file.specs.Fit.{crypttext_from, has_padding, has_root, is_of, giv
 use Rattle.chk_file.specs.Marks.{Mark, MarkRow, stands, shown_row}
 use Rattle.chk_file.specs.Held.{has_none, is_untouched, stands_untouched, untouched_numbers, held_of}
 use Rattle.chk_file.specs.Sound.{IsMarkAt}
-use Rattle.chk_file.proofs.Tools.{true_or_false, or_first, bytes_same, Contains-flat_map, Contains-range, All-range, filtered_apart, kept_alike, kept_range, pairs_taken}
+use Rattle.chk_file.proofs.Tools.{true_or_false, Contains-flat_map, Contains-range, All-range, filtered_apart, kept_alike, kept_range, pairs_taken}
 use Rattle.chk_file.proofs.Uploads.{shares_hashed}
 use Rattle.chk_file.proofs.Decodes.{made_share}
 use Rattle.chk_file.proofs.Sealed.{ReadFrom}
@@ -107,7 +108,7 @@ module _ (meets : MadeMeets) (back : MadeReadBack) (is_made : GoodIsMade) (is : 
           → good_share (toggled_from (place ∷ toggles) 0 (share p crypttext i)) i p (ueb_hash p crypttext) ≡ None
       spoiled_is_bad place toggles within verified =
           none_if (good_share (toggled_from (place ∷ toggles) 0 (share p crypttext i)) i p (ueb_hash p crypttext))
-          (λ good e. toggling.differs (place ∷ toggles) (share p crypttext i) place (or_first (eqb place place) (is_toggled toggles place) (eq-eqb place place refl)) within (good_is_made (toggled_from (place ∷ toggles) 0 (share p crypttext i)) good verified e))
+          (λ good e. toggling.differs (place ∷ toggles) (share p crypttext i) place (ap (λ b. b || is_toggled toggles place) (eq-eqb place place refl)) within (good_is_made (toggled_from (place ∷ toggles) 0 (share p crypttext i)) good verified e))
 
       at_toggles : (body toggles : List ℕ) → body ≡ share p crypttext i → All (λ place. place < length body) toggles → Includes uses (meets_uses (toggled_from toggles 0 body) i p)
           → good_share (toggled_from toggles 0 body) i p (ueb_hash p crypttext) ≡ cond (has_none toggles) (Some (made_share p crypttext i)) None
@@ -124,7 +125,7 @@ module _ (meets : MadeMeets) (back : MadeReadBack) (is_made : GoodIsMade) (is : 
   module _ (decodes : Decodes) (padded : Padded) (p : ParamsValue) (sharing : IsSharing p.k p.n) (key crypttext : List ℕ) (some : 0 < p.size) (long : length crypttext ≡ p.size) (bytes : AreBytes crypttext) where
     root_is : (numbers : List ℕ) → 0 < length numbers → has_root p crypttext (map (made_share p crypttext) numbers) ≡ true
     root_is [] many = absurd (omega arith)
-    root_is (i ∷ numbers) many = bytes_same (roots_of p crypttext).crypttext_root (roots_of p crypttext).crypttext_root refl
+    root_is (i ∷ numbers) many = (bytes_decides (roots_of p crypttext).crypttext_root (roots_of p crypttext).crypttext_root).1 refl
 
     given_made : (numbers : List ℕ) → p.k ≤ length numbers → AreNumbers numbers → given_by p key (map (made_share p crypttext) numbers) ≡ Some (crypt key crypttext)
     given_made numbers many apart =

@@ -2,6 +2,7 @@
 use Rattle.std.proofs.Common.{◌≡◌, ℕ, ◌≤◌, List, [], ◌∷◌, length, take, true, cond, Option, Some, None, refl, sym, ap, subst, ◌∙◌, arith}
 use Rattle.std.specs.Prelude.{nat_le, All, IfSome}
 use Rattle.std.specs.List.{range_with_len, filter_map}
+use Rattle.std.specs.Cmp.Lexicographic.{bytes_decides}
 use Rattle.std.proofs.lemmas.Bool.{and_parts, leb-true}
 use Rattle.std.proofs.lemmas.Option.{cond_some, none-some}
 use Rattle.std.proofs.lemmas.List.{length-take-le}
@@ -13,7 +14,7 @@ use Rattle.share_codec.specs.Shares.{roots_of}
 use Rattle.share_codec.specs.GoodShare.{GoodShare}
 use Rattle.chk_file.specs.Fit.{crypttext_from, has_padding, has_root, is_of, given_by, fit_in}
 use Rattle.chk_file.specs.Bound.{IsBoundBy}
-use Rattle.chk_file.proofs.Tools.{true_or_false, same_bytes}
+use Rattle.chk_file.proofs.Tools.{true_or_false}
 use Rattle.chk_file.proofs.Sealed.{ReadFrom, GoodIsCut}
 use Rattle.chk_file.proofs.Goods.{IsOf, IsKnown, all_known, all_taken}
 use Rattle.chk_file.proofs.Lengths.{Sized}
@@ -44,7 +45,7 @@ module _ (read : ReadFrom) (is_cut : GoodIsCut) (p : ParamsValue) (ueb : List �
         roots = share.ueb;
         hashes = sealed.hashes;
         extension = sealed.extension;
-        top = ap (λ c. (roots_of p c).crypttext_root) (crypt-twice twice is key crypttext) ∙ same_bytes (roots_of p crypttext).crypttext_root share.ueb.crypttext_root top;
+        top = ap (λ c. (roots_of p c).crypttext_root) (crypt-twice twice is key crypttext) ∙ (bytes_decides (roots_of p crypttext).crypttext_root share.ueb.crypttext_root).0 top;
       }
 
   sharing_of : (crypttext : List ℕ) (shares : List GoodShare) → All (IsKnown read is_cut p ueb) shares → has_root p crypttext shares ≡ true → IsSharing p.k p.n

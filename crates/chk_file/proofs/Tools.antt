@@ -1,45 +1,15 @@
 -- Lists, options and tests.
 use Rattle.std.proofs.Common.{◌≡◌, ◌⊎◌, inl, inr, ℕ, zero, suc, ◌+◌, ◌-◌, ◌<◌, ◌≤◌, length, take, List, [], ◌∷◌, ◌++◌, map, Bool, true, false, cond, Option, Some, None, refl, sym, ap, subst, ◌∙◌, arith, ⊎_elim}
 use Rattle.std.proofs.lemmas.List.{append-nil, take_at, length-take-le, get_or-take}
-use Rattle.std.specs.Prelude.{option_to_list, ◌||◌, filter, flat_map, Contains, All, AllPairs, IfSome, ◌≢◌, nat_eq}
+use Rattle.std.specs.Prelude.{option_to_list, filter, flat_map, Contains, All, AllPairs, IfSome, ◌≢◌}
 use Rattle.std.specs.List.{range_with_len, filter_map, cons_option}
-use Rattle.std.specs.Bool.{Decides}
-use Rattle.std.specs.Cmp.Lexicographic.{pointwise, bytes_decides}
 use Rattle.std.proofs.lemmas.List.Elements.{Contains-append_left, Contains-append_right, All-nil, All-cons, filter_map-append}
-use Rattle.std.proofs.lemmas.Slice.Eq.{slice_eq-Decides}
+use Rattle.std.proofs.lemmas.List.FromFn.{length-range_with_len, get_or-range_with_len}
+use Rattle.std.proofs.lemmas.List.Kept.{AllPairs-filter}
 
 pub true_or_false : (b : Bool) (P : Type 0) → (b ≡ true → P) → (b ≡ false → P) → P
 true_or_false true P first second = first refl
 true_or_false false P first second = second refl
-
-pub or_first : (a b : Bool) → a ≡ true → (a || b) ≡ true
-or_first true b e = refl
-or_first false b e = cc
-
-pub or_second : (a b : Bool) → b ≡ true → (a || b) ≡ true
-or_second true b e = refl
-or_second false b e = e
-
-pub or_false : (a : Bool) → (a || false) ≡ a
-or_false true = refl
-or_false false = refl
-
--- ---- equal lists
-
-pub same_bytes : (xs ys : List ℕ) → pointwise nat_eq xs ys ≡ true → xs ≡ ys
-same_bytes xs ys = (bytes_decides xs ys).0
-
-pub bytes_same : (xs ys : List ℕ) → xs ≡ ys → pointwise nat_eq xs ys ≡ true
-bytes_same xs ys = (bytes_decides xs ys).1
-
-lists_decide : (xs ys : List ℕ) → Decides (pointwise nat_eq xs ys) (xs ≡ ys)
-lists_decide xs ys = bytes_decides xs ys
-
-pub same_lists : (xs ys : List (List ℕ)) → pointwise (pointwise nat_eq) xs ys ≡ true → xs ≡ ys
-same_lists xs ys = (slice_eq-Decides lists_decide xs ys (pointwise (pointwise nat_eq) xs ys) refl).0
-
-pub lists_same : (xs ys : List (List ℕ)) → xs ≡ ys → pointwise (pointwise nat_eq) xs ys ≡ true
-lists_same xs ys = (slice_eq-Decides lists_decide xs ys (pointwise (pointwise nat_eq) xs ys) refl).1
 
 -- ---- members
 
@@ -64,20 +34,15 @@ module _ {X Y : Type 0} where
       (Contains-cons_cases z xs x there)
 
 pub Contains-range : (a n i : ℕ) → a ≤ i → i < a + n → Contains (range_with_len a n) i
-Contains-range a zero i low high = absurd (omega arith)
-Contains-range a (suc n) i low high =
-    ⊎_elim
-    (λ same. subst (λ j. Contains (range_with_len a (suc n)) j) same (Contains-here a (range_with_len (a + 1) n)))
-    (λ later. Contains-there a (range_with_len (a + 1) n) i (Contains-range (a + 1) n i later (omega arith)))
-    (split a i low)
-  where
-    split : (a i : ℕ) → a ≤ i → (a ≡ i) ⊎ (a + 1 ≤ i)
-    split a i low = grind arith
+Contains-range a n i low high =
+    let long = length-range_with_len a n in
+    let at = get_or-range_with_len a n (i - a) i (omega arith) in
+    (i - a, omega arith, omega arith)
 
 pub All-range : (P : ℕ → Type 0) (a n : ℕ) → ((i : ℕ) → a ≤ i → i < a + n → P i) → All P (range_with_len a n)
-All-range P a zero each = All-nil P
-All-range P a (suc n) each =
-    All-cons P a (range_with_len (a + 1) n) (each a (omega arith) (omega arith)) (All-range P (a + 1) n (λ i low high. each i (omega arith) (omega arith)))
+All-range P a n each k d below =
+    let long = length-range_with_len a n in
+    subst P (sym (get_or-range_with_len a n k d (omega arith))) (each (a + k) (omega arith) (omega arith))
 
 cons_all : {X : Type 0} (P : X → Type 0) (o : Option X) (xs : List X) → IfSome o P → All P xs → All P (cons_option o xs)
 cons_all P None xs is all = all
@@ -89,35 +54,15 @@ All-filter_map P f (x ∷ xs) each = cons_all P (f x) (filter_map f xs) (each x)
 
 -- ---- numbers that rise are apart
 
-abbrev pub AllAbove : ℕ → List ℕ → Type 0
-AllAbove a xs = All (λ x. a ≤ x) xs
-
-above_next : (a : ℕ) (xs : List ℕ) → AllAbove (a + 1) xs → AllAbove a xs
-above_next a xs above k d below = let h = above k d below in omega arith
-
-above_filtered : (p : ℕ → Bool) (a n : ℕ) → AllAbove a (filter p (range_with_len a n))
-above_filtered p a zero = All-nil (λ x. a ≤ x)
-above_filtered p a (suc n) =
-    let rest : AllAbove a (filter p (range_with_len (a + 1) n)) = above_next a _ (above_filtered p (a + 1) n) in
-    true_or_false (p a) _
-    (λ yes. subst (λ b. AllAbove a (cond b (a ∷ filter p (range_with_len (a + 1) n)) (filter p (range_with_len (a + 1) n)))) (sym yes)
-    (All-cons (λ x. a ≤ x) a (filter p (range_with_len (a + 1) n)) (omega arith) rest))
-    (λ no. subst (λ b. AllAbove a (cond b (a ∷ filter p (range_with_len (a + 1) n)) (filter p (range_with_len (a + 1) n)))) (sym no) rest)
-
-pairs_cons : (a : ℕ) (xs : List ℕ) → AllAbove (a + 1) xs → AllPairs (λ x y. x ≢ y) xs → AllPairs (λ x y. x ≢ y) (a ∷ xs)
-pairs_cons a xs above apart zero zero d lt below = absurd (omega arith)
-pairs_cons a xs above apart zero (suc j) d lt below = let h = above j d (omega arith) in λ e. omega arith
-pairs_cons a xs above apart (suc i) zero d lt below = absurd (omega arith)
-pairs_cons a xs above apart (suc i) (suc j) d lt below = apart i j d (omega arith) (omega arith)
+range_apart : (a n : ℕ) → AllPairs (λ x y. x ≢ y) (range_with_len a n)
+range_apart a n i j d lt below e =
+    let long = length-range_with_len a n in
+    let one = get_or-range_with_len a n i d (omega arith) in
+    let other = get_or-range_with_len a n j d (omega arith) in
+    omega arith
 
 pub filtered_apart : (p : ℕ → Bool) (a n : ℕ) → AllPairs (λ x y. x ≢ y) (filter p (range_with_len a n))
-filtered_apart p a zero = λ i j d lt below. absurd (omega arith)
-filtered_apart p a (suc n) =
-    let rest = filtered_apart p (a + 1) n in
-    true_or_false (p a) _
-    (λ yes. subst (λ b. AllPairs (λ x y. x ≢ y) (cond b (a ∷ filter p (range_with_len (a + 1) n)) (filter p (range_with_len (a + 1) n)))) (sym yes)
-    (pairs_cons a (filter p (range_with_len (a + 1) n)) (above_filtered p (a + 1) n) rest))
-    (λ no. subst (λ b. AllPairs (λ x y. x ≢ y) (cond b (a ∷ filter p (range_with_len (a + 1) n)) (filter p (range_with_len (a + 1) n)))) (sym no) rest)
+filtered_apart p a n = AllPairs-filter (λ x y. x ≢ y) p (range_with_len a n) (range_apart a n)
 
 -- ---- the first of them
 

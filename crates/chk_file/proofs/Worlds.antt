@@ -5,7 +5,7 @@ use Rattle.std.specs.Option.{option_map}
 use Rattle.std.specs.Ordering.{eq_by_cmp, nat_cmp, is_eq}
 use Rattle.std.specs.declared.cmp.Ordering.{Ordering}
 use Rattle.std.specs.declared.cmp.Ordering.TheVariants.{Less, Equal, Greater}
-use Rattle.std.specs.Cmp.Lexicographic.{slice_cmp, pointwise}
+use Rattle.std.specs.Cmp.Lexicographic.{slice_cmp, pointwise, bytes_decides}
 use Rattle.std.proofs.lemmas.Bool.{and_parts, eqb-true, ltb-true}
 use Rattle.std.proofs.lemmas.Bool.Decides.{nat_tests}
 use Rattle.std.proofs.lemmas.Option.{slice_get-get_or, same_Some}
@@ -28,7 +28,7 @@ use Rattle.chk_file.specs.Marks.{Mark, Marks, MarkRow, untouched, stands, marks_
 use Rattle.chk_file.specs.World.{World, empty, same_fields, with_file, after_upload, after_lose, after_spoil}
 use Rattle.chk_file.specs.Held.{held_of, held_in, held}
 use Rattle.chk_file.specs.Sound.{IsFileAt, IsMarkAt, IsSound, IsCovered}
-use Rattle.chk_file.proofs.Tools.{true_or_false, same_bytes}
+use Rattle.chk_file.proofs.Tools.{true_or_false}
 use Rattle.chk_file.proofs.Keys.{IsRowOf}
 
 -- ---- what stands after each change
@@ -112,8 +112,8 @@ same_name f g e =
     let texts = and_parts (pointwise nat_eq f.key g.key) (pointwise nat_eq f.ueb g.ueb) halves.0 in
     let numbers = and_parts (f.k == g.k) ((f.n == g.n) && (f.size == g.size)) halves.1 in
     let more = and_parts (f.n == g.n) (f.size == g.size) numbers.1 in
-    let key = sym (same_bytes f.key g.key texts.0) in
-    let ueb = sym (same_bytes f.ueb g.ueb texts.1) in
+    let key = sym ((bytes_decides f.key g.key).0 texts.0) in
+    let ueb = sym ((bytes_decides f.ueb g.ueb).0 texts.1) in
     let k = sym (eqb-true f.k g.k numbers.0) in
     let n = sym (eqb-true f.n g.n more.0) in
     let size = sym (eqb-true f.size g.size more.1) in

@@ -39,7 +39,8 @@ fn decoded(
 ) -> Result<Option<Vec<u8>>, AllocError>
     requires { AreTaken params.now shares.now }
     ensures { IfOk result (λ found. option_map (λ v. v.items) found
-        ≡ (if has_padding params.now shares.now then Some (crypttext_from params.now shares.now) else None)) }
+        ≡ (if has_padding params.now shares.now
+        then Some (crypttext_from params.now shares.now) else None)) }
 {
     let code = Code::new(params.k, params.n).unwrap();
     let size = (params.size as usize).saturating_add(params.k as usize);

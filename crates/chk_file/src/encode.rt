@@ -27,15 +27,16 @@ pub(crate) fn encoded(
 ) -> Result<(ReadFields, Vec<RcSlice<u8>>), AllocError>
     requires size { vec_len bytes ≡ params.now.size }
     requires some { 0 < params.now.size }
-    ensures fields { let key = tagged16 (key_tag params.now secret.now) bytes.items in IfOk result (λ made. made.0 ≡ record {
-      key = key;
-      ueb = ueb_hash params.now (crypt key bytes.items);
-      k = params.now.k;
-      n = params.now.n;
-      size = params.now.size;
-    }) }
-    ensures shares { let key = tagged16 (key_tag params.now secret.now) bytes.items in IfOk result (λ made.
-        map rc_slice_items made.1.items
+    ensures fields { let key = tagged16 (key_tag params.now secret.now) bytes.items in
+        IfOk result (λ made. made.0 ≡ record {
+          key = key;
+          ueb = ueb_hash params.now (crypt key bytes.items);
+          k = params.now.k;
+          n = params.now.n;
+          size = params.now.size;
+        }) }
+    ensures shares { let key = tagged16 (key_tag params.now secret.now) bytes.items in
+        IfOk result (λ made. map rc_slice_items made.1.items
         ≡ map (λ i. share params.now (crypt key bytes.items) i) (range_with_len 0 params.now.n)) }
 {
     keystream_by_place();

@@ -19,5 +19,10 @@ impl Model for Health {
 
     ghost Value = { HealthValue };
 
-    ghost view = { λ h. record { needed = h.needed; expected = h.expected; good = h.good; corrupt = h.corrupt.items } };
+    ghost view = { λ h. record {
+      needed = h.needed;
+      expected = h.expected;
+      good = h.good;
+      corrupt = h.corrupt.items;
+    } };
 }

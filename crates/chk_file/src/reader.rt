@@ -5,10 +5,9 @@ ghost use Rattle.grid.specs.GridState.{stood, IsHonest, NoneFailed};
 ghost use Rattle.grid.specs.Leaves.{Leaves, IsUnchanged};
 ghost use Rattle.grid.specs.Found.{seen};
 ghost use Rattle.caps.specs.StorageIndex.{index_of};
-ghost use Rattle.chk_file.specs.Numbers.{params_of};
 ghost use Rattle.chk_file.specs.Row.{row_of};
-ghost use Rattle.chk_file.specs.Gathered.{by_number, good_below};
-ghost use Rattle.chk_file.specs.Fit.{fit, fit_in};
+ghost use Rattle.chk_file.specs.Gathered.{fit_of};
+ghost use Rattle.chk_file.specs.Fit.{fit};
 ghost use Rattle.chk_file.specs.Bound.{Bound};
 
 use crate::chosen::chosen;
@@ -66,13 +65,10 @@ fn read_found(
     found: &[(usize, u16, RcSlice<u8>)],
     fields: &ReadFields,
 ) -> Result<Vec<u8>, ReadFault>
-    ensures fit { let p = params_of fields.now.k fields.now.n fields.now.size in IfOk result (λ bytes. fit_in p fields.now.key
-        (good_below p fields.now.ueb (by_number p.n (map (seen rc_slice_items) found.now)) p.n)
-        ≡ Some bytes.items) }
-    ensures missing { let p = params_of fields.now.k fields.now.n fields.now.size in IsErrOf result ReadFault.NotEnoughShares →
-        fit_in p fields.now.key
-        (good_below p fields.now.ueb (by_number p.n (map (seen rc_slice_items) found.now)) p.n)
-        ≡ None }
+    ensures fit { IfOk result (λ bytes.
+        fit_of (map (seen rc_slice_items) found.now) fields.now ≡ Some bytes.items) }
+    ensures missing { IsErrOf result ReadFault.NotEnoughShares →
+        fit_of (map (seen rc_slice_items) found.now) fields.now ≡ None }
 {
     share_codec::laws::good_shares_are_read();
     let params = Params::new(fields.k, fields.n, fields.size);

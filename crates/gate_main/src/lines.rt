@@ -33,7 +33,8 @@ pub fn read_line<R: BufRead>(
     line: &mut Vec<u8>,
 ) -> Result<bool, ScriptFault>
     requires { read ≤ script_limit }
-    ensures { LineReads read (R.remaining reader.old) (R.remaining reader.new) result line.new.items }
+    ensures { LineReads read (R.remaining reader.old) (R.remaining reader.new) result
+        line.new.items }
 {
     line.clear();
     for _ in 0..u64::MAX {
@@ -53,7 +54,8 @@ fn read_part<R: BufRead>(
     line: &mut Vec<u8>,
 ) -> Result<Part, ScriptFault>
     requires { fits read (length line.old.items) false ≡ true }
-    ensures { PartReads read (R.remaining reader.old) (R.remaining reader.new) result line.old.items line.new.items }
+    ensures { PartReads read (R.remaining reader.old) (R.remaining reader.new) result
+        line.old.items line.new.items }
 {
     let shown = match reader.fill_buf() {
         Ok(shown) => shown,

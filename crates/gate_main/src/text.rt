@@ -82,8 +82,8 @@ pub fn escape(bytes: &[u8], text: &mut Vec<u8>) -> Result<(), AllocError>
 
 /// What stands before the first byte that needs an escape, that byte, and what stands after it.
 fn split_at_special(bytes: &[u8]) -> Option<(&[u8], u8, &[u8])>
-    ensures { MatchOption result (All (λ b. is_plain b
-        ≡ true) bytes.now) (λ parts. IsCutWhere is_plain bytes.now parts.0.now parts.1 parts.2.now) }
+    ensures { MatchOption result (All (λ b. is_plain b ≡ true) bytes.now)
+        (λ parts. IsCutWhere is_plain bytes.now parts.0.now parts.1 parts.2.now) }
 {
     let at = bytes.iter().position(|byte| !is_plain_byte(*byte))?;
     Some((&bytes[..at], bytes[at], &bytes[at + 1..]))

@@ -16,3 +16,4 @@ pub mod RowFacts
 pub mod RowLists
 pub mod RowPuts
 pub mod Standing
+pub mod Turns

@@ -85,24 +85,6 @@ put_still index xs old mid new put same = record {
   rooms = λ s. omega (arith, put.rooms s, same.rooms s);
 }
 
--- what calls in turn leave
-pub leaves_none : (g : GridState) → Leaves g g
-leaves_none g = record { servers = refl; rises = λ s. omega arith; honest = λ all. all; sums = λ all s. refl }
-
-pub leaves_both : (old mid new : GridState) → Leaves old mid → Leaves mid new → Leaves old new
-leaves_both old mid new a b = record {
-  servers = b.servers ∙ a.servers;
-  rises = λ s. omega (arith, a.rises s, b.rises s);
-  honest = λ all. b.honest (a.honest all);
-  sums = λ all s. b.sums (a.honest all) s ∙ a.sums all s;
-}
-
-pub unchanged_none : (g : GridState) → IsUnchanged g g
-unchanged_none g = record { maps = refl; rooms = λ s. refl }
-
-pub unchanged_both : (old mid new : GridState) → IsUnchanged old mid → IsUnchanged mid new → IsUnchanged old new
-unchanged_both old mid new a b = record { maps = b.maps ∙ a.maps; rooms = λ s. b.rooms s ∙ a.rooms s }
-
 -- no store failed in a call that was not refused
 pub calm_after : {T : Type 0} (old new : GridState) (x : T) → Leaves old new → TellsDown old new (Ok x) → NoneFailed old new
 calm_after old new x leaves down s =

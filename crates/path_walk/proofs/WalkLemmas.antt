@@ -1,8 +1,6 @@
 -- Steps of a walk.
-use Rattle.std.proofs.Common.{◌≡◌, ◌≢◌, ℕ, List, [], ◌∷◌, Some, None, Result, Ok, Err, refl, sym, ap, ◌∙◌, arith}
+use Rattle.std.proofs.Common.{◌≡◌, ◌≢◌, ℕ, List, [], ◌∷◌, Some, None, Result, Ok, Err, refl, sym, ap, ◌∙◌}
 use Rattle.std.proofs.lemmas.List.Elements.{All-head, All-tail}
-use Rattle.grid.specs.GridState.{GridState, NoneFailed}
-use Rattle.grid.specs.Leaves.{Leaves, IsUnchanged}
 use Rattle.caps.specs.declared.cap.Cap.{Cap}
 use Rattle.caps.specs.declared.cap.Cap.TheVariants.{Chk, Lit, DirChk, DirLit, ChkVerify, DirChkVerify}
 use Rattle.dir_codec.specs.Find.{child_named}
@@ -15,30 +13,6 @@ use Rattle.path_walk.specs.Walk.{Gives, then_on, listed_below, child_in, child_b
 use Rattle.path_walk.specs.Agree.{AgreesAt, AgreeOn}
 use Rattle.path_walk.specs.declared.fault.WalkFault.{WalkFault}
 use Rattle.path_walk.specs.declared.fault.WalkFault.TheVariants.{NoChild, NotDirectory, NotEnoughShares, NoMemory}
-
-pub leaves_self : (g : GridState) → Leaves g g
-leaves_self g = record { servers = refl; rises = λ s. omega arith; honest = λ all. all; sums = λ all s. refl }
-
-pub leaves_both : (old mid new : GridState) → Leaves old mid → Leaves mid new → Leaves old new
-leaves_both old mid new a b = record {
-  servers = b.servers ∙ a.servers;
-  rises = λ s. omega (arith, a.rises s, b.rises s);
-  honest = λ all. b.honest (a.honest all);
-  sums = λ all s. b.sums (a.honest all) s ∙ a.sums all s;
-}
-
-pub unchanged_self : (g : GridState) → IsUnchanged g g
-unchanged_self g = record { maps = refl; rooms = λ s. refl }
-
-pub unchanged_both : (old mid new : GridState) → IsUnchanged old mid → IsUnchanged mid new → IsUnchanged old new
-unchanged_both old mid new a b = record { maps = b.maps ∙ a.maps; rooms = λ s. b.rooms s ∙ a.rooms s }
-
--- where no store failed in both calls, none did in the first, nor in the second
-pub calm_first : (old mid new : GridState) → Leaves old mid → Leaves mid new → NoneFailed old new → NoneFailed old mid
-calm_first old mid new a b calm s = omega (arith, a.rises s, b.rises s, calm s)
-
-pub calm_second : (old mid new : GridState) → Leaves old mid → Leaves mid new → NoneFailed old new → NoneFailed mid new
-calm_second old mid new a b calm s = omega (arith, a.rises s, b.rises s, calm s)
 
 -- steps are the same where looks agree
 pub child_agrees : (gives other : Gives) (cap : Cap) (name : List ℕ) → AgreesAt gives other cap → child_below gives cap name ≡ child_below other cap name

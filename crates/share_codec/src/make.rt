@@ -227,10 +227,11 @@ fn finish(
     requires few { length drafts.items ≤ 256 }
     requires as_many { length drafts.items ≡ length tree.now }
     requires room { (i : ℕ) → i < length drafts.items →
-        length (front_text heading.now i (chain tree.now i)) ≤ length (slice_index_or drafts.items i nothing_begun).bytes }
+        length (front_text heading.now i (chain tree.now i))
+        ≤ length (slice_index_or drafts.items i nothing_begun).bytes }
     ensures { IfOk result (λ shares. map (λ share. share.items) shares.items
-        ≡ map (λ i. finished (slice_index_or drafts.items i nothing_begun) (front_text heading.now i (chain tree.now i)))
-        (range_with_len 0 (length drafts.items))) }
+        ≡ map (λ i. finished (slice_index_or drafts.items i nothing_begun)
+        (front_text heading.now i (chain tree.now i))) (range_with_len 0 (length drafts.items))) }
 {
     let mut shares = Vec::with_capacity(alloc, drafts.len())?;
     for draft in drafts {

@@ -27,7 +27,11 @@ impl<'a> Model for Share<'a> {
 
     ghost Value = { GoodShare };
 
-    ghost view = { λ s. record { number = s.number; ueb = s.ueb; blocks = first_chunks s.block_size s.block_count s.blocks.now } };
+    ghost view = { λ s. record {
+      number = s.number;
+      ueb = s.ueb;
+      blocks = first_chunks s.block_size s.block_count s.blocks.now;
+    } };
 
     ghost invariant = { λ s. (0 < s.block_size)
         × (s.block_count * s.block_size < length s.blocks.now + s.block_size) };
@@ -69,7 +73,8 @@ impl<'a> Share<'a> {
     pub(crate) fn new(number: u16, ueb: Ueb, params: &Params, blocks: &'a [u8]) -> Self
         requires some { 0 < params.now.size }
         requires all { length blocks.now ≡ blocks_size params.now }
-        ensures { result ≡ record { number = number; ueb = ueb; blocks = cut_blocks params.now blocks.now } }
+        ensures { result
+            ≡ record { number = number; ueb = ueb; blocks = cut_blocks params.now blocks.now } }
     {
         laws::params_are_a_sharing(params);
         Share {

@@ -1,17 +1,13 @@
 -- Calls that store an upload, and requests.
-use Rattle.std.proofs.Common.{Fits, w8, get_or, ◌≡◌, ◌+◌, ◌<◌, ◌≤◌, ℕ, List, [], length, take, Bool, true, false, cond, Option, Some, None, Result, Ok, Err, IfOk, OnOk, refl, sym, ap, subst, ◌∙◌, arith, inl}
-use Rattle.std.specs.Prelude.{◌↔◌, ◌&&◌, ◌==◌, if◌then◌else◌, IsTrue, nat_lt, unwrap_or}
-use Rattle.std.specs.Cmp.Lexicographic.{slice_cmp}
-use Rattle.std.specs.Ordering.{eq_by_cmp, nat_cmp}
+use Rattle.std.proofs.Common.{Fits, w8, get_or, ◌≡◌, ◌+◌, ◌<◌, ◌≤◌, ℕ, List, length, take, Bool, true, false, cond, Option, Some, None, Result, Ok, Err, IfOk, OnOk, refl, sym, ap, subst, ◌∙◌, arith, inl}
+use Rattle.std.specs.Prelude.{◌↔◌, IsTrue, nat_lt}
 use Rattle.std.specs.Result.{IsOkUnless}
 use Rattle.std.proofs.lemmas.Bool.Decides.{nat_tests}
 use Rattle.std.proofs.lemmas.List.{take_all, get_or_default}
 use Rattle.std.proofs.lemmas.Result.{IfOk-weaker}
 use Rattle.std.specs.declared.alloc.AllocError.{AllocError}
 use Rattle.caps.specs.declared.cap.Cap.{Cap}
-use Rattle.share_store.specs.Shares.{ShareKey}
-use Rattle.grid.specs.Standing.{Standing, standing}
-use Rattle.grid.specs.Placement.{placed, server_of}
+use Rattle.grid.specs.Standing.{standing}
 use Rattle.erasure.specs.Code.{AreBytes}
 use Rattle.grid.specs.GridState.{GridState, stood, maps_of, room_at, failures_at, IsHonest, NoneFailed}
 use Rattle.grid.specs.Leaves.{Leaves, IsUnchanged}
@@ -34,7 +30,9 @@ use Rattle.web_ops.specs.Answers.{made_reply}
 use Rattle.web_ops.specs.Replied.{IsStored, IsMade}
 use Rattle.web_ops.specs.Changes.{IsBegunIn}
 use Rattle.web_ops.specs.Calls.{IsFound, IsCarriedOut, IsPerformed}
-use Rattle.web_ops.proofs.Found.{leaves_self, unchanged_self, unasked}
+use Rattle.grid.proofs.Standing.{placed_none}
+use Rattle.grid.proofs.Turns.{leaves_none, unchanged_none}
+use Rattle.web_ops.proofs.Found.{unasked}
 
 -- ---- a call that stores nothing
 
@@ -151,25 +149,14 @@ same_request e request asked r old new is done = subst (λ q. IsPerformed e q r 
 plus_none : (n : ℕ) → n + 0 ≡ n
 plus_none n = omega arith
 
--- no shares at all are put where nothing changes
-placed_none : (count : ℕ) (index : List ℕ) (before : Standing) → placed count index [] before ≡ before
-placed_none count index before =
-    let point : (s : ℕ) (q : ShareKey) → placed count index [] before s q ≡ before s q = λ s q. nothing (eq_by_cmp (slice_cmp nat_cmp) q.0 index) q.1 (s == server_of count index q.1) (before s q) in
-    λ j s q. point s q j
-  where
-    nothing : (e : Bool) (k : ℕ) (t : Bool) (b : Option (List ℕ)) → (if e && nat_lt k 0 && t then Some (unwrap_or b []) else b) ≡ b
-    nothing true k true b = grind (arith, nat_tests)
-    nothing true k false b = grind (arith, nat_tests)
-    nothing false k t b = refl
-
 nothing_begun : (o : Option Upload) (g : GridState) → IsBegunIn o g g
-nothing_begun None g = unchanged_self g
+nothing_begun None g = unchanged_none g
 nothing_begun (Some u) g = (0, record { stands = sym (placed_none (length g) (index u) (stood g)); rooms = λ s. plus_none (room_at g s) })
 
 -- memory was refused before anything was stored
 pub not_begun : (e : Encoding) (request : Request) (fault : AllocError) (g : GridState) → IsPerformed e request (Err fault) g g
 not_begun e request fault g = record {
-  leaves = leaves_self g;
+  leaves = leaves_none g;
   fits = tt;
   bytes = tt;
   begun = λ honest. nothing_begun (upload_in e request) g;

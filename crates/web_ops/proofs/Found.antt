@@ -1,5 +1,5 @@
 -- Calls that store nothing.
-use Rattle.std.proofs.Common.{◌≡◌, ◌≢◌, ℕ, List, Bool, true, false, cond, Option, Some, None, Result, Ok, Err, IfOk, refl, sym, ap, subst, ◌∙◌, arith, inl, inr}
+use Rattle.std.proofs.Common.{◌≡◌, ◌≢◌, ℕ, List, Bool, true, false, cond, Option, Some, None, Result, Ok, Err, IfOk, refl, sym, ap, subst, ◌∙◌, inl, inr}
 use Rattle.std.proofs.lemmas.Result.{IfOk-weaker}
 use Rattle.std.specs.declared.alloc.AllocError.{AllocError}
 use Rattle.caps.specs.declared.cap.Cap.{Cap}
@@ -9,6 +9,7 @@ use Rattle.caps.specs.StorageIndex.{index_of}
 use Rattle.grid.specs.Standing.{standing}
 use Rattle.grid.specs.GridState.{GridState, stood, IsHonest, NoneFailed}
 use Rattle.grid.specs.Leaves.{Leaves, IsUnchanged}
+use Rattle.grid.proofs.Turns.{leaves_none, leaves_both, unchanged_none, unchanged_both, calm_first, calm_second}
 use Rattle.chk_file.specs.Bound.{Bound}
 use Rattle.chk_file.specs.Check.{HealthValue, check}
 use Rattle.chk_file.specs.Fit.{fit}
@@ -25,40 +26,14 @@ use Rattle.web_ops.specs.Answers.{at_end, with_bytes, walk_reply, checked_reply}
 use Rattle.web_ops.specs.Replied.{MayGive, IsAtEnd, IsAnsweredFrom, IsHealth}
 use Rattle.web_ops.specs.Calls.{IsFound}
 
--- ---- two calls, one after the other
-
-pub leaves_self : (g : GridState) → Leaves g g
-leaves_self g = record { servers = refl; rises = λ s. omega arith; honest = λ all. all; sums = λ all s. refl }
-
-leaves_both : (old mid new : GridState) → Leaves old mid → Leaves mid new → Leaves old new
-leaves_both old mid new a b = record {
-  servers = b.servers ∙ a.servers;
-  rises = λ s. omega (arith, a.rises s, b.rises s);
-  honest = λ all. b.honest (a.honest all);
-  sums = λ all s. b.sums (a.honest all) s ∙ a.sums all s;
-}
-
-pub unchanged_self : (g : GridState) → IsUnchanged g g
-unchanged_self g = record { maps = refl; rooms = λ s. refl }
-
-unchanged_both : (old mid new : GridState) → IsUnchanged old mid → IsUnchanged mid new → IsUnchanged old new
-unchanged_both old mid new a b = record { maps = b.maps ∙ a.maps; rooms = λ s. b.rooms s ∙ a.rooms s }
-
--- where no store failed in both calls, none did in the first, nor in the second
-calm_first : (old mid new : GridState) → Leaves old mid → Leaves mid new → NoneFailed old new → NoneFailed old mid
-calm_first old mid new a b calm s = omega (arith, a.rises s, b.rises s, calm s)
-
-calm_second : (old mid new : GridState) → Leaves old mid → Leaves mid new → NoneFailed old new → NoneFailed mid new
-calm_second old mid new a b calm s = omega (arith, a.rises s, b.rises s, calm s)
-
 -- ---- replies
 
 -- a reply for which no store is asked
 pub unasked : (Fits : Reply → Type 0) (says : Look → Reply) (reply : Reply) (r : Result Reply AllocError) (g : GridState)
     → IfOk r (λ x. x ≡ reply) → Fits reply → ((look : Look) → reply ≡ says look) → IsFound Fits says r g g
 unasked Fits says reply r g is fits same = record {
-  leaves = leaves_self g;
-  unchanged = λ honest. unchanged_self g;
+  leaves = leaves_none g;
+  unchanged = λ honest. unchanged_none g;
   fits = IfOk-weaker r _ Fits (λ x e. subst Fits (sym e) fits) is;
   written = λ honest calm. IfOk-weaker r _ _ (λ x e. e ∙ same (found_in (stood g))) is;
 }

@@ -77,6 +77,12 @@ fn asked<S: Store>(
     shown(alloc, &reply)
 }
 
+/// The reply where a directory of these children is asked for.
+fn mkdir<S: Store>(alloc: Global, grid: &mut Grid<S>, children: &str) -> Result<String, Fail> {
+    let target = "/uri?t=mkdir-immutable";
+    asked(alloc, grid, "POST", target, "", children.as_bytes())
+}
+
 fn shown(alloc: Global, reply: &Reply) -> Result<String, Fail> {
     let body = str::from_utf8(reply.body.as_slice())?;
     let fields = reply.fields;
@@ -230,14 +236,7 @@ fn paths_lead_through_directories(rt: HostRuntime) -> Result<(), Fail> {
 fn a_stored_directory_is_walked_into(rt: HostRuntime) -> Result<(), Fail> {
     let alloc = rt.alloc();
     let mut grid = grid_of_one(alloc, 1_000_000)?;
-    let made = asked(
-        alloc,
-        &mut grid,
-        "POST",
-        "/uri?t=mkdir-immutable",
-        "",
-        CHILDREN.as_bytes(),
-    )?;
+    let made = mkdir(alloc, &mut grid, CHILDREN)?;
     let cap = format!(in alloc; "Ok PlainText None {DIRECTORY}")?;
     assert_eq!(rt; made.as_str(), cap.as_str());
     for (below, reply) in [
@@ -264,14 +263,7 @@ fn a_stored_directory_is_walked_into(rt: HostRuntime) -> Result<(), Fail> {
 fn bad_shares_are_counted(rt: HostRuntime) -> Result<(), Fail> {
     let alloc = rt.alloc();
     let mut grid = grid_of_one(alloc, 1_000_000)?;
-    let _made = asked(
-        alloc,
-        &mut grid,
-        "POST",
-        "/uri?t=mkdir-immutable",
-        "",
-        CHILDREN.as_bytes(),
-    )?;
+    let _made = mkdir(alloc, &mut grid, CHILDREN)?;
     let Cap::DirChk(fields) = parse(alloc, DIRECTORY)? else {
         return Err("no directory on stores".into());
     };
@@ -322,16 +314,9 @@ fn a_verify_cap_is_not_readable(rt: HostRuntime) -> Result<(), Fail> {
         );
     }
     let children = format!(in alloc; "{{\"a\":[\"filenode\",{{\"ro_uri\":\"{VERIFY}\"}}]}}")?;
+    let refused = mkdir(alloc, &mut grid, children.as_str())?;
     assert_eq!(rt;
-        asked(
-            alloc,
-            &mut grid,
-            "POST",
-            "/uri?t=mkdir-immutable",
-            "",
-            children.as_bytes()
-        )?
-        .as_str(),
+        refused.as_str(),
         "BadRequest PlainText None bad children\n"
     );
     Ok(())
@@ -396,8 +381,7 @@ fn composed_names_are_looked_up(rt: HostRuntime) -> Result<(), Fail> {
             "BadRequest PlainText None bad children\n",
         ),
     ] {
-        let target = "/uri?t=mkdir-immutable";
-        let answered = asked(alloc, &mut grid, "POST", target, "", body.as_bytes())?;
+        let answered = mkdir(alloc, &mut grid, body)?;
         assert_eq!(rt; answered.as_str(), reply);
     }
     for name in ["%C3%A9", "e%CC%81"] {

@@ -5,7 +5,7 @@ use Rattle.grid.specs.Standing.{standing}
 use Rattle.chk_file.specs.Look.{found_in}
 use Rattle.path_walk.specs.Walk.{Gives, then_on, child_below, walked}
 use Rattle.path_walk.specs.Way.{Leads, Stops}
-use Rattle.path_walk.proofs.WalkLemmas.{leaves_both, unchanged_both, calm_first, calm_second}
+use Rattle.grid.proofs.Turns.{leaves_both, unchanged_both, calm_first, calm_second}
 use Rattle.path_walk.proofs.walker.walk.Goals as goal
 
 pub loop-name-preserved : goal.loop-name-preserved

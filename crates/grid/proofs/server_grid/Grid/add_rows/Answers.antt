@@ -8,7 +8,8 @@ use Rattle.grid.specs.Found.{entries_at}
 use Rattle.grid.specs.Rows.{Row}
 use Rattle.grid.specs.RowsKept.{row_of}
 use Rattle.grid.proofs.Gather.{past_end}
-use Rattle.grid.proofs.Puts.{calm_after, leaves_both, unchanged_both}
+use Rattle.grid.proofs.Puts.{calm_after}
+use Rattle.grid.proofs.Turns.{leaves_both, unchanged_both}
 use Rattle.grid.proofs.RowLists.{map_take_more}
 use Rattle.grid.proofs.server_grid.Grid.add_rows.Goals as goal
 

@@ -5,7 +5,7 @@ use Rattle.grid.specs.GridState.{stood, maps_of, failures_at}
 use Rattle.grid.specs.Found.{AllBut, found_in, found_below, entries_at, seen}
 use Rattle.grid.proofs.Gather.{all_stand}
 use Rattle.grid.proofs.Missing.{more_may_miss, all_but_both, none_missing, given_too}
-use Rattle.grid.proofs.Puts.{leaves_both, unchanged_both}
+use Rattle.grid.proofs.Turns.{leaves_both, unchanged_both}
 use Rattle.grid.proofs.server_grid.Grid.gather.Goals as goal
 
 pub loop-server-preserved : goal.loop-server-preserved

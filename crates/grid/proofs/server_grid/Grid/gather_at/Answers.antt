@@ -10,7 +10,7 @@ use Rattle.grid.specs.GridState.{stood, maps_of, failures_at}
 use Rattle.grid.specs.Found.{AllBut, entries_at, seen}
 use Rattle.grid.proofs.Gather.{row, rows_more, rows_missing, entry_of_number, stands_at, by_calm, by_rise, rises_or_stays}
 use Rattle.grid.proofs.Missing.{more_may_miss, all_but_both}
-use Rattle.grid.proofs.Puts.{leaves_both, unchanged_both}
+use Rattle.grid.proofs.Turns.{leaves_both, unchanged_both}
 use Rattle.grid.proofs.server_grid.Grid.gather_at.Goals as goal
 use Rattle.grid.proofs.server_grid.Grid.gather_at.Goals.{in-Some+in_ok-push-in-Some, in-None}
 

@@ -7,7 +7,8 @@ use Rattle.grid.specs.Standing.{standing}
 use Rattle.grid.specs.GridState.{stood, room_at}
 use Rattle.grid.specs.Placement.{server_of}
 use Rattle.grid.specs.OneStore.{IsPutHere}
-use Rattle.grid.proofs.Puts.{put_next, put_still, leaves_both, calm_after, passed_on, passed_is, too_many, placed_past, taken_few}
+use Rattle.grid.proofs.Puts.{put_next, put_still, calm_after, passed_on, passed_is, too_many, placed_past, taken_few}
+use Rattle.grid.proofs.Turns.{leaves_both}
 use Rattle.grid.proofs.server_grid.Grid.put_all.Goals as goal
 
 pub loop-i-preserved : goal.loop-i-preserved

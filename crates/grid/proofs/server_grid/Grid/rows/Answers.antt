@@ -4,7 +4,8 @@ use Rattle.grid.specs.GridState.{GridState, maps_of, IsHonest}
 use Rattle.grid.specs.Found.{entries_at}
 use Rattle.grid.specs.Rows.{Row, rows_below}
 use Rattle.grid.proofs.Calls.{some_at}
-use Rattle.grid.proofs.Puts.{calm_after, leaves_both, unchanged_both}
+use Rattle.grid.proofs.Puts.{calm_after}
+use Rattle.grid.proofs.Turns.{leaves_both, unchanged_both}
 use Rattle.grid.proofs.server_grid.Grid.rows.Goals as goal
 
 pub loop-server-preserved : goal.loop-server-preserved

@@ -6,7 +6,8 @@ use Rattle.grid.specs.Rows.{rows_of}
 use Rattle.grid.specs.ImageHeads.{head_key}
 use Rattle.grid.specs.ImageReading.{Reading, rows_said, stopped}
 use Rattle.grid.specs.ImageSteps.{SaysRow}
-use Rattle.grid.proofs.Puts.{calm_after, leaves_none, leaves_both}
+use Rattle.grid.proofs.Puts.{calm_after}
+use Rattle.grid.proofs.Turns.{leaves_none, leaves_both}
 use Rattle.grid.proofs.ImageRuns.{starts, goes_on, stops_reading, stops_putting, stops_at_end, ends, reads_passed}
 use Rattle.grid.proofs.server_grid.Grid.take_rows.Goals as goal
 
