@@ -3,7 +3,7 @@ use Rattle.std.proofs.Common.{◌≡◌, ℕ, ◌+◌, ◌<◌, List, [], ◌∷
 use Rattle.std.specs.Prelude.{filter, flat_map, is_some, not, option_to_list, ◌==◌, ◌||◌}
 use Rattle.std.specs.Option.{option_or}
 use Rattle.std.specs.List.{range_with_len, filter_map}
-use Rattle.std.proofs.lemmas.List.{append-nil}
+use Rattle.std.proofs.lemmas.List.{append-nil, map_more}
 use Rattle.std.proofs.lemmas.List.Elements.{filter-append}
 use Rattle.std.proofs.lemmas.Bool.{ne_eqb}
 use Rattle.std.proofs.lemmas.Grind.{flat_map-append}
@@ -15,7 +15,6 @@ use Rattle.chk_file.specs.Check.{is_some_place, if_bad, bad_places}
 use Rattle.chk_file.specs.Gathered.{places_of}
 use Rattle.chk_file.proofs.Tools.{range_next, one_more}
 use Rattle.chk_file.proofs.Goods.{first_more, bad_more}
-use Rattle.chk_file.proofs.Pieces.{mapped_more}
 
 -- ---- one number more
 
@@ -63,7 +62,7 @@ place_of place = (place.0, place.1.now)
 module _ (p : ParamsValue) (ueb : List ℕ) (number : ℕ) (lent : List (ℕ × Bor (List ℕ))) (at : ℕ) (d : ℕ × Bor (List ℕ)) (below : at < length lent) (o : Option GoodShare)
     (is : o ≡ good_share (get_or lent at d).1.now number p ueb) (b : Bool) (some : is_some o ≡ b) where
   next : places_of (take (at + 1) lent) ≡ places_of (take at lent) ++ place_of (get_or lent at d) ∷ []
-  next = sym (mapped_more place_of lent at d below)
+  next = map_more place_of lent at d below
 
   pub any_more : is_some (first_good p ueb number (places_of (take (at + 1) lent))) ≡ (is_some (first_good p ueb number (places_of (take at lent))) || b)
   any_more =

@@ -1,10 +1,9 @@
 use Rattle.std.proofs.Common.{◌≡◌, ◌<◌, ℕ, List, [], length, take, get_or, Bor, sym, ap, ◌∙◌, arith}
 use Rattle.std.specs.Option.{option_or}
-use Rattle.std.proofs.lemmas.List.{length-map, get_or-map, take-map}
+use Rattle.std.proofs.lemmas.List.{length-map, get_or-map, take-map, map_more}
 use Rattle.chk_file.specs.Row.{Place, first_good}
 use Rattle.chk_file.specs.Gathered.{places_of}
 use Rattle.chk_file.proofs.Goods.{first_found, first_more}
-use Rattle.chk_file.proofs.Pieces.{mapped_more}
 use Rattle.chk_file.proofs.chosen.first_good.Goals as goal
 
 abbrev view : ℕ × Bor (List ℕ) → Place
@@ -31,6 +30,6 @@ loop-bytes-preserved c =
     let number = c.args.number in
     let lent : List (ℕ × Bor (List ℕ)) = c.args.places.now in
     let at : ℕ = c.loop-bytes.bytes-index in
-    ap (first_good p ueb number) (sym (mapped_more view lent at nowhere c.loop-bytes-test.true))
+    ap (first_good p ueb number) (map_more view lent at nowhere c.loop-bytes-test.true)
     ∙ first_more p ueb number (places_of (take at lent)) (view (get_or lent at nowhere))
     ∙ (λ i. option_or (c.loop-bytes.invariant i) ((sym c.in_ok-share.ensures ∙ c.in_default.is) i))

@@ -1,12 +1,11 @@
 use Rattle.std.proofs.Common.{◌≡◌, ◌<◌, ◌+◌, ◌++◌, ◌∷◌, [], ℕ, List, Vec, Global, length, map, take, get_or, Bor, sym, ap, ◌∙◌, arith}
 use Rattle.std.proofs.Math.ListN.{set}
 use Rattle.std.specs.Rc.{rc_slice_items}
-use Rattle.std.proofs.lemmas.List.{length-map, map-append, map-set, get_or-map}
+use Rattle.std.proofs.lemmas.List.{length-map, map-append, map-set, get_or-map, map_more}
 use Rattle.grid.specs.Found.{seen}
 use Rattle.chk_file.specs.Row.{Place}
 use Rattle.chk_file.specs.Gathered.{Found, places_of, of_number, by_number}
 use Rattle.chk_file.proofs.Gathered.{row_at, length-rows, rows_past, rows_more}
-use Rattle.chk_file.proofs.Pieces.{mapped_more}
 use Rattle.chk_file.proofs.rows.Rows.new.Goals as goal
 use Rattle.chk_file.proofs.rows.Rows.new.Goals.{then-number-n+in_ok-push, else-number-n}
 
@@ -33,7 +32,7 @@ loop-server-preserved c =
     let n : ℕ = c.args.n in
     let fs : List Found = map (seen rc_slice_items) (take at gathered) in
     let more : fs ++ seen rc_slice_items item ∷ [] ≡ map (seen rc_slice_items) (take (at + 1) gathered) =
-    ap (λ x. fs ++ seen rc_slice_items x ∷ []) c.loop-server-item.is ∙ mapped_more (seen rc_slice_items) gathered at item c.loop-server-test.true in
+    ap (λ x. fs ++ seen rc_slice_items x ∷ []) c.loop-server-item.is ∙ sym (map_more (seen rc_slice_items) gathered at item c.loop-server-test.true) in
     elim c.if-number-n.branch [
       | then-number-n+in_ok-push w ↦
           let m : ℕ = item.1 in
