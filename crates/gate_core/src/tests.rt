@@ -9,6 +9,15 @@ use std::process::Abort;
 use std::rc::RcSlice;
 use std::test::Fail;
 
+/// Runs beside those of their kept items.
+mod runs;
+/// Runs that are drawn by lot.
+mod drawn;
+/// Runs case by case.
+mod pairs;
+/// Runs in which stores are full or fail, where what is dropped can be told.
+mod premises;
+
 const LETTERS: &[u8] = &[b'a'; 56];
 
 const LETTERS_CAP: &[u8] =
