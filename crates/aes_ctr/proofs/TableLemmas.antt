@@ -5,7 +5,7 @@ use Rattle.std.specs.List.{range_with_len}
 use Rattle.aes_ctr.specs.Field.{times, times_bits, times_x}
 use Rattle.aes_ctr.specs.SBox.{s_box, inverse, affine, affine_bit}
 use Rattle.aes_ctr.specs.Words.{word_bytes}
-use Rattle.aes_ctr.specs.declared.tables.TheConstants.{S_BOX, FROM_ROW_0, FROM_ROW_1, FROM_ROW_2, FROM_ROW_3}
+use Rattle.aes_ctr.specs.declared.tables.TheConstants.{S_BOX, FROM_ROW_0, FROM_ROW_1, FROM_ROW_2, FROM_ROW_3, IN_ROW_0, IN_ROW_1, IN_ROW_2}
 
 -- a list of a function's values has its value at each place
 value_at : {X : Type 0} (f : ℕ → X) (xs : List X) (a n : ℕ) (d : X) → xs ≡ map f (range_with_len a n)
@@ -127,3 +127,67 @@ unfolding part_3
 from_row_3_of x h =
     same_values (λ y. word_bytes (get_or FROM_ROW_3 y 0)) (λ y. part_3 (get_or S_BOX y 0)) 0 256 entries_3 x (omega arith) h
     ∙ ap part_3 (s_box_of x h)
+
+-- a byte in the first row alone
+alone_0 : ℕ → List ℕ
+alone_0 s = s ∷ 0 ∷ 0 ∷ 0 ∷ []
+
+alone_entries_0 : map (λ x. word_bytes (get_or IN_ROW_0 x 0)) (range_with_len 0 256)
+    ≡ map (λ x. alone_0 (get_or S_BOX x 0)) (range_with_len 0 256)
+unfolding word_bytes alone_0
+alone_entries_0 = refl
+
+-- the table of the last round for the first row
+pub in_row_0_of : (x : ℕ) → x < 256 → word_bytes (get_or IN_ROW_0 x 0) ≡ s_box x ∷ 0 ∷ 0 ∷ 0 ∷ []
+unfolding alone_0
+in_row_0_of x h =
+    same_values (λ y. word_bytes (get_or IN_ROW_0 y 0)) (λ y. alone_0 (get_or S_BOX y 0)) 0 256 alone_entries_0 x (omega arith) h
+    ∙ ap alone_0 (s_box_of x h)
+
+-- a byte in the second row alone
+alone_1 : ℕ → List ℕ
+alone_1 s = 0 ∷ s ∷ 0 ∷ 0 ∷ []
+
+alone_entries_1 : map (λ x. word_bytes (get_or IN_ROW_1 x 0)) (range_with_len 0 256)
+    ≡ map (λ x. alone_1 (get_or S_BOX x 0)) (range_with_len 0 256)
+unfolding word_bytes alone_1
+alone_entries_1 = refl
+
+-- the table of the last round for the second row
+pub in_row_1_of : (x : ℕ) → x < 256 → word_bytes (get_or IN_ROW_1 x 0) ≡ 0 ∷ s_box x ∷ 0 ∷ 0 ∷ []
+unfolding alone_1
+in_row_1_of x h =
+    same_values (λ y. word_bytes (get_or IN_ROW_1 y 0)) (λ y. alone_1 (get_or S_BOX y 0)) 0 256 alone_entries_1 x (omega arith) h
+    ∙ ap alone_1 (s_box_of x h)
+
+-- a byte in the third row alone
+alone_2 : ℕ → List ℕ
+alone_2 s = 0 ∷ 0 ∷ s ∷ 0 ∷ []
+
+alone_entries_2 : map (λ x. word_bytes (get_or IN_ROW_2 x 0)) (range_with_len 0 256)
+    ≡ map (λ x. alone_2 (get_or S_BOX x 0)) (range_with_len 0 256)
+unfolding word_bytes alone_2
+alone_entries_2 = refl
+
+-- the table of the last round for the third row
+pub in_row_2_of : (x : ℕ) → x < 256 → word_bytes (get_or IN_ROW_2 x 0) ≡ 0 ∷ 0 ∷ s_box x ∷ 0 ∷ []
+unfolding alone_2
+in_row_2_of x h =
+    same_values (λ y. word_bytes (get_or IN_ROW_2 y 0)) (λ y. alone_2 (get_or S_BOX y 0)) 0 256 alone_entries_2 x (omega arith) h
+    ∙ ap alone_2 (s_box_of x h)
+
+-- a byte in the fourth row alone
+alone_3 : ℕ → List ℕ
+alone_3 s = 0 ∷ 0 ∷ 0 ∷ s ∷ []
+
+alone_entries_3 : map (λ x. word_bytes (get_or S_BOX x 0)) (range_with_len 0 256)
+    ≡ map (λ x. alone_3 (get_or S_BOX x 0)) (range_with_len 0 256)
+unfolding word_bytes alone_3
+alone_entries_3 = refl
+
+-- the table of the last round for the fourth row
+pub in_row_3_of : (x : ℕ) → x < 256 → word_bytes (get_or S_BOX x 0) ≡ 0 ∷ 0 ∷ 0 ∷ s_box x ∷ []
+unfolding alone_3
+in_row_3_of x h =
+    same_values (λ y. word_bytes (get_or S_BOX y 0)) (λ y. alone_3 (get_or S_BOX y 0)) 0 256 alone_entries_3 x (omega arith) h
+    ∙ ap alone_3 (s_box_of x h)

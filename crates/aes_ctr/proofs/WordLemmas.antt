@@ -2,7 +2,7 @@
 use Rattle.std.proofs.Common.{zero, suc, ◌≡◌, ℕ, ◌+◌, ◌*◌, ◌/◌, ◌%◌, ◌^◌, ◌<◌, List, [], ◌∷◌, ◌++◌, get_or, bit_xor, refl, ap, sym, ◌∙◌, arith}
 use Rattle.std.proofs.lemmas.Nat.{xor_shr, xor_mod, xor_comm, be_bytes_4}
 use Rattle.std.specs.Int.{from_be_bytes, w32}
-use Rattle.std.specs.Int.Bits.{xor_assoc}
+use Rattle.std.specs.Int.Bits.{xor_assoc, xor_zero_l, xor_zero_r}
 use Rattle.aes_ctr.specs.Field.{times}
 use Rattle.aes_ctr.specs.Rounds.{mixed}
 use Rattle.aes_ctr.specs.Words.{columns, word_bytes, word_byte}
@@ -99,6 +99,29 @@ mixed_sum a b c d key s t u v p q r w =
     ∙ sum_2 s t (times 2 u) (times 3 v)))
     (row_3 ∙ ap (λ (n : ℕ). bit_xor n (word_byte key 3)) (four_sums (byte_of a p 3) (byte_of b q 3) (byte_of c r 3) (byte_of d w 3)
     ∙ sum_3 (times 3 s) t u (times 2 v)))
+
+-- four bytes, each alone in its row, and a word of a round key add up to the bytes' sums with those of the key
+pub placed_sum : (a b c d key s t u v : ℕ)
+    → word_bytes a ≡ s ∷ 0 ∷ 0 ∷ 0 ∷ [] → word_bytes b ≡ 0 ∷ t ∷ 0 ∷ 0 ∷ []
+    → word_bytes c ≡ 0 ∷ 0 ∷ u ∷ 0 ∷ [] → word_bytes d ≡ 0 ∷ 0 ∷ 0 ∷ v ∷ []
+    → word_bytes (bit_xor (bit_xor (bit_xor (bit_xor a b) c) d) key)
+    ≡ bit_xor s (word_byte key 0) ∷ bit_xor t (word_byte key 1)
+    ∷ bit_xor u (word_byte key 2) ∷ bit_xor v (word_byte key 3) ∷ []
+placed_sum a b c d key s t u v p q r w =
+    let row_0 = sum_of_five (λ n. word_byte n 0) sums_0 a b c d key in
+    let row_1 = sum_of_five (λ n. word_byte n 1) sums_1 a b c d key in
+    let row_2 = sum_of_five (λ n. word_byte n 2) sums_2 a b c d key in
+    let row_3 = sum_of_five (λ n. word_byte n 3) sums_3 a b c d key in
+    sym (bytes_are (bit_xor (bit_xor (bit_xor (bit_xor a b) c) d) key))
+    ∙ four
+    (row_0 ∙ ap (λ (n : ℕ). bit_xor n (word_byte key 0)) (four_sums (byte_of a p 0) (byte_of b q 0) (byte_of c r 0) (byte_of d w 0)
+    ∙ simp xor_zero_r))
+    (row_1 ∙ ap (λ (n : ℕ). bit_xor n (word_byte key 1)) (four_sums (byte_of a p 1) (byte_of b q 1) (byte_of c r 1) (byte_of d w 1)
+    ∙ simp (xor_zero_r, xor_zero_l)))
+    (row_2 ∙ ap (λ (n : ℕ). bit_xor n (word_byte key 2)) (four_sums (byte_of a p 2) (byte_of b q 2) (byte_of c r 2) (byte_of d w 2)
+    ∙ simp (xor_zero_r, xor_zero_l)))
+    (row_3 ∙ ap (λ (n : ℕ). bit_xor n (word_byte key 3)) (four_sums (byte_of a p 3) (byte_of b q 3) (byte_of c r 3) (byte_of d w 3)
+    ∙ simp xor_zero_l))
 
 low_4 : (a b c d : ℕ) → a < 256 → b < 256 → c < 256 → d < 256 → (i : ℕ) → get_or (a ∷ b ∷ c ∷ d ∷ []) i 0 < 256
 low_4 a b c d p q r s zero = p

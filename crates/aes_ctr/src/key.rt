@@ -68,15 +68,51 @@ impl Key {
         let mut done = 0;
         while done < bytes.len() {
             let at = place + done as u64;
-            let skip = (at % 16) as usize;
-            let end = bytes.len().min(done + (16 - skip));
-            self.apply_in_block(&group, at, &mut bytes[done..end]);
+            let whole = in_whole_blocks(at, bytes.len() - done);
+            if whole > 0 {
+                let end = done + whole;
+                self.apply_to_blocks(&group, at, &mut bytes[done..end]);
+                done = end;
+            } else {
+                let skip = (at % 16) as usize;
+                let end = bytes.len().min(done + (16 - skip));
+                self.apply_in_block(&group, at, &mut bytes[done..end]);
+                done = end;
+            }
+        }
+    }
+
+    /// `apply` to whole blocks of a group.
+    fn apply_to_blocks(&self, group: &Group, place: u64, bytes: &mut [u8])
+        requires serves { ServeBlocks self.now (place / 16 / 256)
+            (two_rounds group.now.key group.now.first group.now.second) }
+        requires fits { place + length bytes.old < 2 ^ 64 }
+        requires within { place % 4096 + length bytes.old ≤ 4096 }
+        requires start { place % 16 ≡ 0 }
+        requires whole { length bytes.old % 16 ≡ 0 }
+        ensures { bytes.new ≡ crypt_from self.now place bytes.old }
+    {
+        let mut done = 0;
+        while done < bytes.len() {
+            let end = done + 16;
+            self.apply_to_block(group, place + done as u64, &mut bytes[done..end]);
             done = end;
         }
     }
 
-    /// `apply` to bytes whose places are in one block of a group.
+    /// `apply` to one whole block of a group.
     #[inline(always)]
+    fn apply_to_block(&self, group: &Group, place: u64, bytes: &mut [u8])
+        requires serves { ServeBlocks self.now (place / 16 / 256)
+            (two_rounds group.now.key group.now.first group.now.second) }
+        requires start { place % 16 ≡ 0 }
+        requires whole { length bytes.old ≡ 16 }
+        ensures { bytes.new ≡ crypt_from self.now place bytes.old }
+    {
+        add_words(bytes, self.block(group, place / 16));
+    }
+
+    /// `apply` to bytes whose places are in one block of a group.
     fn apply_in_block(&self, group: &Group, place: u64, bytes: &mut [u8])
         requires serves { ServeBlocks self.now (place / 16 / 256)
             (two_rounds group.now.key group.now.first group.now.second) }
@@ -84,11 +120,7 @@ impl Key {
         ensures { bytes.new ≡ crypt_from self.now place bytes.old }
     {
         let words = self.block(group, place / 16);
-        if bytes.len() == 16 {
-            add_words(bytes, words);
-        } else {
-            add(bytes, &bytes_of(words)[(place % 16) as usize..]);
-        }
+        add(bytes, &bytes_of(words)[(place % 16) as usize..]);
     }
 
     /// The group of block `number` of the keystream.
@@ -108,6 +140,15 @@ impl Key {
     {
         group.encrypted(&self.round_keys, (number % 0x1_0000_0000) as u32)
     }
+}
+
+/// How many of the next bytes are in whole blocks that begin at a place: none where no block begins there.
+fn in_whole_blocks(place: u64, len: usize) -> usize
+    ensures few { result ≤ len }
+    ensures whole { result % 16 ≡ 0 }
+    ensures start { 0 < result → place % 16 ≡ 0 }
+{
+    if place % 16 == 0 { len / 16 * 16 } else { 0 }
 }
 
 /// Counter block `number`.

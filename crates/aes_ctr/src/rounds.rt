@@ -8,8 +8,9 @@ ghost use Rattle.aes_ctr.specs.Cipher.{after_rounds, encrypt};
 ghost use Rattle.aes_ctr.specs.Words.{word_bytes, word_byte, columns, AreRoundKeys};
 ghost use Rattle.aes_ctr.specs.Groups.{row_0, row_1, row_2, row_3, column_word};
 
-use crate::schedule::sub;
-use crate::tables::{FROM_ROW_0, FROM_ROW_1, FROM_ROW_2, FROM_ROW_3};
+use crate::tables::{
+    FROM_ROW_0, FROM_ROW_1, FROM_ROW_2, FROM_ROW_3, IN_ROW_0, IN_ROW_1, IN_ROW_2, S_BOX,
+};
 
 /// What the byte in the first row of a word adds to the column that SubBytes and MixColumns make. So the next three
 /// do for the other rows.
@@ -94,6 +95,35 @@ pub(crate) fn column_but_row_3(a: u32, b: u32, c: u32, key: u32) -> u32
     from_row_0(a) ^ from_row_1(b) ^ from_row_2(c) ^ key
 }
 
+/// SubBytes of the byte in the first row of a word, in that row. So the next three do for the other rows.
+#[inline(always)]
+fn in_row_0(word: u32) -> u32
+    ensures { word_bytes result ≡ s_box (word_byte word 0) ∷ 0 ∷ 0 ∷ 0 ∷ [] }
+{
+    IN_ROW_0[((word >> 24) % 256) as usize]
+}
+
+#[inline(always)]
+fn in_row_1(word: u32) -> u32
+    ensures { word_bytes result ≡ 0 ∷ s_box (word_byte word 1) ∷ 0 ∷ 0 ∷ [] }
+{
+    IN_ROW_1[((word >> 16) % 256) as usize]
+}
+
+#[inline(always)]
+fn in_row_2(word: u32) -> u32
+    ensures { word_bytes result ≡ 0 ∷ 0 ∷ s_box (word_byte word 2) ∷ 0 ∷ [] }
+{
+    IN_ROW_2[((word >> 8) % 256) as usize]
+}
+
+#[inline(always)]
+fn in_row_3(word: u32) -> u32
+    ensures { word_bytes result ≡ 0 ∷ 0 ∷ 0 ∷ s_box (word_byte word 3) ∷ [] }
+{
+    S_BOX[(word % 256) as usize] as u32
+}
+
 /// A column after the last round, which mixes no columns.
 #[inline(always)]
 fn last_column(a: u32, b: u32, c: u32, d: u32, key: u32) -> u32
@@ -103,13 +133,7 @@ fn last_column(a: u32, b: u32, c: u32, d: u32, key: u32) -> u32
         ∷ bit_xor (s_box (word_byte c 2)) (word_byte key 2)
         ∷ bit_xor (s_box (word_byte d 3)) (word_byte key 3) ∷ [] }
 {
-    let bytes = [
-        sub(((a >> 24) % 256) as u8),
-        sub(((b >> 16) % 256) as u8),
-        sub(((c >> 8) % 256) as u8),
-        sub((d % 256) as u8),
-    ];
-    u32::from_be_bytes(bytes) ^ key
+    in_row_0(a) ^ in_row_1(b) ^ in_row_2(c) ^ in_row_3(d) ^ key
 }
 
 /// A whole round.

@@ -1,7 +1,7 @@
 //! SHA-256's compression (FIPS 180-4, 6.2.2) of four blocks at once: vector by vector, with a message in each lane.
 ghost use Rattle.std.specs.Prelude.{◌≡◌, ℕ, List, ◌+◌, ◌-◌, ◌*◌, ◌/◌, ◌%◌, ◌^◌, ◌<◌, ◌≤◌, length, bit_or};
 ghost use Rattle.sha2.specs.Sha256.{add32, add_state, big_sigma0, big_sigma1, ch, compress, maj, round, small_sigma0, small_sigma1, word_at};
-ghost use Rattle.tag_hash.specs.Lanes.{four, one_of, together, variables_at, words_from};
+ghost use Rattle.tag_hash.specs.Lanes.{four, one_of, scheduled, together, variables_at, words_from};
 
 use std::simd::prelude::*;
 
@@ -116,33 +116,6 @@ fn next_word(sixteenth: u32x4, fifteenth: u32x4, seventh: u32x4, second: u32x4) 
     lower_sigma1(second) + seventh + lower_sigma0(fifteenth) + sixteenth
 }
 
-/// The sixteen words of the schedules that follow these.
-#[inline(always)]
-fn next_words(w: &[u32x4; 16]) -> [u32x4; 16]
-    ensures { (b : ℕ → List ℕ) (t : ℕ) → t + 32 ≤ 64 → w.now ≡ words_from b t
-        → result ≡ words_from b (t + 16) }
-{
-    let w0 = next_word(w[0], w[1], w[9], w[14]);
-    let w1 = next_word(w[1], w[2], w[10], w[15]);
-    let w2 = next_word(w[2], w[3], w[11], w0);
-    let w3 = next_word(w[3], w[4], w[12], w1);
-    let w4 = next_word(w[4], w[5], w[13], w2);
-    let w5 = next_word(w[5], w[6], w[14], w3);
-    let w6 = next_word(w[6], w[7], w[15], w4);
-    let w7 = next_word(w[7], w[8], w0, w5);
-    let w8 = next_word(w[8], w[9], w1, w6);
-    let w9 = next_word(w[9], w[10], w2, w7);
-    let w10 = next_word(w[10], w[11], w3, w8);
-    let w11 = next_word(w[11], w[12], w4, w9);
-    let w12 = next_word(w[12], w[13], w5, w10);
-    let w13 = next_word(w[13], w[14], w6, w11);
-    let w14 = next_word(w[14], w[15], w7, w12);
-    let w15 = next_word(w[15], w0, w8, w13);
-    [
-        w0, w1, w2, w3, w4, w5, w6, w7, w8, w9, w10, w11, w12, w13, w14, w15,
-    ]
-}
-
 /// One round (6.2.2, step 3).
 #[inline(always)]
 fn round(v: [u32x4; 8], constant: u32, word: u32x4) -> [u32x4; 8]
@@ -155,42 +128,88 @@ fn round(v: [u32x4; 8], constant: u32, word: u32x4) -> [u32x4; 8]
     [first + second, a, b, c, d + first, e, f, g]
 }
 
-/// Round `16 * turn + place`, with its word of the sixteen of that turn.
+/// Round `from + place`, with its word.
 #[inline(always)]
-fn numbered_round(v: [u32x4; 8], w: &[u32x4; 16], turn: usize, place: usize) -> [u32x4; 8]
-    requires turn { turn < 4 }
-    requires place { place < 16 }
-    ensures { (b h : ℕ → List ℕ) → w.now ≡ words_from b (16 * turn)
-        → v ≡ variables_at b h (16 * turn + place)
-        → result ≡ variables_at b h (16 * turn + (place + 1)) }
+fn numbered_round(v: [u32x4; 8], word: u32x4, from: usize, place: usize) -> [u32x4; 8]
+    requires { from + place < 64 }
+    ensures { (b h : ℕ → List ℕ) → word ≡ four (scheduled b (from + place))
+        → v ≡ variables_at b h (from + place)
+        → result ≡ variables_at b h (from + (place + 1)) }
 {
-    round(v, ROUND_CONSTANTS[16 * turn + place], w[place])
+    round(v, ROUND_CONSTANTS[from + place], word)
 }
 
-/// The sixteen rounds of a turn.
+/// The first sixteen rounds, with the words of the blocks.
 #[inline(always)]
-fn sixteen_rounds(v: [u32x4; 8], w: &[u32x4; 16], turn: usize) -> [u32x4; 8]
-    requires { turn < 4 }
-    ensures { (b h : ℕ → List ℕ) → w.now ≡ words_from b (16 * turn)
-        → v ≡ variables_at b h (16 * turn)
-        → result ≡ variables_at b h (16 * turn + 16) }
+fn first_rounds(v: [u32x4; 8], w: &[u32x4; 16]) -> [u32x4; 8]
+    ensures { (b h : ℕ → List ℕ) → w.now ≡ words_from b 0 → v ≡ variables_at b h 0
+        → result ≡ variables_at b h 16 }
 {
-    let v = numbered_round(v, w, turn, 0);
-    let v = numbered_round(v, w, turn, 1);
-    let v = numbered_round(v, w, turn, 2);
-    let v = numbered_round(v, w, turn, 3);
-    let v = numbered_round(v, w, turn, 4);
-    let v = numbered_round(v, w, turn, 5);
-    let v = numbered_round(v, w, turn, 6);
-    let v = numbered_round(v, w, turn, 7);
-    let v = numbered_round(v, w, turn, 8);
-    let v = numbered_round(v, w, turn, 9);
-    let v = numbered_round(v, w, turn, 10);
-    let v = numbered_round(v, w, turn, 11);
-    let v = numbered_round(v, w, turn, 12);
-    let v = numbered_round(v, w, turn, 13);
-    let v = numbered_round(v, w, turn, 14);
-    numbered_round(v, w, turn, 15)
+    let v = numbered_round(v, w[0], 0, 0);
+    let v = numbered_round(v, w[1], 0, 1);
+    let v = numbered_round(v, w[2], 0, 2);
+    let v = numbered_round(v, w[3], 0, 3);
+    let v = numbered_round(v, w[4], 0, 4);
+    let v = numbered_round(v, w[5], 0, 5);
+    let v = numbered_round(v, w[6], 0, 6);
+    let v = numbered_round(v, w[7], 0, 7);
+    let v = numbered_round(v, w[8], 0, 8);
+    let v = numbered_round(v, w[9], 0, 9);
+    let v = numbered_round(v, w[10], 0, 10);
+    let v = numbered_round(v, w[11], 0, 11);
+    let v = numbered_round(v, w[12], 0, 12);
+    let v = numbered_round(v, w[13], 0, 13);
+    let v = numbered_round(v, w[14], 0, 14);
+    numbered_round(v, w[15], 0, 15)
+}
+
+/// Sixteen rounds from `from` on. Their words take the place of the sixteen before, of which each is made as its round
+/// needs it.
+#[inline(always)]
+fn later_rounds(v: [u32x4; 8], w: &mut [u32x4; 16], from: usize) -> [u32x4; 8]
+    requires after { 16 ≤ from }
+    requires within { from + 16 ≤ 64 }
+    ensures { (b : ℕ → List ℕ) → w.old ≡ words_from b (from - 16)
+        → (w.new ≡ words_from b from)
+        × ((h : ℕ → List ℕ) → v ≡ variables_at b h from
+        → result ≡ variables_at b h (from + 16)) }
+{
+    let w0 = next_word(w[0], w[1], w[9], w[14]);
+    let v = numbered_round(v, w0, from, 0);
+    let w1 = next_word(w[1], w[2], w[10], w[15]);
+    let v = numbered_round(v, w1, from, 1);
+    let w2 = next_word(w[2], w[3], w[11], w0);
+    let v = numbered_round(v, w2, from, 2);
+    let w3 = next_word(w[3], w[4], w[12], w1);
+    let v = numbered_round(v, w3, from, 3);
+    let w4 = next_word(w[4], w[5], w[13], w2);
+    let v = numbered_round(v, w4, from, 4);
+    let w5 = next_word(w[5], w[6], w[14], w3);
+    let v = numbered_round(v, w5, from, 5);
+    let w6 = next_word(w[6], w[7], w[15], w4);
+    let v = numbered_round(v, w6, from, 6);
+    let w7 = next_word(w[7], w[8], w0, w5);
+    let v = numbered_round(v, w7, from, 7);
+    let w8 = next_word(w[8], w[9], w1, w6);
+    let v = numbered_round(v, w8, from, 8);
+    let w9 = next_word(w[9], w[10], w2, w7);
+    let v = numbered_round(v, w9, from, 9);
+    let w10 = next_word(w[10], w[11], w3, w8);
+    let v = numbered_round(v, w10, from, 10);
+    let w11 = next_word(w[11], w[12], w4, w9);
+    let v = numbered_round(v, w11, from, 11);
+    let w12 = next_word(w[12], w[13], w5, w10);
+    let v = numbered_round(v, w12, from, 12);
+    let w13 = next_word(w[13], w[14], w6, w11);
+    let v = numbered_round(v, w13, from, 13);
+    let w14 = next_word(w[14], w[15], w7, w12);
+    let v = numbered_round(v, w14, from, 14);
+    let w15 = next_word(w[15], w0, w8, w13);
+    let v = numbered_round(v, w15, from, 15);
+    *w = [
+        w0, w1, w2, w3, w4, w5, w6, w7, w8, w9, w10, w11, w12, w13, w14, w15,
+    ];
+    v
 }
 
 /// The hash values with the outcome of the rounds added (6.2.2, step 4).
@@ -221,13 +240,9 @@ pub(crate) fn compress_four(state: &mut [u32x4; 8], a: &[u8], b: &[u8], c: &[u8]
         → state.new ≡ together 8 (λ j. compress (h j) (one_of a.now b.now c.now d.now j)) }
 {
     let mut words = first_words(a, b, c, d);
-    let mut v = *state;
-    for turn in 0..4usize {
-        if turn > 0 {
-            let following = next_words(&words);
-            words = following;
-        }
-        let next = sixteen_rounds(v, &words, turn);
+    let mut v = first_rounds(*state, &words);
+    for turn in 1..4usize {
+        let next = later_rounds(v, &mut words, 16 * turn);
         v = next;
     }
     let sum = sums(*state, v);
