@@ -1,9 +1,9 @@
 //! What no clause says: uploads whose caps were made by another program, and files that are read back.
-ghost use Rattle.std.specs.Prelude.{◌≡◌, IfOk, vec_len};
 
 use crate::{ReadFault, check, read, upload};
 use caps::{Cap, ReadFields, VerifyCap, print, storage_index, weaken};
 use grid::{Grid, GridFault};
+use octets::fakes::counted_bytes;
 use share_store::{FailAt, Liar, MemStore};
 use std::alloc::Global;
 use std::rc::RcSlice;
@@ -17,15 +17,6 @@ fn grid_of_one(alloc: Global) -> Result<Grid<MemStore>, Fail> {
     let mut stores = Vec::new(alloc);
     stores.push(MemStore::new(alloc, 1_000_000))?;
     Ok(Grid::new(stores))
-}
-
-/// Byte i is i modulo 251.
-fn big_file(alloc: Global) -> Result<Vec<u8>, Fail> {
-    let mut bytes = Vec::with_capacity(alloc, 200_000)?;
-    for i in 0..200_000u32 {
-        bytes.push((i % 251) as u8)?;
-    }
-    Ok(bytes)
 }
 
 fn letters(alloc: Global) -> Result<Vec<u8>, Fail> {
@@ -74,8 +65,8 @@ fn fifty_five_bytes_stand_in_their_cap(rt: HostRuntime) -> Result<(), Fail> {
 fn a_big_file_is_read_while_three_shares_are_good(rt: HostRuntime) -> Result<(), Fail> {
     let alloc = rt.alloc();
     let mut grid = grid_of_one(alloc)?;
-    let bytes = big_file(alloc)?;
-    let cap = upload(alloc, &mut grid, 3, 10, b"", big_file(alloc)?)?;
+    let bytes = counted_bytes(alloc, 200_000)?;
+    let cap = upload(alloc, &mut grid, 3, 10, b"", counted_bytes(alloc, 200_000)?)?;
     assert_eq!(rt; print(alloc, &cap)?.as_str(), BIG_CAP);
     let fields = read_fields(&cap)?;
     let index = storage_index(&fields.key);
@@ -90,7 +81,7 @@ fn a_big_file_is_read_while_three_shares_are_good(rt: HostRuntime) -> Result<(),
     assert!(rt; read(alloc, &mut grid, &fields)? == bytes);
     assert!(rt; grid.lose(0, index, 8)?);
     assert!(rt; read(alloc, &mut grid, &fields).is_err());
-    let again = upload(alloc, &mut grid, 3, 10, b"", big_file(alloc)?)?;
+    let again = upload(alloc, &mut grid, 3, 10, b"", counted_bytes(alloc, 200_000)?)?;
     assert_eq!(rt; print(alloc, &again)?.as_str(), BIG_CAP);
     assert!(rt; read(alloc, &mut grid, &fields)? == bytes);
     Ok(())
@@ -123,7 +114,7 @@ fn a_check_tells_what_stands_and_what_is_good(rt: HostRuntime) -> Result<(), Fai
 fn a_check_finds_each_kind_of_damage(rt: HostRuntime) -> Result<(), Fail> {
     let alloc = rt.alloc();
     let mut grid = grid_of_one(alloc)?;
-    let cap = upload(alloc, &mut grid, 3, 10, b"", big_file(alloc)?)?;
+    let cap = upload(alloc, &mut grid, 3, 10, b"", counted_bytes(alloc, 200_000)?)?;
     let fields = read_fields(&cap)?;
     let index = storage_index(&fields.key);
     for (number, place) in [

@@ -3,6 +3,7 @@ use crate::{
     Conn, FramingFault, Item, Reply, ReplyField, ReplyFields, Status, render, render_into,
 };
 use octets::Bytes;
+use octets::fakes::counted_bytes;
 use std::test::Fail;
 
 /// An item as a short text: method, target and number of fields of a request and `+`, or `.` where it closes; or the
@@ -341,15 +342,13 @@ fn a_fault_of_a_head_request_has_no_body(rt: HostRuntime) -> Result<(), Fail> {
     Ok(())
 }
 
-/// A PUT with a body of so many bytes, byte i being i mod 251.
+/// A PUT with a body of so many bytes, as [`counted_bytes`] has them.
 fn put_of(rt: &HostRuntime, length: usize) -> Result<Vec<u8>, Fail> {
     let mut text = Vec::new(rt.alloc());
     text.extend_from_slice(b"PUT /uri HTTP/1.1\r\nHost: g\r\nContent-Length: ")?;
     text.extend_from_slice(length.to_string(rt.alloc())?.as_bytes())?;
     text.extend_from_slice(b"\r\n\r\n")?;
-    for at in 0..length {
-        text.push((at % 251) as u8)?;
-    }
+    text.extend_from_slice(&counted_bytes(rt.alloc(), length)?)?;
     Ok(text)
 }
 

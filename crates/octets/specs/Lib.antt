@@ -2,3 +2,4 @@ pub mod Sharing
 pub mod Decimal
 pub mod Cut
 pub mod Written
+pub mod Counted

@@ -1,6 +1,21 @@
-//! A reader and a writer that are slow and fail, for tests of what is read and written through them.
+//! Bytes to read and write, and a reader and a writer that are slow and fail, for tests.
+ghost use Rattle.std.specs.Prelude.{◌≡◌, IfOk, length};
+ghost use Rattle.octets.specs.Counted.{counted};
 
+use std::alloc::{AllocError, Global};
 use std::io::{self, ErrorKind, Read, Write};
+
+/// So many bytes, byte i being i modulo 251. Refused only where memory is.
+pub fn counted_bytes(alloc: Global, count: usize) -> Result<Vec<u8>, AllocError>
+    ensures bytes { IfOk result (λ bytes. bytes.items ≡ counted count) }
+    ensures len { IfOk result (λ bytes. length bytes.items ≡ count) }
+{
+    let mut bytes = Vec::with_capacity(alloc, count)?;
+    for i in 0..count {
+        bytes.push((i % 251) as u8)?;
+    }
+    Ok(bytes)
+}
 
 /// A reader of these bytes that gives a few at a time.
 #[derive(Drop)]

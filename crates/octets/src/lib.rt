@@ -18,7 +18,7 @@ mod writing;
 mod fault;
 /// What holds of the definitions.
 pub mod laws;
-/// Readers and writers that fail, for tests.
+/// Bytes, and readers and writers that fail, for tests.
 pub mod fakes;
 #[cfg(test)]
 mod tests;

@@ -1,11 +1,12 @@
 //! What the clauses do not show: shares that were made by another program, and how far memory is asked for.
-ghost use Rattle.std.specs.Prelude.{◌≡◌, ◌<◌, ◌≤◌, length, IfOk};
+ghost use Rattle.std.specs.Prelude.{◌≡◌, ◌<◌, ◌≤◌, length};
 ghost use Rattle.octets.specs.Sharing.{IsSharing};
 
 use super::*;
 use crate::extension::extension_text;
 use crate::read::EXTENSION_TAG;
 use hex::{FromHex, FromHexError};
+use octets::fakes::counted_bytes;
 use sha2::{Digest, Sha256};
 use std::alloc::{AllocError, Global};
 use std::test::Fail;
@@ -218,17 +219,6 @@ fn segments_are_cut_by_the_lesser_of_131072_and_the_size(rt: HostRuntime) {
     assert_eq!(rt; ten().block_size(), 19);
 }
 
-/// So many bytes, each one more than the one before, from 0 to 250 over and over.
-fn counted(alloc: Global, count: usize) -> Result<Vec<u8>, AllocError>
-    ensures { IfOk result (λ bytes. length bytes.items ≡ count) }
-{
-    let mut bytes = Vec::with_capacity(alloc, count)?;
-    for at in 0..count {
-        bytes.push((at % 251) as u8)?;
-    }
-    Ok(bytes)
-}
-
 /// A hash of shares in a row, each of which is good.
 fn hash_of_good(
     alloc: Global,
@@ -286,7 +276,7 @@ fn part_lengths(alloc: Global, share: &[u8]) -> Result<Vec<usize>, Fail> {
 #[test]
 fn shares_of_two_segments(rt: HostRuntime) -> Result<(), Fail> {
     let params = Params::new(3, 10, 200_000);
-    let crypttext = counted(rt.alloc(), 200_000)?;
+    let crypttext = counted_bytes(rt.alloc(), 200_000)?;
     let (shares, hash) = make_shares(rt.alloc(), &params, &crypttext)?;
     assert_eq!(rt;
         hash,
@@ -309,7 +299,7 @@ fn shares_of_two_segments(rt: HostRuntime) -> Result<(), Fail> {
 #[test]
 fn a_last_segment_of_one_byte_is_padded(rt: HostRuntime) -> Result<(), Fail> {
     let params = Params::new(3, 4, 131_074);
-    let crypttext = counted(rt.alloc(), 131_074)?;
+    let crypttext = counted_bytes(rt.alloc(), 131_074)?;
     let (shares, hash) = make_shares(rt.alloc(), &params, &crypttext)?;
     assert_eq!(rt;
         hash,
@@ -326,7 +316,7 @@ fn a_last_segment_of_one_byte_is_padded(rt: HostRuntime) -> Result<(), Fail> {
 #[test]
 fn all_256_shares_are_needed(rt: HostRuntime) -> Result<(), Fail> {
     let params = Params::new(256, 256, 300);
-    let crypttext = counted(rt.alloc(), 300)?;
+    let crypttext = counted_bytes(rt.alloc(), 300)?;
     let (shares, hash) = make_shares(rt.alloc(), &params, &crypttext)?;
     assert_eq!(rt;
         hash,

@@ -3,6 +3,7 @@ use super::*;
 use caps::{Cap, parse, storage_index};
 use grid::Grid;
 use octets::Bytes;
+use octets::fakes::counted_bytes;
 use share_store::{FailAt, MemStore, Store};
 use std::alloc::Global;
 use std::test::Fail;
@@ -38,15 +39,6 @@ fn grid_of_one(alloc: Global, room: u64) -> Result<Grid<MemStore>, Fail> {
     let mut stores = Vec::new(alloc);
     stores.push(MemStore::new(alloc, room))?;
     Ok(Grid::new(stores))
-}
-
-/// Byte i is i modulo 251.
-fn big_file(alloc: Global) -> Result<Vec<u8>, Fail> {
-    let mut bytes = Vec::with_capacity(alloc, 200_000)?;
-    for i in 0..200_000u32 {
-        bytes.push((i % 251) as u8)?;
-    }
-    Ok(bytes)
 }
 
 /// The reply to a request with one field at most: its status, its fields and its body.
@@ -487,7 +479,7 @@ fn a_file_with_too_few_shares_is_gone(rt: HostRuntime) -> Result<(), Fail> {
 fn a_big_file_is_cut_and_counted(rt: HostRuntime) -> Result<(), Fail> {
     let alloc = rt.alloc();
     let mut grid = grid_of_one(alloc, 1_000_000)?;
-    let big = big_file(alloc)?;
+    let big = counted_bytes(alloc, 200_000)?;
     let put = asked(alloc, &mut grid, "PUT", "/uri", "", big.as_slice())?;
     let cap = format!(in alloc; "Ok PlainText None {BIG_CAP}")?;
     assert_eq!(rt; put.as_str(), cap.as_str());

@@ -1,0 +1,7 @@
+-- Bytes for tests.
+use Rattle.std.specs.Prelude.{ℕ, ◌%◌, List, map}
+use Rattle.std.specs.List.{range_with_len}
+
+-- so many bytes, byte i being i modulo 251, which divides the length of no block
+unfoldable pub counted : ℕ → List ℕ
+counted count = map (λ i. i % 251) (range_with_len 0 count)
