@@ -1,4 +1,4 @@
-mod Tools
+pub mod Tools
 mod Sealed
 mod Goods
 mod Lengths

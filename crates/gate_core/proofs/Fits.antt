@@ -25,7 +25,8 @@ use Rattle.gate_core.specs.Reach.{met_by, reach_by, reach, cap_index, is_index, 
 use Rattle.gate_core.specs.Uploaded.{uploads_by, uploads_of, IsProper, IsLeftBy}
 use Rattle.gate_core.specs.Apart.{reached_uses, key_uses, stood_uses, met_uses, hashed, Apart}
 use Rattle.gate_core.proofs.Local.{true_or_false, same_is, RepliesAgree, MeetsAgree, same_told, same_met_by, IsWithin, within_first, within_rest}
-use Rattle.gate_core.proofs.Members.{nothing, or_first, or_second, Contains-cons_cases, Contains-filter, Contains-flat_map}
+use Rattle.chk_file.proofs.Tools.{Contains-cons_cases, Contains-flat_map}
+use Rattle.gate_core.proofs.Members.{nothing, or_first, or_second, Contains-filter}
 use Rattle.gate_core.proofs.Worlds.{IsOf, entry_sound, entry_of, left_of}
 
 -- the strings of each upload under a reached index are among these

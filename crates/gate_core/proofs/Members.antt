@@ -1,8 +1,8 @@
 -- Elements of lists.
-use Rattle.std.proofs.Common.{◌≡◌, ◌⊎◌, inl, inr, zero, suc, List, [], ◌∷◌, Bool, true, false, cond, Option, Some, None, refl, sym, ap, subst, ◌∙◌, arith, ⊎_elim}
-use Rattle.std.specs.Prelude.{◌||◌, filter, flat_map, Contains, option_to_list}
+use Rattle.std.proofs.Common.{◌≡◌, List, [], ◌∷◌, Bool, true, false, cond, Option, Some, None, refl, sym, ap, subst, ◌∙◌, arith, ⊎_elim}
+use Rattle.std.specs.Prelude.{◌||◌, filter, Contains, option_to_list}
 use Rattle.std.proofs.lemmas.Option.{none-some, same_Some}
-use Rattle.std.proofs.lemmas.List.Elements.{Contains-append_left, Contains-append_right}
+use Rattle.chk_file.proofs.Tools.{Contains-here, Contains-there, Contains-cons_cases}
 use Rattle.gate_core.proofs.Local.{true_or_false}
 
 pub or_first : (a b : Bool) → a ≡ true → (a || b) ≡ true
@@ -16,16 +16,6 @@ or_second false b e = e
 module _ {X : Type 0} where
   pub nothing : {P : Type 0} {x : X} → Contains [] x → P
   nothing (k, below, is) = absurd (grind arith)
-
-  pub Contains-here : (x : X) (xs : List X) → Contains (x ∷ xs) x
-  Contains-here x xs = (0, grind arith, refl)
-
-  pub Contains-there : (y : X) (xs : List X) (x : X) → Contains xs x → Contains (y ∷ xs) x
-  Contains-there y xs x there = Contains-append_right (y ∷ []) xs x there
-
-  pub Contains-cons_cases : (y : X) (xs : List X) (x : X) → Contains (y ∷ xs) x → Contains xs x ⊎ (y ≡ x)
-  Contains-cons_cases y xs x (zero, below, is) = inr is
-  Contains-cons_cases y xs x (suc k, below, is) = inl (k, grind arith, is)
 
   pub Contains-option : (o : Option X) (x : X) → o ≡ Some x → Contains (option_to_list o) x
   Contains-option None x e = absurd (none-some x e)
@@ -47,12 +37,3 @@ module _ {X : Type 0} where
       (λ e. subst (λ b. filter p (cond b (x ∷ filter p xs) (filter p xs)) ≡ cond b (x ∷ filter p xs) (filter p xs)) (sym e)
       (ap (λ b. cond b (x ∷ filter p (filter p xs)) (filter p (filter p xs))) e ∙ ap (λ r. x ∷ r) (filter-twice p xs)))
       (λ e. subst (λ b. filter p (cond b (x ∷ filter p xs) (filter p xs)) ≡ cond b (x ∷ filter p xs) (filter p xs)) (sym e) (filter-twice p xs))
-
-module _ {X Y : Type 0} where
-  pub Contains-flat_map : (f : X → List Y) (xs : List X) (x : X) (y : Y) → Contains xs x → Contains (f x) y → Contains (flat_map f xs) y
-  Contains-flat_map f [] x y (k, below, is) here = grind arith
-  Contains-flat_map f (z ∷ xs) x y there here =
-      ⊎_elim
-      (λ more. Contains-append_right (f z) (flat_map f xs) y (Contains-flat_map f xs x y more here))
-      (λ same. Contains-append_left (f z) (flat_map f xs) y (subst (λ q. Contains (f q) y) (sym same) here))
-      (Contains-cons_cases z xs x there)

@@ -30,7 +30,8 @@ use Rattle.gate_core.specs.Items.{Entry, Asked, Lost, Spoiled}
 use Rattle.gate_core.specs.Runs.{upload_asked, upload_by, after_entry, world_after}
 use Rattle.gate_core.specs.Uploaded.{uploads_by, uploads_of, IsProper}
 use Rattle.gate_core.proofs.Local.{true_or_false, long_upload}
-use Rattle.gate_core.proofs.Members.{Contains-here, Contains-option}
+use Rattle.chk_file.proofs.Tools.{Contains-here}
+use Rattle.gate_core.proofs.Members.{Contains-option}
 
 -- ---- what an item uploads
 

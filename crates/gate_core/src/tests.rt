@@ -2,6 +2,7 @@
 //! memory is refused.
 
 use super::*;
+use octets::fakes::counted_bytes;
 use sha2::{Digest, Sha256};
 use share_store::{FailAt, Liar, MemStore, Store};
 use std::alloc::{AllocError, Global};
@@ -18,7 +19,13 @@ mod pairs;
 /// Runs in which stores are full or fail, where what is dropped can be told.
 mod premises;
 
+/// A file of 56 bytes, the request that puts it, and its cap.
 const LETTERS: &[u8] = &[b'a'; 56];
+
+const PUT_LETTERS: &[&[u8]] = &[
+    b"PUT /uri HTTP/1.1\r\nHost: g\r\nContent-Length: 56\r\n\r\n",
+    LETTERS,
+];
 
 const LETTERS_CAP: &[u8] =
     b"URI:CHK:xciehu7wkhrkdhseyznarsl6n4:ro65en3n4zxwl3gfinnekkeqado3jxpde7tfaj3sr7als57h4qoa:3:10:56";
@@ -27,10 +34,12 @@ const LETTERS_CAP: &[u8] =
 const LIMIT_CAP: &[u8] =
     b"URI:CHK:jgkhjmtytfjnd7mf3yfu67pevm:rsiowm6f6c5kczq3horspgotv7dblegikfw6iyctuvatrb3hs2dq:3:10:4194304";
 
-const GONE: &[u8] =
-    b"HTTP/1.1 410 Gone\r\nContent-Type: text/plain; charset=utf-8\r\nContent-Length: 18\r\n\r\nnot enough shares\n";
+/// The parts of a request that gets what a cap names, around the cap.
+const GET: &[u8] = b"GET /uri/";
 
-/// The bytes of a file as they are sent.
+const HTTP: &[u8] = b" HTTP/1.1\r\nHost: g\r\n\r\n";
+
+/// The bytes of a file as they are sent, up to their number.
 const FILE: &[u8] =
     b"HTTP/1.1 200 OK\r\nContent-Type: application/octet-stream\r\nContent-Length: ";
 
@@ -40,6 +49,28 @@ const TEXT: &[u8] =
 
 /// JSON as it is sent.
 const JSON: &[u8] = b"HTTP/1.1 200 OK\r\nContent-Type: application/json\r\nContent-Length: ";
+
+/// A request for a file of three bytes, which stand in its cap, and its reply.
+const GET_FOO: &[u8] = b"GET /uri/URI:LIT:mzxw6 HTTP/1.1\r\nHost: g\r\n\r\n";
+
+const FOO: &[u8] =
+    b"HTTP/1.1 200 OK\r\nContent-Type: application/octet-stream\r\nContent-Length: 3\r\n\r\nfoo";
+
+/// A request and the reply that it gets, each in parts, one behind the other.
+type Row<'a> = (&'a [&'a [u8]], &'a [&'a [u8]]);
+
+/// The file of letters is put and gives its cap.
+const STORED: Row<'static> = (PUT_LETTERS, &[TEXT, b"95\r\n\r\n", LETTERS_CAP]);
+
+/// The cap of the file of letters gives these bytes, or none.
+const FOUND: Row<'static> = (&[GET, LETTERS_CAP, HTTP], &[FILE, b"56\r\n\r\n", LETTERS]);
+
+const NOT_FOUND: Row<'static> = (
+    &[GET, LETTERS_CAP, HTTP],
+    &[
+        b"HTTP/1.1 410 Gone\r\nContent-Type: text/plain; charset=utf-8\r\nContent-Length: 18\r\n\r\nnot enough shares\n",
+    ],
+);
 
 /// k of n on one store in memory, with this room and this secret.
 fn made(
@@ -75,6 +106,7 @@ fn given<S: Store>(gateway: &mut Gateway<S>, id: u64, most: usize) -> Result<Vec
     Ok(gateway.take(id, most)?)
 }
 
+/// Parts, one behind the other.
 fn joined(alloc: Global, parts: &[&[u8]]) -> Result<Vec<u8>, AllocError> {
     let mut bytes = Vec::new(alloc);
     for part in parts {
@@ -83,8 +115,25 @@ fn joined(alloc: Global, parts: &[&[u8]]) -> Result<Vec<u8>, AllocError> {
     Ok(bytes)
 }
 
-fn get(alloc: Global, cap: &[u8]) -> Result<Vec<u8>, AllocError> {
-    joined(alloc, &[b"GET /uri/", cap, b" HTTP/1.1\r\nHost: g\r\n\r\n"])
+/// Whether bytes are these parts, one behind the other.
+fn is_joined(bytes: &[u8], parts: &[&[u8]]) -> bool {
+    let mut rest = bytes;
+    for part in parts {
+        match rest.strip_prefix(*part) {
+            Some(more) => rest = more,
+            None => return false,
+        }
+    }
+    rest.is_empty()
+}
+
+/// A part, so many times.
+fn repeated(alloc: Global, part: &[u8], times: usize) -> Result<Vec<u8>, AllocError> {
+    let mut bytes = Vec::new(alloc);
+    for _ in 0..times {
+        bytes.extend_from_slice(part)?;
+    }
+    Ok(bytes)
 }
 
 /// A message: its head up to the length of its body, that length, and its body.
@@ -101,50 +150,66 @@ fn put(alloc: Global, body: &[u8]) -> Result<Vec<u8>, AllocError> {
     )
 }
 
+/// The request that puts so many bytes i modulo 251.
+fn put_counted(alloc: Global, size: usize) -> Result<Vec<u8>, Fail> {
+    let body = counted_bytes(alloc, size)?;
+    Ok(put(alloc, &body)?)
+}
+
 /// What connection 1 is answered to one more piece.
 fn asked<S: Store>(gateway: &mut Gateway<S>, piece: &[u8]) -> Result<Vec<u8>, Fail> {
     send(gateway, 1, piece)?;
     given(gateway, 1, 10_000_000)
 }
 
-/// Connection 1 is answered so to one more piece.
-fn answers<S: Store>(
-    rt: &impl Abort,
-    gateway: &mut Gateway<S>,
-    piece: &[u8],
-    wanted: &[u8],
-) -> Result<(), Fail> {
-    let reply = asked(gateway, piece)?;
-    assert!(rt; reply.as_slice() == wanted);
-    Ok(())
-}
-
-/// The file of letters is put and gives its cap.
-fn letters_are_stored<S: Store>(
-    rt: &impl Abort,
+/// What connection 1 is answered to one more piece, which is given in parts.
+fn asked_parts<S: Store>(
     alloc: Global,
     gateway: &mut Gateway<S>,
-) -> Result<(), Fail> {
-    let wanted = message(alloc, TEXT, LETTERS_CAP)?;
-    answers(rt, gateway, &put(alloc, LETTERS)?, &wanted)
+    parts: &[&[u8]],
+) -> Result<Vec<u8>, Fail> {
+    let piece = joined(alloc, parts)?;
+    asked(gateway, &piece)
 }
 
-/// The cap of the file of letters gives these bytes, or none.
-fn letters_are_found<S: Store>(
-    rt: &impl Abort,
+/// Whether connection 1 is answered so.
+fn is_answered<S: Store>(
     alloc: Global,
     gateway: &mut Gateway<S>,
-) -> Result<(), Fail> {
-    let wanted = message(alloc, FILE, LETTERS)?;
-    answers(rt, gateway, &get(alloc, LETTERS_CAP)?, &wanted)
+    row: Row<'_>,
+) -> Result<bool, Fail> {
+    let (request, wanted) = row;
+    let reply = asked_parts(alloc, gateway, request)?;
+    Ok(is_joined(&reply, wanted))
 }
 
-fn letters_are_gone<S: Store>(
-    rt: &impl Abort,
+/// Whether connection 1 is answered so, row by row.
+fn each_is_answered<S: Store>(
     alloc: Global,
     gateway: &mut Gateway<S>,
-) -> Result<(), Fail> {
-    answers(rt, gateway, &get(alloc, LETTERS_CAP)?, GONE)
+    rows: &[Row<'_>],
+) -> Result<bool, Fail> {
+    for row in rows {
+        if !is_answered(alloc, gateway, *row)? {
+            return Ok(false);
+        }
+    }
+    Ok(true)
+}
+
+/// Whether a gateway answers so, row by row, on a connection 1 that is opened.
+fn serves<S: Store + Drop>(
+    alloc: Global,
+    mut gateway: Gateway<S>,
+    rows: &[Row<'_>],
+) -> Result<bool, Fail> {
+    open(&mut gateway, 1)?;
+    each_is_answered(alloc, &mut gateway, rows)
+}
+
+/// Whether 3 of 10 on one store in memory are served so.
+fn is_served(alloc: Global, room: u64, rows: &[Row<'_>]) -> Result<bool, Fail> {
+    serves(alloc, made(alloc, 3, 10, room, b"")?, rows)
 }
 
 #[test]
@@ -163,115 +228,161 @@ fn quiet_calls(gateway: &mut Gateway<MemStore>) -> Result<bool, Fail> {
     Ok(idle && !lost && !spoiled && gateway.closed(1))
 }
 
+const KINDS: &[Row<'static>] = &[
+    (
+        &[b"HEAD /uri/URI:LIT:my HTTP/1.1\r\nHost: g\r\n\r\n"],
+        &[
+            b"HTTP/1.1 200 OK\r\nContent-Type: application/octet-stream\r\nContent-Length: 1\r\n\r\n",
+        ],
+    ),
+    (
+        &[b"GET /uri/URI:LIT:mzxw6 HTTP/1.1\r\nHost: g\r\nRange: bytes=1-\r\n\r\n"],
+        &[
+            b"HTTP/1.1 206 Partial Content\r\nContent-Type: application/octet-stream\r\nContent-Length: 2\r\nContent-Range: bytes 1-2/3\r\n\r\noo",
+        ],
+    ),
+    (
+        &[b"GET /uri/URI:LIT:mzxw6 HTTP/1.1\r\nHost: g\r\nRange: bytes=3-\r\n\r\n"],
+        &[
+            b"HTTP/1.1 416 Range Not Satisfiable\r\nContent-Type: text/plain; charset=utf-8\r\nContent-Length: 22\r\nContent-Range: bytes */3\r\n\r\nrange not satisfiable\n",
+        ],
+    ),
+    (
+        &[b"DELETE /uri/URI:LIT:my HTTP/1.1\r\nHost: g\r\n\r\n"],
+        &[
+            b"HTTP/1.1 405 Method Not Allowed\r\nContent-Type: text/plain; charset=utf-8\r\nContent-Length: 19\r\nAllow: GET, HEAD, POST\r\n\r\nmethod not allowed\n",
+        ],
+    ),
+    (
+        &[b"GET /uri HTTP/1.1\r\nHost: g\r\n\r\n"],
+        &[
+            b"HTTP/1.1 405 Method Not Allowed\r\nContent-Type: text/plain; charset=utf-8\r\nContent-Length: 19\r\nAllow: POST, PUT\r\n\r\nmethod not allowed\n",
+        ],
+    ),
+    (
+        &[b"GET /uri/URI:LIT:MY HTTP/1.1\r\nHost: g\r\n\r\n"],
+        &[
+            b"HTTP/1.1 400 Bad Request\r\nContent-Type: text/plain; charset=utf-8\r\nContent-Length: 8\r\n\r\nbad cap\n",
+        ],
+    ),
+    (
+        &[
+            b"GET /uri/URI:CHK-Verifier:sq4jz3p4ngj6es3fircm3jysru:ro65en3n4zxwl3gfinnekkeqado3jxpde7tfaj3sr7als57h4qoa:3:10:56 HTTP/1.1\r\nHost: g\r\n\r\n",
+        ],
+        &[
+            b"HTTP/1.1 400 Bad Request\r\nContent-Type: text/plain; charset=utf-8\r\nContent-Length: 19\r\n\r\nnot a readable cap\n",
+        ],
+    ),
+];
+
 #[test]
 fn each_kind_of_reply_is_sent(rt: HostRuntime) -> Result<(), Fail> {
-    let mut gateway = gateway(rt.alloc(), 0)?;
-    for (head, wanted) in [
-        (
-            b"HEAD /uri/URI:LIT:my HTTP/1.1\r\nHost: g\r\n\r\n".as_slice(),
-            b"HTTP/1.1 200 OK\r\nContent-Type: application/octet-stream\r\nContent-Length: 1\r\n\r\n".as_slice(),
-        ),
-        (
-            b"GET /uri/URI:LIT:mzxw6 HTTP/1.1\r\nHost: g\r\nRange: bytes=1-\r\n\r\n",
-            b"HTTP/1.1 206 Partial Content\r\nContent-Type: application/octet-stream\r\nContent-Length: 2\r\nContent-Range: bytes 1-2/3\r\n\r\noo",
-        ),
-        (
-            b"GET /uri/URI:LIT:mzxw6 HTTP/1.1\r\nHost: g\r\nRange: bytes=3-\r\n\r\n",
-            b"HTTP/1.1 416 Range Not Satisfiable\r\nContent-Type: text/plain; charset=utf-8\r\nContent-Length: 22\r\nContent-Range: bytes */3\r\n\r\nrange not satisfiable\n",
-        ),
-        (
-            b"DELETE /uri/URI:LIT:my HTTP/1.1\r\nHost: g\r\n\r\n",
-            b"HTTP/1.1 405 Method Not Allowed\r\nContent-Type: text/plain; charset=utf-8\r\nContent-Length: 19\r\nAllow: GET, HEAD, POST\r\n\r\nmethod not allowed\n",
-        ),
-        (
-            b"GET /uri HTTP/1.1\r\nHost: g\r\n\r\n",
-            b"HTTP/1.1 405 Method Not Allowed\r\nContent-Type: text/plain; charset=utf-8\r\nContent-Length: 19\r\nAllow: POST, PUT\r\n\r\nmethod not allowed\n",
-        ),
-        (
-            b"GET /uri/URI:LIT:MY HTTP/1.1\r\nHost: g\r\n\r\n",
-            b"HTTP/1.1 400 Bad Request\r\nContent-Type: text/plain; charset=utf-8\r\nContent-Length: 8\r\n\r\nbad cap\n",
-        ),
-        (
-            b"GET /uri/URI:CHK-Verifier:sq4jz3p4ngj6es3fircm3jysru:ro65en3n4zxwl3gfinnekkeqado3jxpde7tfaj3sr7als57h4qoa:3:10:56 HTTP/1.1\r\nHost: g\r\n\r\n",
-            b"HTTP/1.1 400 Bad Request\r\nContent-Type: text/plain; charset=utf-8\r\nContent-Length: 19\r\n\r\nnot a readable cap\n",
-        ),
-    ] {
-        answers(&rt, &mut gateway, head, wanted)?;
-    }
+    assert!(rt; is_served(rt.alloc(), 0, KINDS)?);
     Ok(())
 }
 
 /// A directory of one file, whose bytes stand in its cap: a netstring for its entry, in base32.
 const DIRECTORY: &[u8] = b"URI:DIR2-LIT:gi3dumj2mewdcmb2kvjesosmjfkdu3lzfqydulbshj5x2lbm";
 
-#[test]
-fn a_directory_is_served(rt: HostRuntime) -> Result<(), Fail> {
-    let alloc = rt.alloc();
-    let mut gateway = gateway(alloc, 0)?;
-    let request = message(
-        alloc,
-        b"POST /uri?t=mkdir-immutable HTTP/1.1\r\nHost: g\r\nContent-Length: ",
-        b"{\"a\":[\"filenode\",{\"ro_uri\":\"URI:LIT:my\"}]}",
-    )?;
-    answers(
-        &rt,
-        &mut gateway,
-        &request,
-        &message(alloc, TEXT, DIRECTORY)?,
-    )?;
-    let child = get(alloc, &joined(alloc, &[DIRECTORY, b"/a"])?)?;
-    answers(&rt, &mut gateway, &child, &message(alloc, FILE, b"f")?)?;
-    let missing = asked(
-        &mut gateway,
-        &get(alloc, &joined(alloc, &[DIRECTORY, b"/b"])?)?,
-    )?;
-    assert!(rt; missing.starts_with(b"HTTP/1.1 404 Not Found\r\n"));
-    let listing = get(alloc, &joined(alloc, &[DIRECTORY, b"/?t=json"])?)?;
-    let json = joined(
-        alloc,
+/// It is made, its child is got, another is not there, and it is listed.
+const DIRECTORY_ROWS: &[Row<'static>] = &[
+    (
         &[
-            b"[\"dirnode\",{\"children\":{\"a\":[\"filenode\",{\"metadata\":{},\"mutable\":false,\"ro_uri\":\"URI:LIT:my\",\"size\":1}]},\"mutable\":false,\"ro_uri\":\"",
+            b"POST /uri?t=mkdir-immutable HTTP/1.1\r\nHost: g\r\nContent-Length: 42\r\n\r\n{\"a\":[\"filenode\",{\"ro_uri\":\"URI:LIT:my\"}]}",
+        ],
+        &[TEXT, b"61\r\n\r\n", DIRECTORY],
+    ),
+    (&[GET, DIRECTORY, b"/a", HTTP], &[FILE, b"1\r\n\r\nf"]),
+    (
+        &[GET, DIRECTORY, b"/b", HTTP],
+        &[
+            b"HTTP/1.1 404 Not Found\r\nContent-Type: text/plain; charset=utf-8\r\nContent-Length: 14\r\n\r\nno such child\n",
+        ],
+    ),
+    (
+        &[GET, DIRECTORY, b"/?t=json", HTTP],
+        &[
+            JSON,
+            b"195\r\n\r\n[\"dirnode\",{\"children\":{\"a\":[\"filenode\",{\"metadata\":{},\"mutable\":false,\"ro_uri\":\"URI:LIT:my\",\"size\":1}]},\"mutable\":false,\"ro_uri\":\"",
             DIRECTORY,
             b"\"}]",
         ],
-    )?;
-    answers(&rt, &mut gateway, &listing, &message(alloc, JSON, &json)?)
+    ),
+];
+
+#[test]
+fn a_directory_is_served(rt: HostRuntime) -> Result<(), Fail> {
+    assert!(rt; is_served(rt.alloc(), 0, DIRECTORY_ROWS)?);
+    Ok(())
 }
+
+/// 3 of 10 on one store, whose fourth call fails, and those after it where it fails for good.
+fn failing(alloc: Global, room: u64, for_good: bool) -> Result<Gateway<FailAt>, Fail> {
+    let mut stores = Vec::new(alloc);
+    stores.push(FailAt::new(alloc, MemStore::new(alloc, room), 4, for_good))?;
+    Ok(Gateway::new(alloc, 3, 10, stores, b"")?)
+}
+
+/// The file of letters is not stored, and not found.
+const DOWN: &[Row<'static>] = &[
+    (
+        PUT_LETTERS,
+        &[
+            b"HTTP/1.1 503 Service Unavailable\r\nContent-Type: text/plain; charset=utf-8\r\nContent-Length: 11\r\n\r\nstore down\n",
+        ],
+    ),
+    NOT_FOUND,
+];
 
 #[test]
 fn a_store_that_fails_is_said(rt: HostRuntime) -> Result<(), Fail> {
     let alloc = rt.alloc();
+    assert!(rt; serves(alloc, failing(alloc, 10_000, true)?, DOWN)?);
+    Ok(())
+}
+
+/// 3 of 10 on one store that lies.
+fn lying(alloc: Global) -> Result<Gateway<Liar>, Fail> {
+    let mut answers = Vec::new(alloc);
+    answers.push(RcSlice::from_vec(joined(alloc, &[b"1:1,1:0,"])?)?)?;
     let mut stores = Vec::new(alloc);
-    stores.push(FailAt::new(alloc, MemStore::new(alloc, 10_000), 4, true))?;
-    let mut gateway = Gateway::new(alloc, 3, 10, stores, b"")?;
-    open(&mut gateway, 1)?;
-    let down = asked(&mut gateway, &put(alloc, LETTERS)?)?;
-    assert!(rt; down.starts_with(b"HTTP/1.1 503 Service Unavailable\r\n"));
-    assert!(rt; down.ends_with(b"\r\n\r\nstore down\n"));
-    letters_are_gone(&rt, alloc, &mut gateway)
+    stores.push(Liar::new(alloc, answers))?;
+    Ok(Gateway::new(alloc, 3, 10, stores, b"")?)
 }
 
 #[test]
 fn a_store_that_lies_gives_no_other_bytes(rt: HostRuntime) -> Result<(), Fail> {
     let alloc = rt.alloc();
-    let mut answers = Vec::new(alloc);
-    answers.push(RcSlice::from_vec(joined(alloc, &[b"1:1,1:0,"])?)?)?;
-    let mut stores = Vec::new(alloc);
-    stores.push(Liar::new(alloc, answers))?;
-    let mut gateway = Gateway::new(alloc, 3, 10, stores, b"")?;
-    open(&mut gateway, 1)?;
-    letters_are_stored(&rt, alloc, &mut gateway)?;
-    letters_are_gone(&rt, alloc, &mut gateway)
+    assert!(rt; serves(alloc, lying(alloc)?, &[STORED, NOT_FOUND])?);
+    Ok(())
 }
 
 #[test]
 fn an_image_is_restored(rt: HostRuntime) -> Result<(), Fail> {
     let alloc = rt.alloc();
-    let mut first = gateway(alloc, 10_000)?;
-    letters_are_stored(&rt, alloc, &mut first)?;
-    let mut second = restored(alloc, &imaged(alloc, &mut first)?)?;
-    open(&mut second, 1)?;
-    letters_are_found(&rt, alloc, &mut second)
+    assert!(rt; serves(alloc, kept_in_an_image(alloc)?, &[FOUND])?);
+    Ok(())
+}
+
+/// A gateway of the image of one that stored the file of letters.
+fn kept_in_an_image(alloc: Global) -> Result<Gateway<MemStore>, Fail> {
+    let first = made(alloc, 3, 10, 10_000, b"")?;
+    let image = image_after(alloc, first, &[STORED])?;
+    restored(alloc, &image)
+}
+
+/// The image of a gateway that answered so, row by row.
+fn image_after(
+    alloc: Global,
+    mut gateway: Gateway<MemStore>,
+    rows: &[Row<'_>],
+) -> Result<Vec<u8>, Fail> {
+    open(&mut gateway, 1)?;
+    if each_is_answered(alloc, &mut gateway, rows)? {
+        imaged(alloc, &mut gateway)
+    } else {
+        Err(Fail::from("another reply"))
+    }
 }
 
 fn imaged(alloc: Global, gateway: &mut Gateway<MemStore>) -> Result<Vec<u8>, Fail> {
@@ -290,135 +401,185 @@ fn restored(alloc: Global, image: &[u8]) -> Result<Gateway<MemStore>, Fail> {
 
 #[test]
 fn small_portions_make_the_whole(rt: HostRuntime) -> Result<(), Fail> {
-    let alloc = rt.alloc();
-    let mut gateway = gateway(alloc, 0)?;
-    let wanted = message(alloc, FILE, b"foo")?;
-    let mut taken = Vec::new(alloc);
-    for _ in 0..4 {
-        send(&mut gateway, 1, &get(alloc, b"URI:LIT:mzxw6")?)?;
-        for _ in 0..9 {
-            taken.extend_from_slice(&given(&mut gateway, 1, 7)?)?;
-        }
-    }
-    taken.extend_from_slice(&given(&mut gateway, 1, 1_000)?)?;
-    assert!(rt;
-        taken.as_slice() == joined(alloc, &[&wanted, &wanted, &wanted, &wanted])?.as_slice()
-    );
+    let taken = portions(rt.alloc())?;
+    assert!(rt; is_joined(&taken, &[FOO, FOO, FOO, FOO]));
     Ok(())
+}
+
+/// What connection 1 takes of four replies, each before the next request in nine portions, and at last the rest.
+fn portions(alloc: Global) -> Result<Vec<u8>, Fail> {
+    let mut taken = Vec::new(alloc);
+    take_portions(&mut gateway(alloc, 0)?, &mut taken)?;
+    Ok(taken)
+}
+
+fn take_portions(gateway: &mut Gateway<MemStore>, taken: &mut Vec<u8>) -> Result<(), Fail> {
+    for _ in 0..4 {
+        take_nine(gateway, taken)?;
+    }
+    take_portion(gateway, taken, 1_000)
+}
+
+fn take_nine(gateway: &mut Gateway<MemStore>, taken: &mut Vec<u8>) -> Result<(), Fail> {
+    send(gateway, 1, GET_FOO)?;
+    for _ in 0..9 {
+        take_portion(gateway, taken, 7)?;
+    }
+    Ok(())
+}
+
+fn take_portion(
+    gateway: &mut Gateway<MemStore>,
+    taken: &mut Vec<u8>,
+    most: usize,
+) -> Result<(), Fail> {
+    let portion = given(gateway, 1, most)?;
+    Ok(taken.extend_from_slice(&portion)?)
 }
 
 #[test]
 fn many_callers_are_served(rt: HostRuntime) -> Result<(), Fail> {
-    let alloc = rt.alloc();
-    let mut gateway = gateway(alloc, 0)?;
-    let request = get(alloc, b"URI:LIT:mzxw6")?;
-    let wanted = message(alloc, FILE, b"foo")?;
-    for id in 2..2_002 {
-        open(&mut gateway, id)?;
-        send(&mut gateway, id, &request)?;
-    }
-    for id in 2..2_002 {
-        let reply = given(&mut gateway, id, 1_000)?;
-        assert!(rt; reply.as_slice() == wanted.as_slice());
-    }
+    let mut gateway = gateway(rt.alloc(), 0)?;
+    assert!(rt; all_are_served(&mut gateway)?);
     Ok(())
+}
+
+/// Whether 2,000 callers are answered, each after all have asked.
+fn all_are_served(gateway: &mut Gateway<MemStore>) -> Result<bool, Fail> {
+    for id in 2..2_002 {
+        begin(gateway, id)?;
+    }
+    for id in 2..2_002 {
+        if !is_given_foo(gateway, id)? {
+            return Ok(false);
+        }
+    }
+    Ok(true)
+}
+
+/// A caller comes and asks.
+fn begin(gateway: &mut Gateway<MemStore>, id: u64) -> Result<(), Fail> {
+    open(gateway, id)?;
+    send(gateway, id, GET_FOO)
+}
+
+fn is_given_foo(gateway: &mut Gateway<MemStore>, id: u64) -> Result<bool, Fail> {
+    let reply = given(gateway, id, 1_000)?;
+    Ok(reply.as_slice() == FOO)
 }
 
 #[test]
 fn many_requests_in_a_piece_are_answered(rt: HostRuntime) -> Result<(), Fail> {
-    let alloc = rt.alloc();
-    let mut gateway = gateway(alloc, 0)?;
-    let request = get(alloc, b"URI:LIT:mzxw6")?;
-    let reply = message(alloc, FILE, b"foo")?;
-    let (mut piece, mut wanted) = (Vec::new(alloc), Vec::new(alloc));
-    for _ in 0..500 {
-        piece.extend_from_slice(&request)?;
-        wanted.extend_from_slice(&reply)?;
-    }
-    answers(&rt, &mut gateway, &piece, &wanted)
+    assert!(rt; is_each_of_many_answered(rt.alloc())?);
+    Ok(())
+}
+
+/// Whether 500 requests in one piece are answered.
+fn is_each_of_many_answered(alloc: Global) -> Result<bool, Fail> {
+    let piece = repeated(alloc, GET_FOO, 500)?;
+    let wanted = repeated(alloc, FOO, 500)?;
+    is_served(alloc, 0, &[(&[&piece], &[&wanted])])
 }
 
 #[test]
 fn a_long_literal_cap_gives_its_file(rt: HostRuntime) -> Result<(), Fail> {
-    let alloc = rt.alloc();
-    let mut gateway = gateway(alloc, 0)?;
-    let mut cap = joined(alloc, &[b"URI:LIT:"])?;
-    for _ in 0..2_000 {
-        cap.extend_from_slice(b"mfqwcylb")?;
-    }
-    let mut file = Vec::new(alloc);
-    file.resize(10_000, b'a')?;
-    let wanted = message(alloc, FILE, &file)?;
-    answers(&rt, &mut gateway, &get(alloc, &cap)?, &wanted)
+    assert!(rt; is_long_literal_read(rt.alloc())?);
+    Ok(())
 }
 
-/// Files of a plain model over Python's hashlib: k, n, the secret, how many of the bytes i modulo 251 they have, how many bytes
-/// the image of their shares on one server has, and its SHA-256.
+/// Whether a cap with 10,000 bytes in it gives these.
+fn is_long_literal_read(alloc: Global) -> Result<bool, Fail> {
+    let digits = repeated(alloc, b"mfqwcylb", 2_000)?;
+    let file = repeated(alloc, b"aaaaa", 2_000)?;
+    is_served(
+        alloc,
+        0,
+        &[(
+            &[b"GET /uri/URI:LIT:", &digits, HTTP],
+            &[FILE, b"10000\r\n\r\n", &file],
+        )],
+    )
+}
+
+/// Files of a plain model over Python's hashlib: k, n, the secret, how many of the bytes i modulo 251 they have, their
+/// cap, how many bytes the image of their shares on one server has, and its SHA-256.
+struct Modelled {
+    k: u16,
+    n: u16,
+    secret: &'static [u8],
+    size: usize,
+    cap: &'static [u8],
+    length: usize,
+    digest: &'static str,
+}
+
+const MODELLED: &[Modelled] = &[
+    Modelled {
+        k: 3,
+        n: 10,
+        secret: b"",
+        size: 200_000,
+        cap: b"URI:CHK:cpgmyfu7y4nqyhvkcqfcsmnqvq:cvffjve3vt7bw5r2bn4fpzm22wnb5vsv7pduk635eeclhal7bo5q:3:10:200000",
+        length: 671_146,
+        digest: "f180571a72e7571f5b6aff51ee7d2a0e88c395a3a283cc7c58188aca782b6aac",
+    },
+    Modelled {
+        k: 2,
+        n: 3,
+        secret: b"",
+        size: 131_072,
+        cap: b"URI:CHK:auell3t4pryl253e3crbkmgyy4:twubx3e2fsnfxgkltkm5drbypet25vwlsvyp5kpuoljg6zg7dolq:2:3:131072",
+        length: 197_668,
+        digest: "321d622d2cd5e370ed6d0d4cb6cec2befe8f43773fbe844e3797ced4f0ac96f9",
+    },
+    Modelled {
+        k: 5,
+        n: 7,
+        secret: b"",
+        size: 131_073,
+        cap: b"URI:CHK:ouzpavphkuf4inb65zbhmbkgqe:en4ef4l7kl43jtlrdo2dgqdiavtbejxtendczaq6cdsg2v7zrapa:5:7:131073",
+        length: 186_181,
+        digest: "c65d33476defda1fd78d8fca518365c85afa7b0ec4b061633ea27675e783cd30",
+    },
+    Modelled {
+        k: 16,
+        n: 40,
+        secret: &[b'x'; 256],
+        size: 1_000,
+        cap: b"URI:CHK:ihadm6ksrqypulcatualjjislu:25hkuovfgh7qj5gg2qdsbvku654xkhpedtfmmmlmal36xgellmpq:16:40:1000",
+        length: 21_446,
+        digest: "8a7349fee8625785ec2533cae7e01d853daa2d3e0b4c42aaad6985ccb1c2c759",
+    },
+    Modelled {
+        k: 256,
+        n: 256,
+        secret: b"",
+        size: 300,
+        cap: b"URI:CHK:5lu7bozjl6xcmydqjy5fylcvzi:ctu4zlqu777mn7jepxmlv6s5ai6dvljsqvgucm2wiwc6mwua4j5a:256:256:300",
+        length: 137_890,
+        digest: "9f5a8656e45e0b7de9c3f866d667e124992cbc6a3070a6b5fb0faf23bebac909",
+    },
+];
+
 #[test]
 fn shares_are_those_of_the_model(rt: HostRuntime) -> Result<(), Fail> {
-    let alloc = rt.alloc();
-    let secret = [b'x'; 256];
-    for (k, n, secret, size, length, digest, cap) in [
-        (
-            3,
-            10,
-            b"".as_slice(),
-            200_000usize,
-            671_146usize,
-            "f180571a72e7571f5b6aff51ee7d2a0e88c395a3a283cc7c58188aca782b6aac",
-            "URI:CHK:cpgmyfu7y4nqyhvkcqfcsmnqvq:cvffjve3vt7bw5r2bn4fpzm22wnb5vsv7pduk635eeclhal7bo5q:3:10:200000",
-        ),
-        (
-            2,
-            3,
-            b"",
-            131_072,
-            197_668,
-            "321d622d2cd5e370ed6d0d4cb6cec2befe8f43773fbe844e3797ced4f0ac96f9",
-            "URI:CHK:auell3t4pryl253e3crbkmgyy4:twubx3e2fsnfxgkltkm5drbypet25vwlsvyp5kpuoljg6zg7dolq:2:3:131072",
-        ),
-        (
-            5,
-            7,
-            b"",
-            131_073,
-            186_181,
-            "c65d33476defda1fd78d8fca518365c85afa7b0ec4b061633ea27675e783cd30",
-            "URI:CHK:ouzpavphkuf4inb65zbhmbkgqe:en4ef4l7kl43jtlrdo2dgqdiavtbejxtendczaq6cdsg2v7zrapa:5:7:131073",
-        ),
-        (
-            16,
-            40,
-            &secret,
-            1_000,
-            21_446,
-            "8a7349fee8625785ec2533cae7e01d853daa2d3e0b4c42aaad6985ccb1c2c759",
-            "URI:CHK:ihadm6ksrqypulcatualjjislu:25hkuovfgh7qj5gg2qdsbvku654xkhpedtfmmmlmal36xgellmpq:16:40:1000",
-        ),
-        (
-            256,
-            256,
-            b"",
-            300,
-            137_890,
-            "9f5a8656e45e0b7de9c3f866d667e124992cbc6a3070a6b5fb0faf23bebac909",
-            "URI:CHK:5lu7bozjl6xcmydqjy5fylcvzi:ctu4zlqu777mn7jepxmlv6s5ai6dvljsqvgucm2wiwc6mwua4j5a:256:256:300",
-        ),
-    ] {
-        let mut gateway = made(alloc, k, n, 1_000_000, secret)?;
-        open(&mut gateway, 1)?;
-        let wanted = message(alloc, TEXT, cap.as_bytes())?;
-        answers(
-            &rt,
-            &mut gateway,
-            &put(alloc, &counted(alloc, size)?)?,
-            &wanted,
-        )?;
-        let image = imaged(alloc, &mut gateway)?;
-        assert_eq!(rt; image.len(), length);
-        assert!(rt; is_digest(alloc, &image, digest)?);
+    for file in MODELLED {
+        assert!(rt; is_as_modelled(rt.alloc(), file)?, "{}", file.size);
     }
     Ok(())
+}
+
+fn is_as_modelled(alloc: Global, file: &Modelled) -> Result<bool, Fail> {
+    let image = modelled_image(alloc, file)?;
+    Ok(image.len() == file.length && is_digest(alloc, &image, file.digest)?)
+}
+
+/// The image of a gateway that stored a file, and gave its cap.
+fn modelled_image(alloc: Global, file: &Modelled) -> Result<Vec<u8>, Fail> {
+    let request = put_counted(alloc, file.size)?;
+    let wanted = message(alloc, TEXT, file.cap)?;
+    let gateway = made(alloc, file.k, file.n, 1_000_000, file.secret)?;
+    image_after(alloc, gateway, &[(&[&request], &[&wanted])])
 }
 
 /// Whether these hex digits are the SHA-256 of the bytes.
@@ -427,33 +588,38 @@ fn is_digest(alloc: Global, bytes: &[u8], digits: &str) -> Result<bool, Fail> {
     Ok(Sha256::digest(bytes).as_slice() == wanted.as_slice())
 }
 
-/// Byte i is i modulo 251.
-fn counted(alloc: Global, size: usize) -> Result<Vec<u8>, Fail> {
-    let mut bytes = Vec::with_capacity(alloc, size)?;
-    for i in 0..size {
-        bytes.push((i % 251) as u8)?;
-    }
-    Ok(bytes)
-}
-
 /// A body of the longest length, in pieces of 65,536 bytes, and its file; one byte more is refused.
 #[test]
 fn a_body_of_the_limit_is_stored(rt: HostRuntime) -> Result<(), Fail> {
     let alloc = rt.alloc();
     let mut gateway = gateway(alloc, 20_000_000)?;
-    let body = counted(alloc, 4_194_304)?;
-    let request = put(alloc, &body)?;
+    assert!(rt; is_limit_kept(alloc, &mut gateway)?);
+    Ok(())
+}
+
+fn is_limit_kept(alloc: Global, gateway: &mut Gateway<MemStore>) -> Result<bool, Fail> {
+    let body = counted_bytes(alloc, 4_194_304)?;
+    send_in_pieces(gateway, &put(alloc, &body)?)?;
+    each_is_answered(
+        alloc,
+        gateway,
+        &[
+            (&[], &[TEXT, b"100\r\n\r\n", LIMIT_CAP]),
+            (&[GET, LIMIT_CAP, HTTP], &[FILE, b"4194304\r\n\r\n", &body]),
+            (
+                &[b"PUT /uri HTTP/1.1\r\nHost: g\r\nContent-Length: 4194305\r\n\r\n"],
+                &[
+                    b"HTTP/1.1 413 Content Too Large\r\nContent-Type: text/plain; charset=utf-8\r\nContent-Length: 14\r\nConnection: close\r\n\r\nbody too long\n",
+                ],
+            ),
+        ],
+    )
+}
+
+/// A request comes on connection 1, in pieces of 65,536 bytes.
+fn send_in_pieces(gateway: &mut Gateway<MemStore>, request: &[u8]) -> Result<(), Fail> {
     for piece in request.chunks(65_536) {
-        send(&mut gateway, 1, piece)?;
+        send(gateway, 1, piece)?;
     }
-    let wanted = message(alloc, TEXT, LIMIT_CAP)?;
-    answers(&rt, &mut gateway, b"", &wanted)?;
-    let wanted = message(alloc, FILE, &body)?;
-    answers(&rt, &mut gateway, &get(alloc, LIMIT_CAP)?, &wanted)?;
-    let refused = asked(
-        &mut gateway,
-        b"PUT /uri HTTP/1.1\r\nHost: g\r\nContent-Length: 4194305\r\n\r\n",
-    )?;
-    assert!(rt; refused.starts_with(b"HTTP/1.1 413 Content Too Large\r\n"));
     Ok(())
 }

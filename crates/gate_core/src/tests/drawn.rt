@@ -2,7 +2,7 @@
 //! them by their caps and names, and check them, while the operator loses and spoils shares. What is kept is told by a
 //! plain function over the list of items, which follows which shares stand.
 
-use super::runs::{MKDIR, Place, Runs, ask, cap_of, index_of, make_runs};
+use super::runs::{Event, Fate, MKDIR, Place, Runs, ask, cap_of, index_of, make_runs};
 use super::*;
 use caps::{Cap, parse_bytes, print, weaken};
 
@@ -52,50 +52,83 @@ fn make_thing(
     children: &'static [(u8, usize)],
 ) -> Result<Thing, Fail> {
     let cap = cap_of(alloc, 2, 3, &upload)?;
-    let weak = weaken(&parse_bytes(alloc, &cap)?).ok_or("no verify cap")?;
-    let text = print(alloc, &Cap::from(weak))?;
+    let verify = verify_cap_of(alloc, &cap)?;
+    let index = index_of(alloc, &cap)?;
     Ok(Thing {
-        index: index_of(alloc, &cap)?,
         cap,
-        verify: joined(alloc, &[text.as_bytes()])?,
+        verify,
+        index,
         upload,
         children,
     })
 }
 
+/// The verify cap of a read cap.
+fn verify_cap_of(alloc: Global, cap: &[u8]) -> Result<Vec<u8>, Fail> {
+    let weak = weaken(&parse_bytes(alloc, cap)?).ok_or("no verify cap")?;
+    let text = print(alloc, &Cap::from(weak))?;
+    Ok(joined(alloc, &[text.as_bytes()])?)
+}
+
+/// The size of a file, or the children of a directory.
+type Content = (usize, &'static [(u8, usize)]);
+
 /// Three files, three directories over them and over one another, and a file of two segments.
+const CONTENTS: &[Content] = &[
+    (56, &[]),
+    (100, &[]),
+    (300, &[]),
+    (0, &[(b'a', 0), (b'b', 1)]),
+    (0, &[(b'a', 3), (b'c', 2)]),
+    (0, &[(b'b', 3), (b'c', 4)]),
+    (200_000, &[]),
+];
+
+/// The files and directories that callers upload.
 pub fn things(alloc: Global) -> Result<Vec<Thing>, Fail> {
     let mut things = Vec::new(alloc);
-    for size in [56, 100, 300] {
-        let upload = put(alloc, &counted(alloc, size)?)?;
-        things.push(make_thing(alloc, upload, &[])?)?;
+    for content in CONTENTS {
+        let thing = next_thing(alloc, &things, *content)?;
+        things.push(thing)?;
     }
-    for children in [
-        [(b'a', 0), (b'b', 1)].as_slice(),
-        &[(b'a', 3), (b'c', 2)],
-        &[(b'b', 3), (b'c', 4)],
-    ] {
-        let upload = directory(alloc, &things, children)?;
-        things.push(make_thing(alloc, upload, children)?)?;
-    }
-    let upload = put(alloc, &counted(alloc, 200_000)?)?;
-    things.push(make_thing(alloc, upload, &[])?)?;
     Ok(things)
+}
+
+/// A thing over those before it.
+fn next_thing(alloc: Global, things: &[Thing], content: Content) -> Result<Thing, Fail> {
+    let (size, children) = content;
+    let upload = if children.is_empty() {
+        put_counted(alloc, size)?
+    } else {
+        directory(alloc, things, children)?
+    };
+    make_thing(alloc, upload, children)
 }
 
 /// The request that makes a directory of these children.
 fn directory(alloc: Global, things: &[Thing], children: &[(u8, usize)]) -> Result<Vec<u8>, Fail> {
     let mut json = joined(alloc, &[b"{\"d\":[\"\",{\"ro_uri\":\"URI:LIT:my\"}]"])?;
-    for (name, place) in children {
-        let child = things.get(*place).ok_or("no child")?;
-        json.extend_from_slice(b",\"")?;
-        json.push(*name)?;
-        json.extend_from_slice(b"\":[\"\",{\"ro_uri\":\"")?;
-        json.extend_from_slice(&child.cap)?;
-        json.extend_from_slice(b"\"}]")?;
+    for child in children {
+        put_child(&mut json, things, *child)?;
     }
     json.push(b'}')?;
     Ok(message(alloc, MKDIR, &json)?)
+}
+
+/// One child more.
+fn put_child(json: &mut Vec<u8>, things: &[Thing], child: (u8, usize)) -> Result<(), Fail> {
+    let (name, place) = child;
+    let thing = things.get(place).ok_or("no child")?;
+    for part in [
+        b",\"".as_slice(),
+        &[name],
+        b"\":[\"\",{\"ro_uri\":\"",
+        &thing.cap,
+        b"\"}]",
+    ] {
+        json.extend_from_slice(part)?;
+    }
+    Ok(())
 }
 
 // ---- items
@@ -272,14 +305,7 @@ fn reach(alloc: Global, things: &[Thing], items: &[Item]) -> Result<Vec<usize>, 
     Ok(reached)
 }
 
-/// What becomes of an item where others' are dropped.
-#[derive(Clone, Copy)]
-enum Fate {
-    Own,
-    Kept,
-    Dropped,
-}
-
+/// What becomes of an item: what is caller 1's or the operator's, and uploads of what caller 1 meets, stay.
 fn fate_of(reached: &[usize], item: Item) -> Fate {
     match item {
         Item::Upload(1, _) | Item::Ask(1, _) | Item::Bad(1) => Fate::Own,
@@ -329,6 +355,30 @@ struct Playing {
 }
 
 impl Playing {
+    fn new(alloc: Global) -> Result<Playing, Fail> {
+        let runs = make_runs(alloc, (2, 3), 1_000_000)?;
+        Ok(Playing {
+            alloc,
+            runs,
+            last: None,
+        })
+    }
+
+    /// All items come, and caller 1 takes all that waits.
+    fn play_all(
+        &mut self,
+        things: &[Thing],
+        reached: &[usize],
+        items: &[Item],
+        lot: &mut Lot,
+    ) -> Result<(), Fail> {
+        for item in items {
+            self.play(things, reached, *item, lot)?;
+        }
+        self.finish()?;
+        self.runs.take_all()
+    }
+
     /// An item comes, but for what stands behind the cut of a request.
     fn play(
         &mut self,
@@ -342,23 +392,26 @@ impl Playing {
                 let cut = lot.below(bytes.len());
                 self.request(id, fate_of(reached, item), &bytes, cut)?;
             }
-            None => {
-                self.finish()?;
-                self.operate(things, item)?;
-            }
+            None => self.operate(things, item)?,
         }
-        self.runs.take(lot.below(400))
+        self.runs.happens(Fate::Own, Event::Take(lot.below(400)))
     }
 
     fn request(&mut self, id: u64, fate: Fate, bytes: &[u8], cut: usize) -> Result<(), Fail> {
         let (first, second) = bytes.split_at_checked(cut).ok_or("no such cut")?;
+        let held_back = joined(self.alloc, &[second])?;
+        self.begin(id, fate, first)?;
+        self.last = Some((id, fate, held_back));
+        Ok(())
+    }
+
+    /// The first piece of a request comes, and what was held back.
+    fn begin(&mut self, id: u64, fate: Fate, first: &[u8]) -> Result<(), Fail> {
         if self.holds_back(id) {
             self.finish()?;
         }
-        self.send(id, fate, first)?;
-        self.finish()?;
-        self.last = Some((id, fate, joined(self.alloc, &[second])?));
-        Ok(())
+        self.runs.happens(fate, Event::Bytes(id, first))?;
+        self.finish()
     }
 
     /// Whether a piece of this caller was held back.
@@ -372,27 +425,30 @@ impl Playing {
     /// What was held back comes.
     fn finish(&mut self) -> Result<(), Fail> {
         match self.last.take() {
-            Some((id, fate, piece)) => self.send(id, fate, &piece),
+            Some((id, fate, piece)) => self.runs.happens(fate, Event::Bytes(id, &piece)),
             None => Ok(()),
         }
     }
 
-    fn send(&mut self, id: u64, fate: Fate, piece: &[u8]) -> Result<(), Fail> {
-        match fate {
-            Fate::Own => self.runs.own(piece),
-            Fate::Kept => self.runs.kept(id, piece),
-            Fate::Dropped => self.runs.dropped(id, piece),
+    /// What was held back comes, and then what the operator does.
+    fn operate(&mut self, things: &[Thing], item: Item) -> Result<(), Fail> {
+        self.finish()?;
+        match operation(things, item)? {
+            Some(event) => self.runs.happens(Fate::Own, event),
+            None => Ok(()),
         }
     }
+}
 
-    fn operate(&mut self, things: &[Thing], item: Item) -> Result<(), Fail> {
-        match item {
-            Item::Lose(thing, number) => self.runs.lose(place(things, thing, number)?),
-            Item::Spoil(thing, number, byte) => self
-                .runs
-                .spoil(place(things, thing, number)?, u64::from(byte)),
-            Item::Upload(..) | Item::Ask(..) | Item::Bad(_) => Ok(()),
-        }
+/// What the operator does.
+fn operation(things: &[Thing], item: Item) -> Result<Option<Event<'static>>, Fail> {
+    match item {
+        Item::Lose(thing, number) => Ok(Some(Event::Lose(place(things, thing, number)?))),
+        Item::Spoil(thing, number, byte) => Ok(Some(Event::Spoil(
+            place(things, thing, number)?,
+            u64::from(byte),
+        ))),
+        Item::Upload(..) | Item::Ask(..) | Item::Bad(_) => Ok(None),
     }
 }
 
@@ -417,6 +473,12 @@ pub struct Counts {
 }
 
 impl Counts {
+    fn count_all(&mut self, reached: &[usize], items: &[Item]) {
+        for item in items {
+            self.count(fate_of(reached, *item));
+        }
+    }
+
     fn count(&mut self, fate: Fate) {
         match fate {
             Fate::Own => {}
@@ -437,20 +499,12 @@ pub fn told(
     counts: &mut Counts,
 ) -> Result<(bool, bool), Fail> {
     let reached = reach(alloc, things, items)?;
-    let mut playing = Playing {
-        alloc,
-        runs: make_runs(alloc, (2, 3), 1_000_000, callers)?,
-        last: None,
-    };
-    for item in items {
-        counts.count(fate_of(&reached, *item));
-        playing.play(things, &reached, *item, lot)?;
-    }
-    playing.finish()?;
-    Ok((
-        playing.runs.is_told_the_same()?,
-        playing.runs.needs_no_other()?,
-    ))
+    counts.count_all(&reached, items);
+    let mut playing = Playing::new(alloc)?;
+    playing.runs.open(callers)?;
+    playing.play_all(things, &reached, items, lot)?;
+    let runs = &playing.runs;
+    Ok((runs.is_told_the_same(), runs.needs_no_other()))
 }
 
 /// A drawn run: whether caller 1 is told the same in that of its kept items.

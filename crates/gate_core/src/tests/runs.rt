@@ -3,6 +3,35 @@
 use super::*;
 use caps::{parse_bytes, weaken};
 
+/// A share: its server, the storage index and its number.
+pub type Place = (usize, [u8; 16], u16);
+
+/// What comes to a gateway.
+#[derive(Clone, Copy)]
+pub enum Event<'a> {
+    /// A caller comes.
+    Open(u64),
+    /// Bytes of a caller.
+    Bytes(u64, &'a [u8]),
+    /// Caller 1 takes so many bytes.
+    Take(usize),
+    /// The operator takes a share away, where one stands.
+    Lose(Place),
+    /// The operator changes a byte of a share, where it stands.
+    Spoil(Place, u64),
+}
+
+/// What becomes of an item where others' are dropped.
+#[derive(Clone, Copy)]
+pub enum Fate {
+    /// Caller 1's or the operator's.
+    Own,
+    /// An upload of another that is kept.
+    Kept,
+    /// Dropped.
+    Dropped,
+}
+
 /// One gateway, and what caller 1 took of it.
 #[derive(Drop)]
 struct Run<S: Store> {
@@ -10,21 +39,23 @@ struct Run<S: Store> {
     given: Vec<u8>,
 }
 
-impl<S: Store + Drop> Run<S> {
-    /// A run of a new gateway, on which the callers from 1 on are open.
-    fn new(alloc: Global, gateway: Gateway<S>, callers: u64) -> Result<Run<S>, Fail> {
-        let mut run = Run {
+impl<S: Store> Run<S> {
+    fn new(alloc: Global, gateway: Gateway<S>) -> Run<S> {
+        Run {
             gateway,
             given: Vec::new(alloc),
-        };
-        for id in 0..callers {
-            open(&mut run.gateway, id.wrapping_add(1))?;
         }
-        Ok(run)
     }
 
-    fn send(&mut self, id: u64, piece: &[u8]) -> Result<(), Fail> {
-        send(&mut self.gateway, id, piece)
+    /// An event comes.
+    fn happens(&mut self, event: Event<'_>) -> Result<(), Fail> {
+        match event {
+            Event::Open(id) => open(&mut self.gateway, id),
+            Event::Bytes(id, piece) => send(&mut self.gateway, id, piece),
+            Event::Take(most) => self.take(most),
+            Event::Lose(place) => self.lose(place),
+            Event::Spoil(place, byte) => self.spoil(place, byte),
+        }
     }
 
     fn take(&mut self, most: usize) -> Result<(), Fail> {
@@ -45,9 +76,6 @@ impl<S: Store + Drop> Run<S> {
     }
 }
 
-/// A share: its server, the storage index and its number.
-pub type Place = (usize, [u8; 16], u16);
-
 /// Gateways with the same parameters: one takes the whole run, one its kept items, and one what is caller 1's and the
 /// operator's alone.
 #[derive(Drop)]
@@ -57,17 +85,12 @@ pub struct Runs<S: Store> {
     own: Run<S>,
 }
 
-/// k of n on three servers of this room, with the callers from 1 on.
-pub fn make_runs(
-    alloc: Global,
-    sharing: (u16, u16),
-    room: u64,
-    callers: u64,
-) -> Result<Runs<MemStore>, Fail> {
+/// k of n on three servers of this room.
+pub fn make_runs(alloc: Global, sharing: (u16, u16), room: u64) -> Result<Runs<MemStore>, Fail> {
     let whole = empty(alloc, sharing, room)?;
     let kept = empty(alloc, sharing, room)?;
     let own = empty(alloc, sharing, room)?;
-    Runs::over(alloc, whole, kept, own, callers)
+    Ok(Runs::over(alloc, whole, kept, own))
 }
 
 /// A gateway of which nothing was called yet.
@@ -80,70 +103,54 @@ fn empty(alloc: Global, sharing: (u16, u16), room: u64) -> Result<Gateway<MemSto
     Ok(Gateway::new(alloc, k, n, stores, b"")?)
 }
 
-impl<S: Store + Drop> Runs<S> {
-    /// Runs of three new gateways, on which the callers from 1 on are opened.
-    pub fn over(
-        alloc: Global,
-        whole: Gateway<S>,
-        kept: Gateway<S>,
-        own: Gateway<S>,
-        callers: u64,
-    ) -> Result<Runs<S>, Fail> {
-        Ok(Runs {
-            whole: Run::new(alloc, whole, callers)?,
-            kept: Run::new(alloc, kept, callers)?,
-            own: Run::new(alloc, own, callers)?,
-        })
+impl<S: Store> Runs<S> {
+    /// Runs of three new gateways.
+    pub fn over(alloc: Global, whole: Gateway<S>, kept: Gateway<S>, own: Gateway<S>) -> Runs<S> {
+        Runs {
+            whole: Run::new(alloc, whole),
+            kept: Run::new(alloc, kept),
+            own: Run::new(alloc, own),
+        }
     }
 
-    /// Bytes of caller 1.
-    pub fn own(&mut self, piece: &[u8]) -> Result<(), Fail> {
-        self.own.send(1, piece)?;
-        self.kept(1, piece)
+    /// The callers from 1 on are opened.
+    pub fn open(&mut self, callers: u64) -> Result<(), Fail> {
+        for id in 0..callers {
+            self.happens(Fate::Own, Event::Open(id.wrapping_add(1)))?;
+        }
+        Ok(())
     }
 
-    /// Bytes of an upload that is kept.
-    pub fn kept(&mut self, id: u64, piece: &[u8]) -> Result<(), Fail> {
-        self.kept.send(id, piece)?;
-        self.dropped(id, piece)
+    /// An event comes to the runs that it is in.
+    pub fn happens(&mut self, fate: Fate, event: Event<'_>) -> Result<(), Fail> {
+        match fate {
+            Fate::Own => {
+                self.own.happens(event)?;
+                self.happens_kept(event)
+            }
+            Fate::Kept => self.happens_kept(event),
+            Fate::Dropped => self.whole.happens(event),
+        }
     }
 
-    /// Bytes of an item that is dropped.
-    pub fn dropped(&mut self, id: u64, piece: &[u8]) -> Result<(), Fail> {
-        self.whole.send(id, piece)
+    fn happens_kept(&mut self, event: Event<'_>) -> Result<(), Fail> {
+        self.kept.happens(event)?;
+        self.whole.happens(event)
     }
 
-    /// The operator takes a share away, where one stands.
-    pub fn lose(&mut self, place: Place) -> Result<(), Fail> {
-        self.whole.lose(place)?;
-        self.kept.lose(place)?;
-        self.own.lose(place)
-    }
-
-    /// The operator changes a byte of a share, where it stands.
-    pub fn spoil(&mut self, place: Place, byte: u64) -> Result<(), Fail> {
-        self.whole.spoil(place, byte)?;
-        self.kept.spoil(place, byte)?;
-        self.own.spoil(place, byte)
-    }
-
-    /// Caller 1 takes so many bytes.
-    pub fn take(&mut self, most: usize) -> Result<(), Fail> {
-        self.whole.take(most)?;
-        self.kept.take(most)?;
-        self.own.take(most)
+    /// Caller 1 takes all that waits.
+    pub fn take_all(&mut self) -> Result<(), Fail> {
+        self.happens(Fate::Own, Event::Take(10_000_000))
     }
 
     /// Whether caller 1 was told the same in the whole run as in that of the kept items.
-    pub fn is_told_the_same(&mut self) -> Result<bool, Fail> {
-        self.take(10_000_000)?;
-        Ok(self.whole.given.as_slice() == self.kept.given.as_slice())
+    pub fn is_told_the_same(&self) -> bool {
+        self.whole.given.as_slice() == self.kept.given.as_slice()
     }
 
     /// Whether caller 1 was told the same in the whole run as where all items of others are dropped.
-    pub fn needs_no_other(&mut self) -> Result<bool, Fail> {
-        self.take(10_000_000)?;
-        Ok(self.whole.given.as_slice() == self.own.given.as_slice())
+    pub fn needs_no_other(&self) -> bool {
+        self.whole.given.as_slice() == self.own.given.as_slice()
     }
 
     /// Whether what caller 1 took in the whole run ends so.
@@ -159,11 +166,16 @@ impl<S: Store + Drop> Runs<S> {
 
 /// The cap that an upload is answered, on an empty gateway.
 pub fn cap_of(alloc: Global, k: u16, n: u16, upload: &[u8]) -> Result<Vec<u8>, Fail> {
-    let mut gateway = made(alloc, k, n, 10_000_000, b"")?;
-    open(&mut gateway, 1)?;
-    let reply = asked(&mut gateway, upload)?;
+    let reply = first_reply(alloc, k, n, upload)?;
     let cap = reply.rsplit(|byte| *byte == b'\n').next().ok_or("no cap")?;
     Ok(joined(alloc, &[cap])?)
+}
+
+/// What an empty gateway answers.
+fn first_reply(alloc: Global, k: u16, n: u16, piece: &[u8]) -> Result<Vec<u8>, Fail> {
+    let mut gateway = made(alloc, k, n, 10_000_000, b"")?;
+    open(&mut gateway, 1)?;
+    asked(&mut gateway, piece)
 }
 
 /// The storage index of a cap.
