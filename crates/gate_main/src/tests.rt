@@ -1,9 +1,10 @@
 //! Scripts, connections and arguments, by their answers.
 use super::*;
-use crate::text::escape;
 use octets::fakes::{AtTheEnd, SlowReader, SlowWriter};
+use scripts::{Script, Step};
 use std::alloc::{AllocError, Global};
 use std::io::BufReader;
+use std::process::Abort;
 use std::test::Fail;
 
 /// Directories, and the paths through them.
@@ -25,13 +26,39 @@ fn ran(alloc: Global, script: &[u8]) -> (Vec<u8>, Option<ScriptFault>) {
     (answers, outcome.err())
 }
 
+/// Compares what a script is answered, and the fault that ended its run.
+fn answers(
+    rt: &(impl Abort + AllocGlobal),
+    script: &[u8],
+    wanted: &[u8],
+    fault: Option<ScriptFault>,
+) {
+    let (answers, found) = ran(rt.alloc(), script);
+    let front = &script[..script.len().min(100)];
+    assert_eq!(rt; answers.as_slice(), wanted, "of {front:?}");
+    assert_eq!(rt; found, fault, "of {front:?}");
+}
+
+/// So many letters `a`.
+fn letters(alloc: Global, count: usize) -> Result<Vec<u8>, AllocError> {
+    let mut letters = Vec::new(alloc);
+    letters.resize(count, b'a')?;
+    Ok(letters)
+}
+
 /// The parts of a script or of answers, joined.
 fn joined(alloc: Global, parts: &[&[u8]]) -> Result<Vec<u8>, AllocError> {
     let mut whole = Vec::new(alloc);
+    add(&mut whole, parts)?;
+    Ok(whole)
+}
+
+/// Adds parts to a script or to answers.
+fn add(whole: &mut Vec<u8>, parts: &[&[u8]]) -> Result<(), AllocError> {
     for part in parts {
         whole.extend_from_slice(*part)?;
     }
-    Ok(whole)
+    Ok(())
 }
 
 const GRID: &[u8] = b"grid 3 10 1 1000000 -\n";
@@ -43,14 +70,12 @@ open 1
 bytes 1 GET /uri/URI:LIT:mzxw6ytboi HTTP/1.1\\r\\nHost: g\\r\\n\\r\\n
 take 1 1000
 ";
-    let (answers, fault) = ran(rt.alloc(), script.as_slice());
     let wanted = b"ok
 ok
 ok
 bytes HTTP/1.1 200 OK\\r\\nContent-Type: application/octet-stream\\r\\nContent-Length: 6\\r\\n\\r\\nfoobar
 ";
-    assert_eq!(rt; answers.as_slice(), wanted.as_slice());
-    assert_eq!(rt; fault, None);
+    answers(&rt, script, wanted, None);
 }
 
 #[test]
@@ -66,7 +91,6 @@ end 7
 bytes 7 x
 take 7 1
 ";
-    let (answers, fault) = ran(rt.alloc(), script.as_slice());
     let wanted = b"ok
 ok
 fault 1 Known
@@ -78,34 +102,30 @@ fault 2 NotOpen
 fault 2 NotOpen
 bytes 
 ";
-    assert_eq!(rt; answers.as_slice(), wanted.as_slice());
-    assert_eq!(rt; fault, None);
+    answers(&rt, script, wanted, None);
 }
 
 #[test]
-fn a_text_that_is_no_cap_is_a_bad_cap(rt: HostRuntime) -> Result<(), Fail> {
-    for cap in [b"mz".as_slice(), b"m".as_slice(), b"MY".as_slice()] {
-        let script = joined(
-            rt.alloc(),
-            [
-                GRID,
-                b"open 1\nbytes 1 GET /uri/URI:LIT:".as_slice(),
-                cap,
-                b" HTTP/1.1\\r\\nHost: g\\r\\n\\r\\n\ntake 1 1000\n".as_slice(),
-                b"bytes 1 GET /uri/URI:LIT:my HTTP/1.1\\r\\nHost: g\\r\\n\\r\\n\ntake 1 1000".as_slice(),
-            ]
-            .as_slice(),
-        )?;
-        let (answers, fault) = ran(rt.alloc(), script.as_slice());
-        let wanted = b"ok
+fn a_text_that_is_no_cap_is_a_bad_cap(rt: HostRuntime) -> Result<(), AllocError> {
+    let wanted = b"ok
 ok
 ok
 bytes HTTP/1.1 400 Bad Request\\r\\nContent-Type: text/plain; charset=utf-8\\r\\nContent-Length: 8\\r\\n\\r\\nbad cap\\n
 ok
 bytes HTTP/1.1 200 OK\\r\\nContent-Type: application/octet-stream\\r\\nContent-Length: 1\\r\\n\\r\\nf
 ";
-        assert_eq!(rt; answers.as_slice(), wanted.as_slice());
-        assert_eq!(rt; fault, None);
+    for cap in ["mz", "m", "MY"] {
+        let script = joined(
+            rt.alloc(),
+            &[
+                GRID,
+                b"open 1\nbytes 1 GET /uri/URI:LIT:",
+                cap.as_bytes(),
+                b" HTTP/1.1\\r\\nHost: g\\r\\n\\r\\n\ntake 1 1000\n",
+                b"bytes 1 GET /uri/URI:LIT:my HTTP/1.1\\r\\nHost: g\\r\\n\\r\\n\ntake 1 1000",
+            ],
+        )?;
+        answers(&rt, &script, wanted, None);
     }
     Ok(())
 }
@@ -122,7 +142,6 @@ bytes 2 xw6 HTTP/1.1\\r\\nHost: g\\r\\n\\r\\n
 take 1 1000
 take 2 1000
 ";
-    let (answers, fault) = ran(rt.alloc(), script.as_slice());
     let wanted = b"ok
 ok
 ok
@@ -133,8 +152,7 @@ ok
 bytes HTTP/1.1 200 OK\\r\\nContent-Type: application/octet-stream\\r\\nContent-Length: 1\\r\\n\\r\\nfHTTP/1.1 200 OK\\r\\nContent-Type: application/octet-stream\\r\\nContent-Length: 0\\r\\n\\r\\n
 bytes HTTP/1.1 200 OK\\r\\nContent-Type: application/octet-stream\\r\\nContent-Length: 3\\r\\n\\r\\nfoo
 ";
-    assert_eq!(rt; answers.as_slice(), wanted.as_slice());
-    assert_eq!(rt; fault, None);
+    answers(&rt, script, wanted, None);
 }
 
 #[test]
@@ -145,71 +163,62 @@ bytes 1 GET / HTTP/1.1\\r\\n\\r\\n
 bytes 1 GET /uri/URI:LIT:my HTTP/1.1\\r\\nHost: g\\r\\n\\r\\n
 take 1 1000
 ";
-    let (answers, fault) = ran(rt.alloc(), script.as_slice());
     let wanted = b"ok
 ok
 ok
 ok
 bytes HTTP/1.1 400 Bad Request\\r\\nContent-Type: text/plain; charset=utf-8\\r\\nContent-Length: 12\\r\\nConnection: close\\r\\n\\r\\nbad request\\n
 ";
-    assert_eq!(rt; answers.as_slice(), wanted.as_slice());
-    assert_eq!(rt; fault, None);
+    answers(&rt, script, wanted, None);
 }
 
 #[test]
-fn a_head_that_does_not_end_is_refused_at_16384_bytes(rt: HostRuntime) -> Result<(), Fail> {
+fn a_head_that_does_not_end_is_refused_at_16384_bytes(rt: HostRuntime) -> Result<(), AllocError> {
     for (count, wanted) in [
-        (16_383u32, b"ok\nok\nok\nbytes \n".as_slice()),
+        (16_383, b"ok\nok\nok\nbytes \n".as_slice()),
         (
-            16_384u32,
-            b"ok\nok\nok\nbytes HTTP/1.1 400 Bad Request\\r\\nContent-Type: text/plain; charset=utf-8\\r\\nContent-Length: 12\\r\\nConnection: close\\r\\n\\r\\nbad request\\n\n".as_slice(),
+            16_384,
+            b"ok\nok\nok\nbytes HTTP/1.1 400 Bad Request\\r\\nContent-Type: text/plain; charset=utf-8\\r\\nContent-Length: 12\\r\\nConnection: close\\r\\n\\r\\nbad request\\n\n",
         ),
     ] {
-        let mut script = joined(
+        let head = letters(rt.alloc(), count)?;
+        let script = joined(
             rt.alloc(),
-            [GRID, b"open 1\nbytes 1 ".as_slice()].as_slice(),
+            &[GRID, b"open 1\nbytes 1 ", &head, b"\ntake 1 1000\n"],
         )?;
-        for _ in 0..count {
-            script.push(b'a')?;
-        }
-        script.extend_from_slice(b"\ntake 1 1000\n")?;
-        let (answers, fault) = ran(rt.alloc(), script.as_slice());
-        assert_eq!(rt; answers.as_slice(), wanted);
-        assert_eq!(rt; fault, None);
+        answers(&rt, &script, wanted, None);
     }
     Ok(())
 }
 
+/// A request, and its reply.
+const REQUEST: &[u8] = b"GET /uri/URI:LIT:mzxw6ytboi HTTP/1.1\r\nHost: g\r\n\r\n";
+
+const REPLY: &[u8] =
+    b"HTTP/1.1 200 OK\r\nContent-Type: application/octet-stream\r\nContent-Length: 6\r\n\r\nfoobar";
+
 #[test]
-fn a_request_is_answered_alike_however_it_is_cut(rt: HostRuntime) -> Result<(), Fail> {
-    let request = b"GET /uri/URI:LIT:mzxw6ytboi HTTP/1.1\r\nHost: g\r\n\r\n".as_slice();
-    let reply =
-        b"bytes HTTP/1.1 200 OK\\r\\nContent-Type: application/octet-stream\\r\\nContent-Length: 6\\r\\n\\r\\nfoobar\n".as_slice();
+fn a_request_is_answered_alike_however_it_is_cut(rt: HostRuntime) -> Result<(), AllocError> {
     // Cut in two at each place, and into pieces of each size.
-    for size in 1..request.len() {
-        let mut script = joined(
+    for size in 1..REQUEST.len() {
+        let mut script = Script::of(
             rt.alloc(),
-            [GRID, b"open 1\nopen 2\n".as_slice()].as_slice(),
+            &[
+                Step::Line("grid 3 10 1 1000000 -", "ok"),
+                Step::Line("open 1", "ok"),
+                Step::Line("open 2", "ok"),
+                Step::Sends("1", &REQUEST[..size]),
+                Step::Sends("1", &REQUEST[size..]),
+            ],
         )?;
-        let mut wanted = joined(rt.alloc(), [b"ok\nok\nok\n".as_slice()].as_slice())?;
-        for piece in [&request[..size], &request[size..]] {
-            script.extend_from_slice(b"bytes 1 ")?;
-            escape(piece, &mut script)?;
-            script.push(b'\n')?;
-            wanted.extend_from_slice(b"ok\n")?;
+        for piece in REQUEST.chunks(size) {
+            script.go(Step::Sends("2", piece))?;
         }
-        for piece in request.chunks(size) {
-            script.extend_from_slice(b"bytes 2 ")?;
-            escape(piece, &mut script)?;
-            script.push(b'\n')?;
-            wanted.extend_from_slice(b"ok\n")?;
-        }
-        script.extend_from_slice(b"take 1 1000\ntake 2 1000\n")?;
-        wanted.extend_from_slice(reply)?;
-        wanted.extend_from_slice(reply)?;
-        let (answers, fault) = ran(rt.alloc(), script.as_slice());
-        assert_eq!(rt; answers.as_slice(), wanted.as_slice());
-        assert_eq!(rt; fault, None);
+        script.follow(&[
+            Step::Takes("1", "1000", REPLY),
+            Step::Takes("2", "1000", REPLY),
+        ])?;
+        script.holds(&rt);
     }
     Ok(())
 }
@@ -225,7 +234,6 @@ end 1
 take 1 4294967295
 take 1 1
 ";
-    let (answers, fault) = ran(rt.alloc(), script.as_slice());
     let wanted = b"ok
 ok
 ok
@@ -235,8 +243,7 @@ ok
 bytes \\r\\nContent-Type: application/octet-stream\\r\\nContent-Length: 6\\r\\n\\r\\nfoobar
 bytes 
 ";
-    assert_eq!(rt; answers.as_slice(), wanted.as_slice());
-    assert_eq!(rt; fault, None);
+    answers(&rt, script, wanted, None);
 }
 
 #[test]
@@ -247,147 +254,107 @@ open 1
 bytes 1 \\x47ET /uri/URI:LIT:aapvy777 HTTP/1.1\\x0d\\x0aHost: \\x67\\r\\n\\r\\n
 take 1 1000
 ";
-    let (answers, fault) = ran(rt.alloc(), script.as_slice());
     let wanted = b"ok
 ok
 ok
 bytes HTTP/1.1 200 OK\\r\\nContent-Type: application/octet-stream\\r\\nContent-Length: 5\\r\\n\\r\\n\\x00\\x1f\\\\\\x7f\\xff
 ";
-    assert_eq!(rt; answers.as_slice(), wanted.as_slice());
-    assert_eq!(rt; fault, None);
+    answers(&rt, script, wanted, None);
 }
 
+/// Lines that are bad after `grid`, an empty line and `open 1`.
+const BAD_LINES: &[&[u8]] = &[
+    b"shut 1",
+    b"open",
+    b"open ",
+    b"open 01",
+    b"open +1",
+    b"open 18446744073709551616",
+    b"open 2 ",
+    b" open 2",
+    b"open  2",
+    b"OPEN 2",
+    b"end x",
+    b"bytes 1",
+    b"bytes x ",
+    b"bytes 1 a\\",
+    b"bytes 1 \\t",
+    b"bytes 1 \\xA0",
+    b"bytes 1 \\xa",
+    b"take 1",
+    b"take 1 4294967296",
+    b"take 1 00",
+    b"take 1 1 1",
+    b"grid 3 10 1 5 -",
+    b"lose 0 aaaaaaaaaaaaaaaaaaaaaaaaaa",
+    b"lose 0 aaaaaaaaaaaaaaaaaaaaaaaaa 0",
+    b"lose 0 aaaaaaaaaaaaaaaaaaaaaaaaaaaa 0",
+    b"lose 4294967296 aaaaaaaaaaaaaaaaaaaaaaaaaa 0",
+    b"lose 0 aaaaaaaaaaaaaaaaaaaaaaaaaa 65536",
+    b"lose 0 aaaaaaaaaaaaaaaaaaaaaaaaaa 0 0",
+    b"spoil 0 aaaaaaaaaaaaaaaaaaaaaaaaaa 0",
+    b"spoil 0 aaaaaaaaaaaaaaaaaaaaaaaaaa 0 0 0",
+    b"image ",
+    b"image x",
+    b"restore",
+    b"restore ",
+    b"open 2\r",
+];
+
 #[test]
-fn a_bad_line_ends_the_run_by_its_number(rt: HostRuntime) -> Result<(), Fail> {
-    // Each stands as the line after `grid`, an empty line and `open 1`.
-    for line in [
-        b"shut 1".as_slice(),
-        b"open".as_slice(),
-        b"open ".as_slice(),
-        b"open 01".as_slice(),
-        b"open +1".as_slice(),
-        b"open 18446744073709551616".as_slice(),
-        b"open 2 ".as_slice(),
-        b" open 2".as_slice(),
-        b"open  2".as_slice(),
-        b"OPEN 2".as_slice(),
-        b"end x".as_slice(),
-        b"bytes 1".as_slice(),
-        b"bytes x ".as_slice(),
-        b"bytes 1 a\\".as_slice(),
-        b"bytes 1 \\t".as_slice(),
-        b"bytes 1 \\xA0".as_slice(),
-        b"bytes 1 \\xa".as_slice(),
-        b"take 1".as_slice(),
-        b"take 1 4294967296".as_slice(),
-        b"take 1 00".as_slice(),
-        b"take 1 1 1".as_slice(),
-        b"grid 3 10 1 5 -".as_slice(),
-        b"lose 0 aaaaaaaaaaaaaaaaaaaaaaaaaa".as_slice(),
-        b"lose 0 aaaaaaaaaaaaaaaaaaaaaaaaa 0".as_slice(),
-        b"lose 0 aaaaaaaaaaaaaaaaaaaaaaaaaaaa 0".as_slice(),
-        b"lose 4294967296 aaaaaaaaaaaaaaaaaaaaaaaaaa 0".as_slice(),
-        b"lose 0 aaaaaaaaaaaaaaaaaaaaaaaaaa 65536".as_slice(),
-        b"lose 0 aaaaaaaaaaaaaaaaaaaaaaaaaa 0 0".as_slice(),
-        b"spoil 0 aaaaaaaaaaaaaaaaaaaaaaaaaa 0".as_slice(),
-        b"spoil 0 aaaaaaaaaaaaaaaaaaaaaaaaaa 0 0 0".as_slice(),
-        b"image ".as_slice(),
-        b"image x".as_slice(),
-        b"restore".as_slice(),
-        b"restore ".as_slice(),
-        b"open 2\r".as_slice(),
-    ] {
-        let script = joined(
-            rt.alloc(),
-            [
-                GRID,
-                b"\nopen 1\n".as_slice(),
-                line,
-                b"\nopen 3\n".as_slice(),
-            ]
-            .as_slice(),
-        )?;
-        let (answers, fault) = ran(rt.alloc(), script.as_slice());
-        assert_eq!(rt; answers.as_slice(), b"ok\nok\n".as_slice(), "at {line:?}");
-        assert_eq!(rt; fault, Some(ScriptFault::BadLine(4)), "at {line:?}");
+fn a_bad_line_ends_the_run_by_its_number(rt: HostRuntime) -> Result<(), AllocError> {
+    for line in BAD_LINES {
+        let script = joined(rt.alloc(), &[GRID, b"\nopen 1\n", line, b"\nopen 3\n"])?;
+        answers(&rt, &script, b"ok\nok\n", Some(ScriptFault::BadLine(4)));
+    }
+    Ok(())
+}
+
+/// First lines after two empty ones, with their answers and whether they are bad.
+const FIRST_LINES: &[(&[u8], &[u8], bool)] = &[
+    (b"grid 1 1 1 0 -", b"ok\n", false),
+    (b"grid 256 256 256 18446744073709551615 my", b"ok\n", false),
+    (b"grid 0 10 1 5 -", b"fault 5 BadParameters\n", true),
+    (b"grid 4 3 1 5 -", b"fault 5 BadParameters\n", true),
+    (b"grid 3 257 1 5 -", b"fault 5 BadParameters\n", true),
+    (b"grid 3 65536 1 5 -", b"", true),
+    (b"grid 3 10 0 5 -", b"", true),
+    (b"grid 3 10 257 5 -", b"", true),
+    (b"grid 3 10 1 18446744073709551616 -", b"", true),
+    (b"grid 3 10 1 5 ", b"", true),
+    (b"grid 3 10 1 5", b"", true),
+    (b"grid 3 10 1 5 - ", b"", true),
+    (b"grid 3 10 1 5 -a", b"", true),
+    (b"grid 3 10 1 5 mz", b"", true),
+    (b"grid 3 10 1 5 MY", b"", true),
+    (b"grid 03 10 1 5 -", b"", true),
+    (b"open 1", b"", true),
+];
+
+#[test]
+fn the_first_line_is_a_grid(rt: HostRuntime) -> Result<(), AllocError> {
+    for (line, wanted, is_bad) in FIRST_LINES {
+        let script = joined(rt.alloc(), &[b"\n\n", line, b"\n"])?;
+        let fault = is_bad.then_some(ScriptFault::BadLine(3));
+        answers(&rt, &script, wanted, fault);
     }
     Ok(())
 }
 
 #[test]
-fn the_first_line_is_a_grid(rt: HostRuntime) -> Result<(), Fail> {
-    // A line, its answer, and whether it is bad.
-    for (line, wanted, is_bad) in [
-        (b"grid 1 1 1 0 -".as_slice(), b"ok\n".as_slice(), false),
-        (
-            b"grid 256 256 256 18446744073709551615 my".as_slice(),
-            b"ok\n".as_slice(),
-            false,
-        ),
-        (
-            b"grid 0 10 1 5 -".as_slice(),
-            b"fault 5 BadParameters\n".as_slice(),
-            true,
-        ),
-        (
-            b"grid 4 3 1 5 -".as_slice(),
-            b"fault 5 BadParameters\n".as_slice(),
-            true,
-        ),
-        (
-            b"grid 3 257 1 5 -".as_slice(),
-            b"fault 5 BadParameters\n".as_slice(),
-            true,
-        ),
-        (b"grid 3 65536 1 5 -".as_slice(), b"".as_slice(), true),
-        (b"grid 3 10 0 5 -".as_slice(), b"".as_slice(), true),
-        (b"grid 3 10 257 5 -".as_slice(), b"".as_slice(), true),
-        (
-            b"grid 3 10 1 18446744073709551616 -".as_slice(),
-            b"".as_slice(),
-            true,
-        ),
-        (b"grid 3 10 1 5 ".as_slice(), b"".as_slice(), true),
-        (b"grid 3 10 1 5".as_slice(), b"".as_slice(), true),
-        (b"grid 3 10 1 5 - ".as_slice(), b"".as_slice(), true),
-        (b"grid 3 10 1 5 -a".as_slice(), b"".as_slice(), true),
-        (b"grid 3 10 1 5 mz".as_slice(), b"".as_slice(), true),
-        (b"grid 3 10 1 5 MY".as_slice(), b"".as_slice(), true),
-        (b"grid 03 10 1 5 -".as_slice(), b"".as_slice(), true),
-        (b"open 1".as_slice(), b"".as_slice(), true),
-    ] {
-        let script = joined(
-            rt.alloc(),
-            [b"\n\n".as_slice(), line, b"\n".as_slice()].as_slice(),
-        )?;
-        let (answers, fault) = ran(rt.alloc(), script.as_slice());
-        assert_eq!(rt; answers.as_slice(), wanted, "at {line:?}");
-        assert_eq!(rt; fault.is_some(), is_bad, "at {line:?}");
-        if is_bad {
-            assert_eq!(rt; fault, Some(ScriptFault::BadLine(3)), "at {line:?}");
-        }
-    }
-    Ok(())
-}
-
-#[test]
-fn a_secret_has_at_most_256_bytes(rt: HostRuntime) -> Result<(), Fail> {
+fn a_secret_has_at_most_256_bytes(rt: HostRuntime) -> Result<(), AllocError> {
     // 410 letters spell 256 bytes, 412 spell 257.
-    for (letters, wanted, fault) in [
-        (410u32, b"ok\n".as_slice(), None),
+    for (count, wanted, fault) in [
+        (410, b"ok\n".as_slice(), None),
         (
-            412u32,
-            b"fault 5 BadParameters\n".as_slice(),
+            412,
+            b"fault 5 BadParameters\n",
             Some(ScriptFault::BadLine(1)),
         ),
     ] {
-        let mut script = joined(rt.alloc(), [b"grid 3 10 1 5 ".as_slice()].as_slice())?;
-        for _ in 0..letters {
-            script.push(b'a')?;
-        }
-        let (answers, found) = ran(rt.alloc(), script.as_slice());
-        assert_eq!(rt; answers.as_slice(), wanted);
-        assert_eq!(rt; found, fault);
+        let secret = letters(rt.alloc(), count)?;
+        let script = joined(rt.alloc(), &[b"grid 3 10 1 5 ", &secret])?;
+        answers(&rt, &script, wanted, fault);
     }
     Ok(())
 }
@@ -395,9 +362,7 @@ fn a_secret_has_at_most_256_bytes(rt: HostRuntime) -> Result<(), Fail> {
 #[test]
 fn a_script_without_lines_is_done(rt: HostRuntime) {
     for script in [b"".as_slice(), b"\n".as_slice(), b"\n\n\n".as_slice()] {
-        let (answers, fault) = ran(rt.alloc(), script);
-        assert_eq!(rt; answers.as_slice(), b"".as_slice());
-        assert_eq!(rt; fault, None);
+        answers(&rt, script, b"", None);
     }
 }
 

@@ -27,118 +27,110 @@ fn asked(alloc: Global, texts: &[&str]) -> Result<u8, AllocError> {
     })
 }
 
+/// Arguments, and what they ask for.
+const ASKED: &[(&[&str], u8)] = &[
+    (&["replay"], 1),
+    (&["serve", "127.0.0.1:80", "1"], 2),
+    (&["serve", "[::1]:0", "65535", "my"], 2),
+    (&["serve", "127.0.0.1:80", "1", ""], 2),
+    (&["replay", "x"], 0),
+    (&["Replay"], 0),
+    (&["serve"], 0),
+    (&["serve", "127.0.0.1:80"], 0),
+    (&["serve", "localhost:80", "1"], 0),
+    (&["serve", "127.0.0.1", "1"], 0),
+    (&["serve", "127.0.0.1:80", "0"], 0),
+    (&["serve", "127.0.0.1:80", "01"], 0),
+    (&["serve", "127.0.0.1:80", "65536"], 0),
+    (&["serve", "127.0.0.1:80", "1", "mz"], 0),
+    (&["serve", "127.0.0.1:80", "1", "MY"], 0),
+    (&["serve", "127.0.0.1:80", "1", "my", "x"], 0),
+    (&[], 0),
+];
+
 #[test]
-fn arguments_are_read(rt: HostRuntime) -> Result<(), Fail> {
-    let alloc = rt.alloc();
-    assert_eq!(rt; asked(alloc, ["replay"].as_slice())?, 1);
-    assert_eq!(rt; asked(alloc, ["serve", "127.0.0.1:80", "1"].as_slice())?, 2);
-    assert_eq!(rt;
-        asked(alloc, ["serve", "[::1]:0", "65535", "my"].as_slice())?,
-        2
-    );
-    assert_eq!(rt;
-        asked(alloc, ["serve", "127.0.0.1:80", "1", ""].as_slice())?,
-        2
-    );
-    assert_eq!(rt; asked(alloc, ["replay", "x"].as_slice())?, 0);
-    assert_eq!(rt; asked(alloc, ["Replay"].as_slice())?, 0);
-    assert_eq!(rt; asked(alloc, ["serve"].as_slice())?, 0);
-    assert_eq!(rt; asked(alloc, ["serve", "127.0.0.1:80"].as_slice())?, 0);
-    assert_eq!(rt; asked(alloc, ["serve", "localhost:80", "1"].as_slice())?, 0);
-    assert_eq!(rt; asked(alloc, ["serve", "127.0.0.1", "1"].as_slice())?, 0);
-    assert_eq!(rt; asked(alloc, ["serve", "127.0.0.1:80", "0"].as_slice())?, 0);
-    assert_eq!(rt;
-        asked(alloc, ["serve", "127.0.0.1:80", "01"].as_slice())?,
-        0
-    );
-    assert_eq!(rt;
-        asked(alloc, ["serve", "127.0.0.1:80", "65536"].as_slice())?,
-        0
-    );
-    assert_eq!(rt;
-        asked(alloc, ["serve", "127.0.0.1:80", "1", "mz"].as_slice())?,
-        0
-    );
-    assert_eq!(rt;
-        asked(alloc, ["serve", "127.0.0.1:80", "1", "MY"].as_slice())?,
-        0
-    );
-    assert_eq!(rt;
-        asked(alloc, ["serve", "127.0.0.1:80", "1", "my", "x"].as_slice())?,
-        0
-    );
-    assert_eq!(rt; asked(alloc, [].as_slice())?, 0);
+fn arguments_are_read(rt: HostRuntime) -> Result<(), AllocError> {
+    for (texts, wanted) in ASKED {
+        let found = asked(rt.alloc(), texts)?;
+        assert_eq!(rt; found, *wanted, "at {texts:?}");
+    }
     Ok(())
 }
 
+/// Faults that end the program, with its status and what is told.
+const PROGRAM_FAULTS: &[(ProgramFault, u8, &str)] = &[
+    (
+        ProgramFault::Usage,
+        2,
+        "usage: gate_main replay < SCRIPT, or gate_main serve ADDR CONNS [SECRET]",
+    ),
+    (
+        ProgramFault::Script(ScriptFault::BadLine(7)),
+        1,
+        "line 7 is bad",
+    ),
+    (
+        ProgramFault::Script(ScriptFault::ReadFailed),
+        1,
+        "the script could not be read",
+    ),
+    (
+        ProgramFault::Script(ScriptFault::WriteFailed),
+        1,
+        "an answer could not be written",
+    ),
+    (
+        ProgramFault::Script(ScriptFault::NoMemory),
+        1,
+        "out of memory",
+    ),
+    (
+        ProgramFault::Script(ScriptFault::TooLong),
+        1,
+        "the script or one of its lines is too long",
+    ),
+    (
+        ProgramFault::BindFailed,
+        1,
+        "the address could not be bound",
+    ),
+    (
+        ProgramFault::Serve(ServeFault::AcceptFailed),
+        1,
+        "no connection could be accepted",
+    ),
+    (
+        ProgramFault::Serve(ServeFault::NoMemory),
+        1,
+        "out of memory",
+    ),
+    (
+        ProgramFault::Connections(2),
+        1,
+        "connections that had a fault: 2",
+    ),
+    (ProgramFault::NoMemory, 1, "out of memory"),
+];
+
+/// Faults that end a connection's turns, with what is told.
+const TURN_FAULTS: &[(TurnFault, &str)] = &[
+    (TurnFault::Refused, "the gateway refused it"),
+    (TurnFault::ReadFailed, "it could not be read"),
+    (TurnFault::WriteFailed, "it could not be written to"),
+    (TurnFault::NoMemory, "out of memory"),
+];
+
 #[test]
-fn outcomes_have_their_words_and_statuses(rt: HostRuntime) -> Result<(), Fail> {
+fn outcomes_have_their_words_and_statuses(rt: HostRuntime) -> Result<(), AllocError> {
     assert_eq!(rt; exit_status(&Ok(())), 0);
-    for (fault, status, words) in [
-        (
-            ProgramFault::Usage,
-            2u8,
-            "usage: gate_main replay < SCRIPT, or gate_main serve ADDR CONNS [SECRET]",
-        ),
-        (
-            ProgramFault::Script(ScriptFault::BadLine(7)),
-            1,
-            "line 7 is bad",
-        ),
-        (
-            ProgramFault::Script(ScriptFault::ReadFailed),
-            1,
-            "the script could not be read",
-        ),
-        (
-            ProgramFault::Script(ScriptFault::WriteFailed),
-            1,
-            "an answer could not be written",
-        ),
-        (
-            ProgramFault::Script(ScriptFault::NoMemory),
-            1,
-            "out of memory",
-        ),
-        (
-            ProgramFault::Script(ScriptFault::TooLong),
-            1,
-            "the script or one of its lines is too long",
-        ),
-        (
-            ProgramFault::BindFailed,
-            1,
-            "the address could not be bound",
-        ),
-        (
-            ProgramFault::Serve(ServeFault::AcceptFailed),
-            1,
-            "no connection could be accepted",
-        ),
-        (
-            ProgramFault::Serve(ServeFault::NoMemory),
-            1,
-            "out of memory",
-        ),
-        (
-            ProgramFault::Connections(2),
-            1,
-            "connections that had a fault: 2",
-        ),
-        (ProgramFault::NoMemory, 1, "out of memory"),
-    ] {
+    for (fault, status, words) in PROGRAM_FAULTS {
         let told = format!(in rt.alloc(); "{fault}")?;
-        assert_eq!(rt; told.as_str(), words);
-        assert_eq!(rt; exit_status(&Err(fault)), status);
+        assert_eq!(rt; told.as_str(), *words);
+        assert_eq!(rt; exit_status(&Err(*fault)), *status, "at {words}");
     }
-    for (fault, words) in [
-        (TurnFault::Refused, "the gateway refused it"),
-        (TurnFault::ReadFailed, "it could not be read"),
-        (TurnFault::WriteFailed, "it could not be written to"),
-        (TurnFault::NoMemory, "out of memory"),
-    ] {
+    for (fault, words) in TURN_FAULTS {
         let told = format!(in rt.alloc(); "{fault}")?;
-        assert_eq!(rt; told.as_str(), words);
+        assert_eq!(rt; told.as_str(), *words);
     }
     Ok(())
 }
@@ -149,15 +141,17 @@ fn gateway(alloc: Global) -> Result<MemGateway, Fail> {
     Ok(gateway)
 }
 
-/// What the turns of a connection come to.
-fn served<R: Read, W: Write>(
-    alloc: Global,
+/// Compares what the turns of a connection come to.
+fn serves<R: Read, W: Write>(
+    rt: &(impl Abort + AllocGlobal),
     gateway: &mut MemGateway,
     id: u64,
     reader: &mut R,
     writer: &mut W,
-) -> Result<(), TurnFault> {
-    turns(alloc, gateway, id, reader, writer)
+    wanted: Result<(), TurnFault>,
+) {
+    let outcome = turns(rt.alloc(), gateway, id, reader, writer);
+    assert_eq!(rt; outcome, wanted, "on connection {id}");
 }
 
 const REQUESTS: &[u8] =
@@ -171,17 +165,18 @@ fn turns_answer_what_they_read(rt: HostRuntime) -> Result<(), Fail> {
     let mut gateway = gateway(rt.alloc())?;
     let mut reader = REQUESTS;
     let mut written = Vec::new(rt.alloc());
-    assert_eq!(rt;
-        served(rt.alloc(), &mut gateway, 1, &mut reader, &mut written),
-        Ok(())
-    );
+    serves(&rt, &mut gateway, 1, &mut reader, &mut written, Ok(()));
     assert_eq!(rt; written.as_slice(), REPLIES);
     assert!(rt; gateway.closed(1));
     // An id is used once.
     let mut reader = REQUESTS;
-    assert_eq!(rt;
-        served(rt.alloc(), &mut gateway, 1, &mut reader, &mut written),
-        Err(TurnFault::Refused)
+    serves(
+        &rt,
+        &mut gateway,
+        1,
+        &mut reader,
+        &mut written,
+        Err(TurnFault::Refused),
     );
     assert_eq!(rt; written.len(), REPLIES.len());
     Ok(())
@@ -196,10 +191,7 @@ fn turns_end_at_a_request_that_closes(rt: HostRuntime) -> Result<(), Fail> {
         b"GET /uri/URI:LIT:my HTTP/1.0\r\n\r\nGET /uri/URI:LIT:my HTTP/1.0\r\n\r\n".as_slice(),
     )?;
     let mut written = Vec::new(rt.alloc());
-    assert_eq!(rt;
-        served(rt.alloc(), &mut gateway, 1, &mut reader, &mut written),
-        Ok(())
-    );
+    serves(&rt, &mut gateway, 1, &mut reader, &mut written, Ok(()));
     assert!(rt; written.ends_with(b"Content-Length: 1\r\nConnection: close\r\n\r\nf"));
     Ok(())
 }
@@ -211,16 +203,28 @@ fn turns_end_where_a_peer_fails(rt: HostRuntime) -> Result<(), Fail> {
         let id = count as u64;
         let mut reader = breaking(&REQUESTS[..count]);
         let mut written = Vec::new(rt.alloc());
-        let outcome = served(rt.alloc(), &mut gateway, id, &mut reader, &mut written);
-        assert_eq!(rt; outcome, Err(TurnFault::ReadFailed));
+        serves(
+            &rt,
+            &mut gateway,
+            id,
+            &mut reader,
+            &mut written,
+            Err(TurnFault::ReadFailed),
+        );
         assert!(rt; REPLIES.starts_with(&written));
     }
     for room in 0..REPLIES.len() {
         let id = 1_000 + room as u64;
         let mut reader = REQUESTS;
         let mut writer = narrow(rt.alloc(), room);
-        let outcome = served(rt.alloc(), &mut gateway, id, &mut reader, &mut writer);
-        assert_eq!(rt; outcome, Err(TurnFault::WriteFailed));
+        serves(
+            &rt,
+            &mut gateway,
+            id,
+            &mut reader,
+            &mut writer,
+            Err(TurnFault::WriteFailed),
+        );
         assert_eq!(rt; writer.held.as_slice(), &REPLIES[..room]);
     }
     Ok(())
@@ -245,19 +249,33 @@ fn client(
     Ok(stream)
 }
 
+/// Serves so many clients over a socket: what each sends and is given, and how many connections had a fault.
+fn serves_clients(
+    rt: &(impl Abort + AllocGlobal + Eprint + Net<Listener = TcpListener, Stream = TcpStream>),
+    gateway: &mut MemGateway,
+    count: u16,
+    clients: &[(&[u8], &[u8])],
+    faults: u16,
+) -> Result<(), Fail> {
+    let listener = TcpListener::bind(rt, "127.0.0.1:0")?;
+    let mut streams = Vec::new(rt.alloc());
+    for (sent, _) in clients {
+        streams.push(client(rt, &listener, sent)?)?;
+    }
+    assert_eq!(rt; serve_on(rt, &listener, count, gateway), Ok(faults));
+    for (stream, (_, wanted)) in streams.iter_mut().zip(clients) {
+        let mut came = Vec::new(rt.alloc());
+        stream.read_to_end(&mut came)?;
+        assert!(rt; came.as_slice() == *wanted);
+    }
+    Ok(())
+}
+
 #[test]
 fn connections_are_served_over_a_socket(rt: HostRuntime) -> Result<(), Fail> {
     let mut gateway = gateway(rt.alloc())?;
-    let listener = TcpListener::bind(&rt, "127.0.0.1:0")?;
-    let first = client(&rt, &listener, EXCHANGE)?;
-    let second = client(&rt, &listener, REQUESTS)?;
-    assert_eq!(rt; serve_on(&rt, &listener, 2, &mut gateway), Ok(0));
-    for (mut stream, wanted) in [(first, EXCHANGED), (second, REPLIES)] {
-        let mut came = Vec::new(rt.alloc());
-        stream.read_to_end(&mut came)?;
-        assert!(rt; came.as_slice() == wanted);
-    }
-    Ok(())
+    let clients = [(EXCHANGE, EXCHANGED), (REQUESTS, REPLIES)];
+    serves_clients(&rt, &mut gateway, 2, &clients, 0)
 }
 
 #[test]
@@ -266,25 +284,13 @@ fn connections_that_had_a_fault_are_counted(rt: HostRuntime) -> Result<(), Fail>
     let mut nothing = b"".as_slice();
     let mut written = Vec::new(rt.alloc());
     // The second id is used before its connection comes.
-    assert_eq!(rt;
-        served(rt.alloc(), &mut gateway, 2, &mut nothing, &mut written),
-        Ok(())
-    );
-    let listener = TcpListener::bind(&rt, "127.0.0.1:0")?;
-    let first = client(&rt, &listener, REQUESTS)?;
-    let refused = client(&rt, &listener, b"")?;
-    let third = client(&rt, &listener, REQUESTS)?;
-    assert_eq!(rt; serve_on(&rt, &listener, 3, &mut gateway), Ok(1));
-    for (mut stream, wanted) in [
-        (first, REPLIES),
-        (refused, b"".as_slice()),
-        (third, REPLIES),
-    ] {
-        let mut came = Vec::new(rt.alloc());
-        stream.read_to_end(&mut came)?;
-        assert!(rt; came.as_slice() == wanted);
-    }
-    Ok(())
+    serves(&rt, &mut gateway, 2, &mut nothing, &mut written, Ok(()));
+    let clients = [
+        (REQUESTS, REPLIES),
+        (b"".as_slice(), b"".as_slice()),
+        (REQUESTS, REPLIES),
+    ];
+    serves_clients(&rt, &mut gateway, 3, &clients, 1)
 }
 
 #[test]
@@ -297,10 +303,7 @@ fn a_reader_that_is_interrupted_is_read_on(rt: HostRuntime) -> Result<(), Fail> 
     let mut gateway = gateway(rt.alloc())?;
     let mut slow = interrupted(REQUESTS);
     let mut written = Vec::new(rt.alloc());
-    assert_eq!(rt;
-        served(rt.alloc(), &mut gateway, 1, &mut slow, &mut written),
-        Ok(())
-    );
+    serves(&rt, &mut gateway, 1, &mut slow, &mut written, Ok(()));
     assert_eq!(rt; written.as_slice(), REPLIES);
     Ok(())
 }
@@ -325,18 +328,15 @@ fn a_writer_that_takes_nothing_or_does_not_flush_fails(rt: HostRuntime) {
 }
 
 #[test]
-fn a_line_of_the_limit_is_read(rt: HostRuntime) -> Result<(), Fail> {
-    for (more, wanted, fault) in [
-        (0usize, b"ok\nok\nok\n".as_slice(), None),
-        (1usize, b"ok\nok\n".as_slice(), Some(ScriptFault::TooLong)),
+fn a_line_of_the_limit_is_read(rt: HostRuntime) -> Result<(), AllocError> {
+    // With `bytes 1 ` before it, of 16,777,216 bytes and of one more.
+    for (count, wanted, fault) in [
+        (16_777_208, b"ok\nok\nok\n".as_slice(), None),
+        (16_777_209, b"ok\nok\n", Some(ScriptFault::TooLong)),
     ] {
-        let front = b"grid 3 10 1 5 -\nopen 1\nbytes 1 ".as_slice();
-        let mut script = Vec::with_capacity(rt.alloc(), front.len() + 16_777_217)?;
-        script.extend_from_slice(front)?;
-        script.resize(front.len() + (16_777_216 - 8) + more, b'a')?;
-        let (answers, found) = ran(rt.alloc(), &script);
-        assert_eq!(rt; answers.as_slice(), wanted);
-        assert_eq!(rt; found, fault);
+        let piece = letters(rt.alloc(), count)?;
+        let script = joined(rt.alloc(), &[b"grid 3 10 1 5 -\nopen 1\nbytes 1 ", &piece])?;
+        answers(&rt, &script, wanted, fault);
     }
     Ok(())
 }
