@@ -141,6 +141,8 @@ impl<S: Store + Drop> Gateway<S> {
             NoneFailed (states S.shares S.room S.held S.failures S.honest stores.items)
             gateway.grid) }
         // Where the reader tells its bytes, they are the image.
+        ensures no_fault { OnOk result (IfSome (R.remaining reader.old)
+            (λ bytes. (image_said (vec_len stores) bytes).fault ≡ None)) }
         ensures read { IsHonest (states S.shares S.room S.held S.failures S.honest stores.items) →
             IfOk result (λ gateway. IfSome (R.remaining reader.old)
             (λ bytes. rows_of (maps_of gateway.grid) ≡ (image_said (vec_len stores) bytes).rows)) }

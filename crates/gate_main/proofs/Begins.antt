@@ -4,6 +4,7 @@ use Rattle.std.specs.Prelude.{replicate, ◌&&◌, ◌⊎◌}
 use Rattle.std.proofs.lemmas.Bool.Decides.{nat_tests}
 use Rattle.octets.specs.Sharing.{IsSharing}
 use Rattle.grid.specs.GridState.{GridState, IsHonest, room_at}
+use Rattle.grid.specs.ImageReading.{image_said}
 use Rattle.chk_file.specs.World.{empty}
 use Rattle.gate_core.specs.Settings.{Settings}
 use Rattle.gate_core.specs.Items.{items}
@@ -13,7 +14,7 @@ use Rattle.gate_core.specs.declared.fault.GatewayFault.{GatewayFault}
 use Rattle.gate_core.specs.declared.fault.GatewayFault.TheVariants.{BadParameters}
 use Rattle.gate_main.specs.Stores.{fresh}
 use Rattle.gate_main.specs.Script.{Step, is_grid, is_restore, is_refusal, may_stand}
-use Rattle.gate_main.specs.Replies.{settings_by, opening_by, room_of, are_parameters, IsToldAfter, IsTold}
+use Rattle.gate_main.specs.Replies.{settings_by, opening_by, room_of, are_parameters, IsRestoreReply, IsToldAfter, IsTold}
 use Rattle.gate_main.specs.Running.{CameAfter, CameBy, IsAt, IsAnswer, Answered}
 use Rattle.gate_main.specs.declared.command.Command.{Command}
 use Rattle.gate_main.specs.declared.command.Command.TheVariants as command
@@ -96,7 +97,7 @@ begin_made log None grid g at set is starts good =
     let step : Step = record { command = command.Grid grid; reply = Done } in
     subst (λ l. IsAnswer l step (Some grid) (Some g)) (sym at) record {
       stands = refl;
-      told = record { made = ap (λ b. cond b Done (Refused BadParameters)) (sym good); calm = λ _ _. tt };
+      told = record { made = ap (λ b. cond b Done (Refused BadParameters)) (sym good); restored = tt; calm = λ _ _. tt };
       ends = refl;
       at = λ _. (refl, record { settings = set; sharing = sharing_of grid good; calm = λ _ _. came_first grid g is starts });
     }
@@ -108,7 +109,7 @@ begin_refused log None after grid fault at is bad =
     let step : Step = record { command = command.Grid grid; reply = Refused fault } in
     subst (λ l. IsAnswer l step after None) (sym at) record {
       stands = refl;
-      told = record { made = ap Refused is ∙ ap (λ b. cond b Done (Refused BadParameters)) (sym bad); calm = λ _ _. tt };
+      told = record { made = ap Refused is ∙ ap (λ b. cond b Done (Refused BadParameters)) (sym bad); restored = tt; calm = λ _ _. tt };
       ends = refl;
       at = λ h. absurd cc;
     }
@@ -116,29 +117,29 @@ begin_refused log (Some was) after grid fault at is bad = absurd at
 
 -- ---- `restore`
 
-pub restored : (log : List Step) (grid : Grid) (gateway : Option State) (image : List ℕ) (g : State) → IsAt log (Some grid) gateway → IsTold log → g.settings ≡ settings_by grid
+pub restored : (log : List Step) (grid : Grid) (gateway : Option State) (image : List ℕ) (g : State) → IsAt log (Some grid) gateway → IsTold log → g.settings ≡ settings_by grid → (image_said grid.servers image).fault ≡ None
     → Answered log (command.Restore image) (Some Done) None (Some g)
-restored log grid None image g at told set = absurd at
-restored log grid (Some old) image g at told set =
+restored log grid None image g at told set sound = absurd at
+restored log grid (Some old) image g at told set sound =
     let step : Step = record { command = command.Restore image; reply = Done } in
     let first : IsTold (record { command = command.Grid grid; reply = Done } ∷ []) = subst IsTold at.0 told in
     let was : CameBy (record { command = command.Grid grid; reply = Done } ∷ []) old = subst (λ l. CameBy l old) at.0 at.1 in
     subst (λ l. IsAnswer l step None (Some g)) (sym at.0) record {
       stands = refl;
-      told = record { made = first.made; calm = λ h _. absurd cc };
+      told = record { made = first.made; restored = record { done = λ _. sound; bad = λ place is. absurd cc }; calm = λ h _. absurd cc };
       ends = refl;
       at = λ _. (omega arith, record { settings = set; sharing = was.sharing; calm = λ h _. absurd cc });
     }
 
-pub restore_refused : (log : List Step) (grid : Grid) (gateway : Option State) (image : List ℕ) (reply : Reply) → IsAt log (Some grid) gateway → IsTold log → is_refusal reply ≡ true
+pub restore_refused : (log : List Step) (grid : Grid) (gateway : Option State) (image : List ℕ) (reply : Reply) → IsAt log (Some grid) gateway → IsTold log → is_refusal reply ≡ true → IsRestoreReply grid image reply
     → Answered log (command.Restore image) (Some reply) None None
-restore_refused log grid None image reply at told refusal = absurd at
-restore_refused log grid (Some old) image reply at told refusal =
+restore_refused log grid None image reply at told refusal cause = absurd at
+restore_refused log grid (Some old) image reply at told refusal cause =
     let step : Step = record { command = command.Restore image; reply = reply } in
     let first : IsTold (record { command = command.Grid grid; reply = Done } ∷ []) = subst IsTold at.0 told in
     subst (λ l. IsAnswer l step None None) (sym at.0) record {
       stands = refl;
-      told = record { made = first.made; calm = λ h _. absurd cc };
+      told = record { made = first.made; restored = cause; calm = λ h _. absurd cc };
       ends = refusal;
       at = λ h. absurd cc;
     }

@@ -2,7 +2,7 @@
 use Rattle.std.proofs.Common.{inl, inr, ◌≡◌, ◌≢◌, ℕ, ◌≤◌, ◌<◌, List, [], ◌∷◌, ◌++◌, length, take, drop, Bool, true, false, cond, Option, Some, None, Result, Ok, Err, refl, sym, ap, subst, ◌∙◌, arith, nat_lt, eq-eqb}
 use Rattle.std.specs.Prelude.{MatchOption, is_some, IsErrOf, ◌↔◌, ◌&&◌, not, unwrap_or}
 use Rattle.std.proofs.Math.Seq.{drop-append_seam}
-use Rattle.std.proofs.lemmas.List.{append-nil}
+use Rattle.std.proofs.lemmas.List.{append-nil, length-map}
 use Rattle.std.proofs.lemmas.List.Elements.{All-nil}
 use Rattle.std.proofs.lemmas.Bool.Decides.{nat_tests}
 use Rattle.octets.specs.Sharing.{IsSharing}
@@ -11,7 +11,9 @@ use Rattle.grid.specs.declared.fault.GridFault.TheVariants as grid_fault
 use Rattle.share_store.specs.Shares.{ShareKey}
 use Rattle.grid.specs.Refusals.{IsChangeRefusal}
 use Rattle.grid.specs.Leaves.{TellsDown}
-use Rattle.grid.specs.GridState.{GridState, stood, failures_at, IsHonest, NoneFailed}
+use Rattle.grid.specs.GridState.{GridState, maps_of, stood, failures_at, IsHonest, NoneFailed}
+use Rattle.grid.specs.Rows.{rows_of}
+use Rattle.grid.specs.Image.{image}
 use Rattle.chk_file.specs.World.{World, empty}
 use Rattle.chk_file.specs.Marks.{shown}
 use Rattle.chk_file.specs.Look.{by_fit}
@@ -29,7 +31,7 @@ use Rattle.gate_core.specs.Held.{Held, State, held_at, waiting, waiting_in, open
 use Rattle.gate_core.specs.Lefts.{with_held, with_grid, opened, taken, ended}
 use Rattle.gate_core.specs.Came.{Opening, Came, CameAt, IsRoomy, GoesOn, stage_of}
 use Rattle.gate_core.specs.Served.{IsReceived}
-use Rattle.gate_main.specs.Replies.{settings_by, opening_by, IsCalm, IsReply, is_going, unsaid, unsaid_of_kept, IsApart, first_of, IsTaken, world_by, at_server}
+use Rattle.gate_main.specs.Replies.{settings_by, opening_by, IsCalm, IsReply, is_going, unsaid, unsaid_of_kept, IsApart, first_of, IsTaken, world_by, at_server, IsImageAfter}
 use Rattle.gate_main.specs.Running.{IsCalled}
 use Rattle.gate_main.specs.declared.command.Command.TheVariants as command
 use Rattle.gate_main.specs.declared.command.Grid.{Grid}
@@ -234,14 +236,25 @@ module _ (old new : State) (share : Share) (fault : GridFault) (reply : Reply) (
 
 -- ---- `image`
 
+image_of_what_stands : (g : State) (bytes : List ℕ) → (IsHonest g.grid → bytes ≡ image (length g.grid) (rows_of (maps_of g.grid)))
+    → (grid : Grid) (events : List Event) → g.settings ≡ settings_by grid → Came (opening_by grid) g events → IsImageAfter grid events bytes
+image_of_what_stands g bytes is grid events set came =
+    let many : length g.grid ≡ grid.servers = came.servers ∙ ap (λ (s : Settings). s.servers) set in
+    record {
+      maps = maps_of g.grid;
+      servers = length-map g.grid (λ t. t.shares) ∙ many;
+      stand = came.stores.stand ∙ ap (λ s. shown (world_after s empty (items events)).marks) set;
+      is = is came.stores.honest ∙ ap (λ n. image n (rows_of (maps_of g.grid))) many;
+    }
+
 module _ (old new : State) (left : new ≡ with_grid old new.grid) (on : (opening : Opening) (events : List Event) → Came opening old events → Came opening new events) where
   stays : (grid : Grid) (events : List Event) → Came (opening_by grid) old events → Came (opening_by grid) new (events ++ [])
   stays grid events came = subst (Came (opening_by grid) new) (sym (append-nil events)) (on (opening_by grid) events came)
 
-  pub imaged : (bytes : List ℕ) → IsCalled old new command.Image (Imaged bytes)
-  imaged bytes = record {
+  pub imaged : (bytes : List ℕ) → (IsHonest old.grid → bytes ≡ image (length old.grid) (rows_of (maps_of old.grid))) → IsCalled old new command.Image (Imaged bytes)
+  imaged bytes is = record {
     settings = ap (λ (s : State). s.settings) left;
-    told = λ grid events set sharing came. inl (bytes, refl);
+    told = λ grid events set sharing came. inl (bytes, refl, image_of_what_stands old bytes is grid events set came);
     came = λ grid events set came calm. stays grid events came;
   }
 

@@ -12,7 +12,7 @@ use Rattle.gate_core.specs.Rooms.{Rooms, room_after, HasRoomFor}
 use Rattle.gate_core.specs.Held.{Held, State, held_at, waiting}
 use Rattle.gate_core.specs.Came.{Opening, Came, CameAt, IsRoomy}
 use Rattle.gate_main.specs.Script.{Step, is_grid, is_restore, is_call, may_stand, allowed, ends_run}
-use Rattle.gate_main.specs.Replies.{settings_by, opening_by, IsCalm, IsReply, event_by, events_of, AreReplies, restores, IsToldAfter, IsToldFrom, IsTold, unsaid}
+use Rattle.gate_main.specs.Replies.{settings_by, opening_by, IsCalm, IsReply, event_by, events_of, AreReplies, restores, IsFirstReply, BeginsWell, IsToldAfter, IsToldFrom, IsTold, unsaid}
 use Rattle.gate_main.specs.Running.{CameAfter, CameFrom, CameBy, IsAt, IsCalled, IsAnswer, Answered}
 use Rattle.gate_main.specs.declared.command.Command.{Command}
 use Rattle.gate_main.specs.declared.command.Command.TheVariants as command
@@ -102,10 +102,27 @@ restores_same (first ∷ log) step is = refl
 
 -- ---- a call after these steps
 
+-- a call restores nothing
+first_call : (grid : Grid) (asked : Command) (reply : Reply) → is_restore asked ≡ false → IsFirstReply grid asked reply
+first_call grid (command.Grid other) reply no_restore = tt
+first_call grid (command.Restore image) reply no_restore = absurd cc
+first_call grid (command.Open id) reply no_restore = tt
+first_call grid (command.Bytes id piece) reply no_restore = tt
+first_call grid (command.End id) reply no_restore = tt
+first_call grid (command.Take id most) reply no_restore = tt
+first_call grid (command.Lose share) reply no_restore = tt
+first_call grid (command.Spoil share place) reply no_restore = tt
+first_call grid command.Image reply no_restore = tt
+
+begins_more : (grid : Grid) (log : List Step) (step : Step) → is_restore step.command ≡ false → BeginsWell grid log → BeginsWell grid (log ++ step ∷ [])
+begins_more grid [] step other well = first_call grid step.command step.reply other
+begins_more grid (first ∷ log) step other well = well
+
 told_after : (grid : Grid) (reply : Reply) (log : List Step) (old new : State) (step : Step) → is_restore step.command ≡ false → IsToldAfter grid reply log → CameAfter grid log old → IsCalled old new step.command step.reply
     → IsToldAfter grid reply (log ++ step ∷ [])
 told_after grid reply log old new step other told came called = record {
   made = told.made;
+  restored = begins_more grid log step other told.restored;
   calm = λ none calm.
       let same = sym (restores_same log step other) ∙ none in
       let first = calm_first grid (events_of log) (event_by step.command step.reply) (subst (IsCalm grid) (events_more log step) calm) in

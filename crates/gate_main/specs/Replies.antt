@@ -1,7 +1,12 @@
 -- Which replies commands get, by what was called before.
-use Rattle.std.specs.Prelude.{◌≡◌, ℕ, ◌&&◌, not, nat_le, nat_lt, ◌⊎◌, List, [], ◌∷◌, ◌++◌, length, take, drop, ⊤, Bool, true, false, is_some, unwrap_or, if◌then◌else◌}
+use Rattle.std.specs.Prelude.{◌≡◌, ℕ, ◌&&◌, not, nat_le, nat_lt, ◌⊎◌, List, [], ◌∷◌, ◌++◌, length, take, drop, ⊤, Bool, true, false, is_some, unwrap_or, if◌then◌else◌, Option, Some, None}
 use Rattle.grid.specs.declared.fault.GridFault.{GridFault}
-use Rattle.grid.specs.declared.fault.GridFault.TheVariants.{NoServer}
+use Rattle.grid.specs.declared.fault.GridFault.TheVariants.{NoServer, BadImage}
+use Rattle.share_store.specs.Shares.{Shares}
+use Rattle.grid.specs.Standing.{standing}
+use Rattle.grid.specs.Rows.{rows_of}
+use Rattle.grid.specs.Image.{image}
+use Rattle.grid.specs.ImageReading.{image_said}
 use Rattle.chk_file.specs.Marks.{shown}
 use Rattle.chk_file.specs.World.{World, empty}
 use Rattle.chk_file.specs.Look.{by_fit}
@@ -79,9 +84,16 @@ pub record IsTaken (grid : Grid) (events : List Event) (id most : ℕ) (reply : 
 abbrev pub at_server : Grid → ℕ → Bool → Reply
 at_server grid server answer = if nat_lt server grid.servers then Answered answer else GridRefused NoServer
 
--- an image, or why it can't be written
-abbrev pub IsImageReply : Reply → Type 0
-IsImageReply reply = ((bytes : List ℕ) × (reply ≡ Imaged bytes)) ⊎ ((fault : GridFault) × (reply ≡ GridRefused fault))
+-- these bytes are the image of stores, one for each server, in which stands what stands after these calls
+pub record IsImageAfter (grid : Grid) (events : List Event) (bytes : List ℕ) : Type 0 where
+  pub maps : List Shares
+  pub servers : length maps ≡ grid.servers
+  pub stand : standing maps ≡ shown (world_by grid events).marks
+  pub is : bytes ≡ image grid.servers (rows_of maps)
+
+-- an image of what stands, or why it can't be written
+abbrev pub IsImageReply : Grid → List Event → Reply → Type 0
+IsImageReply grid events reply = ((bytes : List ℕ) × (reply ≡ Imaged bytes) × IsImageAfter grid events bytes) ⊎ ((fault : GridFault) × (reply ≡ GridRefused fault))
 
 -- the reply to a command after these calls
 abbrev pub IsReply : Grid → List Event → Command → Reply → Type 0
@@ -95,7 +107,7 @@ IsReply grid events (command.Lose share) reply =
     reply ≡ at_server grid share.server (is_some (shown (world_by grid events).marks share.server (share.index, share.number)))
 IsReply grid events (command.Spoil share place) reply =
     reply ≡ at_server grid share.server (nat_lt place (length (unwrap_or (shown (world_by grid events).marks share.server (share.index, share.number)) [])))
-IsReply grid events command.Image reply = IsImageReply reply
+IsReply grid events command.Image reply = IsImageReply grid events reply
 
 -- the call of a command that gave these bytes
 abbrev pub event_of : Command → List ℕ → List Event
@@ -129,14 +141,31 @@ AreReplies grid events (step ∷ log) = IsReply grid events step.command step.re
 
 -- ---- all steps
 
+-- An image is restored only where it is one of stores for so many servers, and called bad only where it is not: at the place of
+-- its first fault.
+pub record IsRestoreReply (grid : Grid) (bytes : List ℕ) (reply : Reply) : Type 0 where
+  pub done : reply ≡ Done → (image_said grid.servers bytes).fault ≡ None
+  pub bad : (place : ℕ) → reply ≡ GridRefused (BadImage place) → (image_said grid.servers bytes).fault ≡ Some place
+
+-- the reply to the command after `grid`, where it restores an image
+abbrev pub IsFirstReply : Grid → Command → Reply → Type 0
+IsFirstReply grid (command.Restore bytes) reply = IsRestoreReply grid bytes reply
+IsFirstReply grid _ reply = ⊤
+
+abbrev pub BeginsWell : Grid → List Step → Type 0
+BeginsWell grid [] = ⊤
+BeginsWell grid (step ∷ log) = IsFirstReply grid step.command step.reply
+
 -- whether an image is restored
 abbrev pub restores : List Step → Bool
 restores [] = false
 restores (step ∷ log) = is_restore step.command
 
--- After the line `grid` and its answer: where no image is restored and the stores have the room, the written answers decide.
+-- After the line `grid` and its answer: an image is restored or called bad for cause, and where none is restored and the stores
+-- have the room, the written answers decide.
 pub record IsToldAfter (grid : Grid) (reply : Reply) (log : List Step) : Type 0 where
   pub made : reply ≡ (if are_parameters grid then Done else Refused BadParameters)
+  pub restored : BeginsWell grid log
   pub calm : restores log ≡ false → IsCalm grid (events_of log) → AreReplies grid [] log
 
 abbrev pub IsToldFrom : Command → Reply → List Step → Type 0
