@@ -9,12 +9,23 @@ last=500
 folder=$(mktemp -d)
 trap 'rm -rf "$folder"' EXIT
 
+# A quarter of the runs for each of four processors.
+mkdir "$folder/0" "$folder/1" "$folder/2" "$folder/3"
 for before in $(seq 0 $last); do
-    name=$(printf '%04d' "$before")
+    name=$(printf '%d/%04d' $((before % 4)) "$before")
     : > "$folder/$name"
     echo "$before" > "$folder/$name.args"
 done
-rt try --fail-alloc $last --cases "$folder" -- refusal > "$folder/answers" 2>&1 || {
+running=
+for part in 0 1 2 3; do
+    rt try --fail-alloc $last --cases "$folder/$part" -- refusal > "$folder/answers.$part" 2>&1 &
+    running="$running $!"
+done
+for part in $running; do
+    wait "$part" || failed=yes
+done
+cat "$folder"/answers.? > "$folder/answers"
+test -z "${failed-}" || {
     cat "$folder/answers"
     exit 1
 }
