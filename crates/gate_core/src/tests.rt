@@ -34,9 +34,10 @@ const LETTERS_CAP: &[u8] =
 const LIMIT_CAP: &[u8] =
     b"URI:CHK:jgkhjmtytfjnd7mf3yfu67pevm:rsiowm6f6c5kczq3horspgotv7dblegikfw6iyctuvatrb3hs2dq:3:10:4194304";
 
-/// The parts of a request that gets what a cap names, around the cap.
+/// What stands before the cap in a request that gets what it names.
 const GET: &[u8] = b"GET /uri/";
 
+/// What stands after the cap.
 const HTTP: &[u8] = b" HTTP/1.1\r\nHost: g\r\n\r\n";
 
 /// The bytes of a file as they are sent, up to their number.
@@ -62,9 +63,10 @@ type Row<'a> = (&'a [&'a [u8]], &'a [&'a [u8]]);
 /// The file of letters is put and gives its cap.
 const STORED: Row<'static> = (PUT_LETTERS, &[TEXT, b"95\r\n\r\n", LETTERS_CAP]);
 
-/// The cap of the file of letters gives these bytes, or none.
+/// The cap of the file of letters gives these bytes.
 const FOUND: Row<'static> = (&[GET, LETTERS_CAP, HTTP], &[FILE, b"56\r\n\r\n", LETTERS]);
 
+/// The cap of the file of letters gives none.
 const NOT_FOUND: Row<'static> = (
     &[GET, LETTERS_CAP, HTTP],
     &[
@@ -228,6 +230,7 @@ fn quiet_calls(gateway: &mut Gateway<MemStore>) -> Result<bool, Fail> {
     Ok(idle && !lost && !spoiled && gateway.closed(1))
 }
 
+/// Requests whose replies are of each kind.
 const KINDS: &[Row<'static>] = &[
     (
         &[b"HEAD /uri/URI:LIT:my HTTP/1.1\r\nHost: g\r\n\r\n"],
@@ -413,6 +416,7 @@ fn portions(alloc: Global) -> Result<Vec<u8>, Fail> {
     Ok(taken)
 }
 
+/// The four replies are taken.
 fn take_portions(gateway: &mut Gateway<MemStore>, taken: &mut Vec<u8>) -> Result<(), Fail> {
     for _ in 0..4 {
         take_nine(gateway, taken)?;
@@ -420,6 +424,7 @@ fn take_portions(gateway: &mut Gateway<MemStore>, taken: &mut Vec<u8>) -> Result
     take_portion(gateway, taken, 1_000)
 }
 
+/// A reply is taken in nine portions.
 fn take_nine(gateway: &mut Gateway<MemStore>, taken: &mut Vec<u8>) -> Result<(), Fail> {
     send(gateway, 1, GET_FOO)?;
     for _ in 0..9 {
@@ -463,6 +468,7 @@ fn begin(gateway: &mut Gateway<MemStore>, id: u64) -> Result<(), Fail> {
     send(gateway, id, GET_FOO)
 }
 
+/// Whether a caller is given the file that it asked for.
 fn is_given_foo(gateway: &mut Gateway<MemStore>, id: u64) -> Result<bool, Fail> {
     let reply = given(gateway, id, 1_000)?;
     Ok(reply.as_slice() == FOO)
@@ -569,6 +575,7 @@ fn shares_are_those_of_the_model(rt: HostRuntime) -> Result<(), Fail> {
     Ok(())
 }
 
+/// Whether a file's shares are those of the model.
 fn is_as_modelled(alloc: Global, file: &Modelled) -> Result<bool, Fail> {
     let image = modelled_image(alloc, file)?;
     Ok(image.len() == file.length && is_digest(alloc, &image, file.digest)?)
@@ -597,6 +604,7 @@ fn a_body_of_the_limit_is_stored(rt: HostRuntime) -> Result<(), Fail> {
     Ok(())
 }
 
+/// Whether a body of the longest length is stored and found, and a longer one refused.
 fn is_limit_kept(alloc: Global, gateway: &mut Gateway<MemStore>) -> Result<bool, Fail> {
     let body = counted_bytes(alloc, 4_194_304)?;
     send_in_pieces(gateway, &put(alloc, &body)?)?;
