@@ -1,10 +1,9 @@
 -- Laws of bytes under the keystream.
-use Rattle.std.proofs.Common.{◌≡◌, ℕ, zero, suc, ◌+◌, ◌-◌, ◌/◌, ◌%◌, ◌≤◌, ◌<◌, List, [], ◌∷◌, ◌++◌, length, get_or, take, drop, bit_xor, refl, ap, sym, ◌∙◌, arith, add-zero}
+use Rattle.std.proofs.Common.{◌≡◌, ℕ, zero, suc, ◌+◌, ◌-◌, ◌≤◌, ◌<◌, List, [], ◌∷◌, ◌++◌, length, get_or, take, drop, bit_xor, refl, ap, sym, ◌∙◌, arith, add-zero}
 use Rattle.std.proofs.lemmas.List.{ext_get_or, append_assoc, take_at, drop_at, drop-drop, take-append-drop, take-take, length-take-le}
 use Rattle.std.proofs.lemmas.Slice.{between_is}
 use Rattle.std.specs.Int.Bits.{xor_assoc, xor_self, xor_zero_r}
-use Rattle.aes_ctr.specs.Cipher.{encrypt}
-use Rattle.aes_ctr.specs.Keystream.{counter_block, stream}
+use Rattle.aes_ctr.specs.Keystream.{stream}
 use Rattle.aes_ctr.specs.Crypt.{crypt_from}
 
 pub length-crypt_from : (key : List ℕ) (p : ℕ) (bs : List ℕ) → length (crypt_from key p bs) ≡ length bs
@@ -45,22 +44,14 @@ crypt_from-twice key p (b ∷ bs) =
     let later = crypt_from-twice key (p + 1) bs in
     cc
 
--- bytes that lie in one block of the keystream
-pub crypt_from_block : (key : List ℕ) (p : ℕ) (xs ys : List ℕ) → length ys ≡ length xs → p % 16 + length xs ≤ 16
-    → ((i : ℕ) → i < length xs
-    → get_or ys i 0 ≡ bit_xor (get_or xs i 0) (get_or (encrypt key (counter_block (p / 16))) (p % 16 + i) 0))
+-- bytes of which each was added to the keystream's at its place
+pub crypt_from_each : (key : List ℕ) (p : ℕ) (xs ys : List ℕ) → length ys ≡ length xs
+    → ((i : ℕ) → i < length xs → get_or ys i 0 ≡ bit_xor (get_or xs i 0) (stream key (p + i)))
     → ys ≡ crypt_from key p xs
-unfolding stream
-crypt_from_block key p xs ys long fits added =
-    let out = encrypt key (counter_block (p / 16)) in
+crypt_from_each key p xs ys long added =
     ext_get_or 0 ys (crypt_from key p xs) (long ∙ sym (length-crypt_from key p xs)) (λ i h.
     let within : i < length xs = omega arith in
-    let same_block : (p + i) / 16 ≡ p / 16 = omega arith in
-    let place : (p + i) % 16 ≡ p % 16 + i = omega arith in
-    let byte : get_or out (p % 16 + i) 0 ≡ stream key (p + i) =
-    ap (λ (q : ℕ). get_or out q 0) (sym place)
-    ∙ ap (λ (q : ℕ). get_or (encrypt key (counter_block q)) ((p + i) % 16) 0) (sym same_block) in
-    added i within ∙ ap (bit_xor (get_or xs i 0)) byte ∙ sym (get_or-crypt_from key p xs i within))
+    added i within ∙ sym (get_or-crypt_from key p xs i within))
 
 -- a piece more of what has been done so far
 pub crypt_from_more : (key : List ℕ) (p : ℕ) (bs now : List ℕ) (i j : ℕ) → i ≤ j → j ≤ length bs

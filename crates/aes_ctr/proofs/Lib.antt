@@ -1,7 +1,10 @@
+pub mod BitLemmas
 pub mod ByteLemmas
+pub mod CircuitLemmas
+pub mod CounterLemmas
 pub mod CryptLemmas
-pub mod GroupLemmas
+pub mod ExchangeLemmas
+pub mod MixLemmas
 pub mod RoundLemmas
 pub mod StateLemmas
 pub mod TableLemmas
-pub mod WordLemmas

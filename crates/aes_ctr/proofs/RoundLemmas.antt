@@ -1,11 +1,11 @@
 -- Round keys and rounds one after another.
-use Rattle.std.proofs.Common.{◌≡◌, ℕ, ◌+◌, ◌<◌, List, [], map, get_or, refl, ap, ◌∙◌, arith, add-one}
-use Rattle.std.proofs.lemmas.List.FromFn.{get_or-map-range_with_len}
-use Rattle.std.specs.List.{range_with_len}
+use Rattle.std.proofs.Common.{◌≡◌, ℕ, zero, suc, ◌+◌, List, length, get_or, refl, add-one}
 use Rattle.aes_ctr.specs.Field.{times_x}
 use Rattle.aes_ctr.specs.Rounds.{sub_bytes, shift_rows, mix_columns, add_round_key}
 use Rattle.aes_ctr.specs.KeyExpansion.{next_round_key, round_key, x_power}
 use Rattle.aes_ctr.specs.Cipher.{after_rounds, encrypt}
+use Rattle.aes_ctr.specs.Planes.{lanes}
+use Rattle.aes_ctr.proofs.StateLemmas.{list_of_16}
 
 -- one power more
 pub x_power_more : (n : ℕ) → times_x (x_power n) ≡ x_power (n + 1)
@@ -17,12 +17,11 @@ pub round_key_more : (key : List ℕ) (n : ℕ) → next_round_key (round_key ke
 unfolding round_key
 round_key_more key n = rw add-one
 
--- a place in the list of round keys
-pub round_key_at : (key : List ℕ) (keys : List (List ℕ)) → keys ≡ map (round_key key) (range_with_len 0 11)
-    → (n : ℕ) → n < 11 → get_or keys n [] ≡ round_key key n
-round_key_at key keys same n h =
-    ap (λ (ks : List (List ℕ)). get_or ks n []) same
-    ∙ get_or-map-range_with_len (round_key key) 0 11 n n [] h (omega arith)
+-- a round key as a vector
+pub round_key_lanes : (key : List ℕ) (n : ℕ) → length key ≡ 16 → round_key key n ≡ lanes (λ i. get_or (round_key key n) i 0)
+unfolding round_key next_round_key
+round_key_lanes key zero long = list_of_16 key long
+round_key_lanes key (suc n) long = refl
 
 -- no round yet
 pub no_rounds : (key block : List ℕ) → add_round_key block (round_key key 0) ≡ after_rounds key block 0

@@ -1,5 +1,6 @@
 -- Lists of 16 bytes.
-use Rattle.std.proofs.lemmas.List.FromFn.{fill_by_all}
+use Rattle.std.proofs.lemmas.List.FromFn.{fill_by_all, get_or-map-range_with_len}
+use Rattle.aes_ctr.specs.Planes.{lanes}
 use Rattle.std.proofs.Common.{sym, ap, add-zero, zero, suc, ◌+◌, ◌<◌, ◌≤◌, set, arith, get_or-set_same, get_or-set_other, length-set, length, get_or, refl, ◌≡◌, ℕ, List, [], ◌∷◌}
 
 -- two lists of 16 numbers that agree place by place
@@ -51,3 +52,7 @@ pub side_by_side : (xs : List ℕ) (at i : ℕ) → i < 4
 side_by_side xs at =
     below_4 (λ i. get_or (get_or xs at 0 ∷ get_or xs (at + 1) 0 ∷ get_or xs (at + 2) 0 ∷ get_or xs (at + 3) 0 ∷ []) i 0
     ≡ get_or xs (at + i) 0) (ap (λ (n : ℕ). get_or xs n 0) (sym (add-zero at))) refl refl refl
+
+-- a lane
+pub lanes_at : (f : ℕ → ℕ) (i : ℕ) → i < 16 → get_or (lanes f) i 0 ≡ f i
+lanes_at f i lt = get_or-map-range_with_len f 0 16 i i 0 lt (omega arith)

@@ -1,20 +1,18 @@
--- Functions on bytes that agree, shown by computing them at every byte; and the entries of the tables.
-use Rattle.std.proofs.Common.{[], ◌∷◌, ◌≡◌, ℕ, ◌+◌, ◌-◌, ◌*◌, ◌≤◌, ◌<◌, List, map, get_or, bit_xor, refl, ap, sym, ◌∙◌, arith}
+-- Functions on bytes that agree, shown by computing them at every byte; and the entries of the S-box.
+use Rattle.std.proofs.Common.{◌∷◌, [], ◌≡◌, ℕ, ◌+◌, ◌-◌, ◌*◌, ◌≤◌, ◌<◌, List, map, get_or, bit_xor, refl, ap, sym, ◌∙◌, arith}
 use Rattle.std.proofs.lemmas.List.FromFn.{get_or-map-range_with_len}
 use Rattle.std.specs.List.{range_with_len}
 use Rattle.aes_ctr.specs.Field.{times, times_bits, times_x}
 use Rattle.aes_ctr.specs.SBox.{s_box, inverse, affine, affine_bit}
-use Rattle.aes_ctr.specs.Words.{word_bytes}
-use Rattle.aes_ctr.specs.declared.tables.TheConstants.{S_BOX, FROM_ROW_0, FROM_ROW_1, FROM_ROW_2, FROM_ROW_3, IN_ROW_0, IN_ROW_1, IN_ROW_2}
 
 -- a list of a function's values has its value at each place
-value_at : {X : Type 0} (f : ℕ → X) (xs : List X) (a n : ℕ) (d : X) → xs ≡ map f (range_with_len a n)
+pub value_at : {X : Type 0} (f : ℕ → X) (xs : List X) (a n : ℕ) (d : X) → xs ≡ map f (range_with_len a n)
     → (x i : ℕ) → a + i ≡ x → i < n → get_or xs i d ≡ f x
 value_at {X} f xs a n d same x i at h =
     ap (λ (ys : List X). get_or ys i d) same ∙ get_or-map-range_with_len f a n i x d h at
 
 -- two functions with the same list of values agree at each place
-same_values : {X : Type 0} (f g : ℕ → X) (a n : ℕ) → map f (range_with_len a n) ≡ map g (range_with_len a n)
+pub same_values : {X : Type 0} (f g : ℕ → X) (a n : ℕ) → map f (range_with_len a n) ≡ map g (range_with_len a n)
     → (x : ℕ) → a ≤ x → x < a + n → f x ≡ g x
 same_values f g a n same x low high =
     let i = x - a in
@@ -23,13 +21,34 @@ same_values f g a n same x low high =
     sym (get_or-map-range_with_len f a n i x (f x) h at)
     ∙ value_at g (map f (range_with_len a n)) a n (f x) same x i at h
 
-s_box_entries : S_BOX ≡ map s_box (range_with_len 0 256)
-unfolding times times_bits times_x s_box inverse affine affine_bit
+-- the values of the S-box
+unfoldable pub s_box_values : List ℕ
+s_box_values =
+    0x63 ∷ 0x7c ∷ 0x77 ∷ 0x7b ∷ 0xf2 ∷ 0x6b ∷ 0x6f ∷ 0xc5 ∷ 0x30 ∷ 0x01 ∷ 0x67 ∷ 0x2b ∷ 0xfe ∷ 0xd7 ∷ 0xab ∷ 0x76
+    ∷ 0xca ∷ 0x82 ∷ 0xc9 ∷ 0x7d ∷ 0xfa ∷ 0x59 ∷ 0x47 ∷ 0xf0 ∷ 0xad ∷ 0xd4 ∷ 0xa2 ∷ 0xaf ∷ 0x9c ∷ 0xa4 ∷ 0x72 ∷ 0xc0
+    ∷ 0xb7 ∷ 0xfd ∷ 0x93 ∷ 0x26 ∷ 0x36 ∷ 0x3f ∷ 0xf7 ∷ 0xcc ∷ 0x34 ∷ 0xa5 ∷ 0xe5 ∷ 0xf1 ∷ 0x71 ∷ 0xd8 ∷ 0x31 ∷ 0x15
+    ∷ 0x04 ∷ 0xc7 ∷ 0x23 ∷ 0xc3 ∷ 0x18 ∷ 0x96 ∷ 0x05 ∷ 0x9a ∷ 0x07 ∷ 0x12 ∷ 0x80 ∷ 0xe2 ∷ 0xeb ∷ 0x27 ∷ 0xb2 ∷ 0x75
+    ∷ 0x09 ∷ 0x83 ∷ 0x2c ∷ 0x1a ∷ 0x1b ∷ 0x6e ∷ 0x5a ∷ 0xa0 ∷ 0x52 ∷ 0x3b ∷ 0xd6 ∷ 0xb3 ∷ 0x29 ∷ 0xe3 ∷ 0x2f ∷ 0x84
+    ∷ 0x53 ∷ 0xd1 ∷ 0x00 ∷ 0xed ∷ 0x20 ∷ 0xfc ∷ 0xb1 ∷ 0x5b ∷ 0x6a ∷ 0xcb ∷ 0xbe ∷ 0x39 ∷ 0x4a ∷ 0x4c ∷ 0x58 ∷ 0xcf
+    ∷ 0xd0 ∷ 0xef ∷ 0xaa ∷ 0xfb ∷ 0x43 ∷ 0x4d ∷ 0x33 ∷ 0x85 ∷ 0x45 ∷ 0xf9 ∷ 0x02 ∷ 0x7f ∷ 0x50 ∷ 0x3c ∷ 0x9f ∷ 0xa8
+    ∷ 0x51 ∷ 0xa3 ∷ 0x40 ∷ 0x8f ∷ 0x92 ∷ 0x9d ∷ 0x38 ∷ 0xf5 ∷ 0xbc ∷ 0xb6 ∷ 0xda ∷ 0x21 ∷ 0x10 ∷ 0xff ∷ 0xf3 ∷ 0xd2
+    ∷ 0xcd ∷ 0x0c ∷ 0x13 ∷ 0xec ∷ 0x5f ∷ 0x97 ∷ 0x44 ∷ 0x17 ∷ 0xc4 ∷ 0xa7 ∷ 0x7e ∷ 0x3d ∷ 0x64 ∷ 0x5d ∷ 0x19 ∷ 0x73
+    ∷ 0x60 ∷ 0x81 ∷ 0x4f ∷ 0xdc ∷ 0x22 ∷ 0x2a ∷ 0x90 ∷ 0x88 ∷ 0x46 ∷ 0xee ∷ 0xb8 ∷ 0x14 ∷ 0xde ∷ 0x5e ∷ 0x0b ∷ 0xdb
+    ∷ 0xe0 ∷ 0x32 ∷ 0x3a ∷ 0x0a ∷ 0x49 ∷ 0x06 ∷ 0x24 ∷ 0x5c ∷ 0xc2 ∷ 0xd3 ∷ 0xac ∷ 0x62 ∷ 0x91 ∷ 0x95 ∷ 0xe4 ∷ 0x79
+    ∷ 0xe7 ∷ 0xc8 ∷ 0x37 ∷ 0x6d ∷ 0x8d ∷ 0xd5 ∷ 0x4e ∷ 0xa9 ∷ 0x6c ∷ 0x56 ∷ 0xf4 ∷ 0xea ∷ 0x65 ∷ 0x7a ∷ 0xae ∷ 0x08
+    ∷ 0xba ∷ 0x78 ∷ 0x25 ∷ 0x2e ∷ 0x1c ∷ 0xa6 ∷ 0xb4 ∷ 0xc6 ∷ 0xe8 ∷ 0xdd ∷ 0x74 ∷ 0x1f ∷ 0x4b ∷ 0xbd ∷ 0x8b ∷ 0x8a
+    ∷ 0x70 ∷ 0x3e ∷ 0xb5 ∷ 0x66 ∷ 0x48 ∷ 0x03 ∷ 0xf6 ∷ 0x0e ∷ 0x61 ∷ 0x35 ∷ 0x57 ∷ 0xb9 ∷ 0x86 ∷ 0xc1 ∷ 0x1d ∷ 0x9e
+    ∷ 0xe1 ∷ 0xf8 ∷ 0x98 ∷ 0x11 ∷ 0x69 ∷ 0xd9 ∷ 0x8e ∷ 0x94 ∷ 0x9b ∷ 0x1e ∷ 0x87 ∷ 0xe9 ∷ 0xce ∷ 0x55 ∷ 0x28 ∷ 0xdf
+    ∷ 0x8c ∷ 0xa1 ∷ 0x89 ∷ 0x0d ∷ 0xbf ∷ 0xe6 ∷ 0x42 ∷ 0x68 ∷ 0x41 ∷ 0x99 ∷ 0x2d ∷ 0x0f ∷ 0xb0 ∷ 0x54 ∷ 0xbb ∷ 0x16
+    ∷ []
+
+s_box_entries : s_box_values ≡ map s_box (range_with_len 0 256)
+unfolding s_box_values times times_bits times_x s_box inverse affine affine_bit
 s_box_entries = refl
 
 -- the table of the S-box is the S-box
-pub s_box_of : (x : ℕ) → x < 256 → get_or S_BOX x 0 ≡ s_box x
-s_box_of x h = value_at s_box S_BOX 0 256 0 s_box_entries x x (omega arith) h
+pub s_box_of : (x : ℕ) → x < 256 → get_or s_box_values x 0 ≡ s_box x
+s_box_of x h = value_at s_box s_box_values 0 256 0 s_box_entries x x (omega arith) h
 
 low_doubles : map (λ x. 2 * x) (range_with_len 0 128) ≡ map times_x (range_with_len 0 128)
 unfolding times_x
@@ -63,131 +82,3 @@ double_of x h = same_values times_x (times 2) 0 256 doubles x (omega arith) h
 -- three times a byte
 pub triple_of : (x : ℕ) → x < 256 → bit_xor (times_x x) x ≡ times 3 x
 triple_of x h = same_values (λ y. bit_xor (times_x y) y) (times 3) 0 256 triples x (omega arith) h
-
--- what a byte of the first row adds to each row
-part_0 : ℕ → List ℕ
-part_0 s = times 2 s ∷ s ∷ s ∷ times 3 s ∷ []
-
-entries_0 : map (λ x. word_bytes (get_or FROM_ROW_0 x 0)) (range_with_len 0 256)
-    ≡ map (λ x. part_0 (get_or S_BOX x 0)) (range_with_len 0 256)
-unfolding times times_bits times_x word_bytes part_0
-entries_0 = refl
-
--- the table for the first row
-pub from_row_0_of : (x : ℕ) → x < 256 → (let s = s_box x in word_bytes (get_or FROM_ROW_0 x 0) ≡ times 2 s ∷ s ∷ s ∷ times 3 s ∷ [])
-unfolding part_0
-from_row_0_of x h =
-    same_values (λ y. word_bytes (get_or FROM_ROW_0 y 0)) (λ y. part_0 (get_or S_BOX y 0)) 0 256 entries_0 x (omega arith) h
-    ∙ ap part_0 (s_box_of x h)
-
--- what a byte of the second row adds to each row
-part_1 : ℕ → List ℕ
-part_1 s = times 3 s ∷ times 2 s ∷ s ∷ s ∷ []
-
-entries_1 : map (λ x. word_bytes (get_or FROM_ROW_1 x 0)) (range_with_len 0 256)
-    ≡ map (λ x. part_1 (get_or S_BOX x 0)) (range_with_len 0 256)
-unfolding times times_bits times_x word_bytes part_1
-entries_1 = refl
-
--- the table for the second row
-pub from_row_1_of : (x : ℕ) → x < 256 → (let s = s_box x in word_bytes (get_or FROM_ROW_1 x 0) ≡ times 3 s ∷ times 2 s ∷ s ∷ s ∷ [])
-unfolding part_1
-from_row_1_of x h =
-    same_values (λ y. word_bytes (get_or FROM_ROW_1 y 0)) (λ y. part_1 (get_or S_BOX y 0)) 0 256 entries_1 x (omega arith) h
-    ∙ ap part_1 (s_box_of x h)
-
--- what a byte of the third row adds to each row
-part_2 : ℕ → List ℕ
-part_2 s = s ∷ times 3 s ∷ times 2 s ∷ s ∷ []
-
-entries_2 : map (λ x. word_bytes (get_or FROM_ROW_2 x 0)) (range_with_len 0 256)
-    ≡ map (λ x. part_2 (get_or S_BOX x 0)) (range_with_len 0 256)
-unfolding times times_bits times_x word_bytes part_2
-entries_2 = refl
-
--- the table for the third row
-pub from_row_2_of : (x : ℕ) → x < 256 → (let s = s_box x in word_bytes (get_or FROM_ROW_2 x 0) ≡ s ∷ times 3 s ∷ times 2 s ∷ s ∷ [])
-unfolding part_2
-from_row_2_of x h =
-    same_values (λ y. word_bytes (get_or FROM_ROW_2 y 0)) (λ y. part_2 (get_or S_BOX y 0)) 0 256 entries_2 x (omega arith) h
-    ∙ ap part_2 (s_box_of x h)
-
--- what a byte of the fourth row adds to each row
-part_3 : ℕ → List ℕ
-part_3 s = s ∷ s ∷ times 3 s ∷ times 2 s ∷ []
-
-entries_3 : map (λ x. word_bytes (get_or FROM_ROW_3 x 0)) (range_with_len 0 256)
-    ≡ map (λ x. part_3 (get_or S_BOX x 0)) (range_with_len 0 256)
-unfolding times times_bits times_x word_bytes part_3
-entries_3 = refl
-
--- the table for the fourth row
-pub from_row_3_of : (x : ℕ) → x < 256 → (let s = s_box x in word_bytes (get_or FROM_ROW_3 x 0) ≡ s ∷ s ∷ times 3 s ∷ times 2 s ∷ [])
-unfolding part_3
-from_row_3_of x h =
-    same_values (λ y. word_bytes (get_or FROM_ROW_3 y 0)) (λ y. part_3 (get_or S_BOX y 0)) 0 256 entries_3 x (omega arith) h
-    ∙ ap part_3 (s_box_of x h)
-
--- a byte in the first row alone
-alone_0 : ℕ → List ℕ
-alone_0 s = s ∷ 0 ∷ 0 ∷ 0 ∷ []
-
-alone_entries_0 : map (λ x. word_bytes (get_or IN_ROW_0 x 0)) (range_with_len 0 256)
-    ≡ map (λ x. alone_0 (get_or S_BOX x 0)) (range_with_len 0 256)
-unfolding word_bytes alone_0
-alone_entries_0 = refl
-
--- the table of the last round for the first row
-pub in_row_0_of : (x : ℕ) → x < 256 → word_bytes (get_or IN_ROW_0 x 0) ≡ s_box x ∷ 0 ∷ 0 ∷ 0 ∷ []
-unfolding alone_0
-in_row_0_of x h =
-    same_values (λ y. word_bytes (get_or IN_ROW_0 y 0)) (λ y. alone_0 (get_or S_BOX y 0)) 0 256 alone_entries_0 x (omega arith) h
-    ∙ ap alone_0 (s_box_of x h)
-
--- a byte in the second row alone
-alone_1 : ℕ → List ℕ
-alone_1 s = 0 ∷ s ∷ 0 ∷ 0 ∷ []
-
-alone_entries_1 : map (λ x. word_bytes (get_or IN_ROW_1 x 0)) (range_with_len 0 256)
-    ≡ map (λ x. alone_1 (get_or S_BOX x 0)) (range_with_len 0 256)
-unfolding word_bytes alone_1
-alone_entries_1 = refl
-
--- the table of the last round for the second row
-pub in_row_1_of : (x : ℕ) → x < 256 → word_bytes (get_or IN_ROW_1 x 0) ≡ 0 ∷ s_box x ∷ 0 ∷ 0 ∷ []
-unfolding alone_1
-in_row_1_of x h =
-    same_values (λ y. word_bytes (get_or IN_ROW_1 y 0)) (λ y. alone_1 (get_or S_BOX y 0)) 0 256 alone_entries_1 x (omega arith) h
-    ∙ ap alone_1 (s_box_of x h)
-
--- a byte in the third row alone
-alone_2 : ℕ → List ℕ
-alone_2 s = 0 ∷ 0 ∷ s ∷ 0 ∷ []
-
-alone_entries_2 : map (λ x. word_bytes (get_or IN_ROW_2 x 0)) (range_with_len 0 256)
-    ≡ map (λ x. alone_2 (get_or S_BOX x 0)) (range_with_len 0 256)
-unfolding word_bytes alone_2
-alone_entries_2 = refl
-
--- the table of the last round for the third row
-pub in_row_2_of : (x : ℕ) → x < 256 → word_bytes (get_or IN_ROW_2 x 0) ≡ 0 ∷ 0 ∷ s_box x ∷ 0 ∷ []
-unfolding alone_2
-in_row_2_of x h =
-    same_values (λ y. word_bytes (get_or IN_ROW_2 y 0)) (λ y. alone_2 (get_or S_BOX y 0)) 0 256 alone_entries_2 x (omega arith) h
-    ∙ ap alone_2 (s_box_of x h)
-
--- a byte in the fourth row alone
-alone_3 : ℕ → List ℕ
-alone_3 s = 0 ∷ 0 ∷ 0 ∷ s ∷ []
-
-alone_entries_3 : map (λ x. word_bytes (get_or S_BOX x 0)) (range_with_len 0 256)
-    ≡ map (λ x. alone_3 (get_or S_BOX x 0)) (range_with_len 0 256)
-unfolding word_bytes alone_3
-alone_entries_3 = refl
-
--- the table of the last round for the fourth row
-pub in_row_3_of : (x : ℕ) → x < 256 → word_bytes (get_or S_BOX x 0) ≡ 0 ∷ 0 ∷ 0 ∷ s_box x ∷ []
-unfolding alone_3
-in_row_3_of x h =
-    same_values (λ y. word_bytes (get_or S_BOX y 0)) (λ y. alone_3 (get_or S_BOX y 0)) 0 256 alone_entries_3 x (omega arith) h
-    ∙ ap alone_3 (s_box_of x h)

@@ -1,6 +1,6 @@
 -- KeyExpansion for a key of 128 bits (FIPS 197, section 5.2). A round key is a state, whose columns are
 -- four words of the schedule; round key 0 is the key itself.
-use Rattle.std.specs.Prelude.{ℕ, zero, suc, ◌+◌, ◌%◌, ◌==◌, List, bit_xor, if◌then◌else◌}
+use Rattle.std.specs.Prelude.{◌≡◌, ◌<◌, ℕ, zero, suc, ◌+◌, ◌%◌, ◌==◌, List, [], bit_xor, slice_index_or, if◌then◌else◌}
 use Rattle.aes_ctr.specs.Field.{times_x}
 use Rattle.aes_ctr.specs.SBox.{s_box}
 use Rattle.aes_ctr.specs.State.{cell, state}
@@ -30,3 +30,7 @@ next_round_key key n = state (next_cell key n)
 unfoldable pub round_key : List ℕ → ℕ → List ℕ
 round_key key zero = key
 round_key key (suc n) = next_round_key (round_key key n) n
+
+-- eleven round keys of a key
+abbrev pub AreRoundKeys : List ℕ → List (List ℕ) → Type 0
+AreRoundKeys key keys = (n : ℕ) → n < 11 → slice_index_or keys n [] ≡ round_key key n

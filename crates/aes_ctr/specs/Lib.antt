@@ -4,7 +4,8 @@ pub mod State
 pub mod Rounds
 pub mod KeyExpansion
 pub mod Cipher
-pub mod Words
 pub mod Keystream
 pub mod Crypt
-pub mod Groups
+pub mod Planes
+pub mod Circuit
+pub mod Exchanges

@@ -4,18 +4,22 @@
 //! both encrypts and decrypts, whole or piece by piece. No call takes memory.
 #![tactic(auto)]
 
-// What 256 blocks in a row have in common.
-mod group;
+// SubBytes as a circuit.
+mod circuit;
 // A key, and its keystream added to bytes.
 mod key;
+// The keystream, eight blocks at a time.
+mod keystream;
 // What holds of bytes under a keystream.
 pub mod laws;
-// The cipher's rounds on words.
+// The other steps of a round, on eight states bit by bit.
+mod planes;
+// The cipher's rounds on eight blocks.
 mod rounds;
 // The round keys of a key.
 mod schedule;
-// The S-box, and the tables of a round.
-mod tables;
+// Eight blocks bit by bit, and back.
+mod transposition;
 
 pub use key::Key;
 

@@ -1,8 +1,10 @@
-use Rattle.aes_ctr.specs.Rounds.{sub_bytes, shift_rows, mix_columns, add_round_key}
-use Rattle.aes_ctr.specs.Words.{columns, word_byte, word_bytes}
-use Rattle.aes_ctr.proofs.WordLemmas.{join_4}
+use Rattle.std.proofs.Common.{ℕ, List}
+use Rattle.aes_ctr.specs.Rounds.{sub_bytes, shift_rows, mix_columns}
+use Rattle.aes_ctr.proofs.ByteLemmas.{shifted_low}
 use Rattle.aes_ctr.proofs.rounds.round.Goals as goal
 
 pub returns : goal.returns
-unfolding sub_bytes shift_rows mix_columns add_round_key columns word_byte word_bytes
-returns c = join_4 c.column.ensures.bytes c.column-2.ensures.bytes c.column-3.ensures.bytes c.column-4.ensures.bytes
+returns c = λ s t low ex ek.
+    let turned : ℕ → List ℕ = λ j. shift_rows (sub_bytes (s j)) in
+    c.added.ensures (λ j. mix_columns (turned j)) t (c.mixed.ensures turned (λ j. shifted_low (s j))
+    (c.shifted.ensures (λ j. sub_bytes (s j)) (c.substituted.ensures s low ex))) ek

@@ -1,7 +1,6 @@
-use Rattle.std.proofs.Common.{◌≡◌, ◌≢◌, ℕ, ◌+◌, ◌<◌, List, [], get_or, length, set, refl, ap, ◌∙◌, arith, below_more, get_or-set_same, get_or-set_other, length-set}
+use Rattle.std.proofs.Common.{replicate, ◌≡◌, ◌≢◌, ℕ, ◌+◌, ◌<◌, List, [], get_or, length, set, refl, ap, sym, ◌∙◌, arith, below_more, get_or-set_same, get_or-set_other, length-set}
 use Rattle.aes_ctr.specs.Field.{times_x}
 use Rattle.aes_ctr.specs.KeyExpansion.{next_round_key, round_key, x_power}
-use Rattle.aes_ctr.specs.Words.{columns}
 use Rattle.aes_ctr.proofs.RoundLemmas.{x_power_more, round_key_more}
 use Rattle.aes_ctr.proofs.schedule.expanded.Goals as goal
 
@@ -11,7 +10,9 @@ loop-n-init c = record {
   long = refl;
   power_is = refl;
   last_is = refl;
-  made = λ k h. let first : k ≡ 0 = omega arith in rw first c.words_of-keys.ensures;
+  made = λ k h.
+      let first : k ≡ 0 = omega arith in
+      ap (λ (n : ℕ). get_or (replicate 11 c.args.key) n []) first ∙ ap (round_key c.args.key) (sym first);
 }
 
 pub loop-n-preserved : goal.loop-n-preserved
@@ -19,20 +20,20 @@ loop-n-preserved c =
     let n = c.loop-n.n in
     let keys = c.loop-n.keys in
     let key = c.args.key in
-    let words = c.words_of.result in
+    let next = c.next_round_key-next.result in
     let long = c.loop-n.invariant.long in
     let fits : n + 1 < length keys = omega arith in
-    let next_is : c.next_round_key-next.result ≡ round_key key (n + 1) =
+    let next_is : next ≡ round_key key (n + 1) =
     c.next_round_key-next.ensures n c.loop-n.invariant.power_is
     ∙ ap (λ (k : List ℕ). next_round_key k n) c.loop-n.invariant.last_is ∙ round_key_more key n in
     record {
-      long = length-set keys (n + 1) words ∙ long;
+      long = length-set keys (n + 1) next ∙ long;
       power_is = c.double-power.ensures ∙ ap times_x c.loop-n.invariant.power_is ∙ x_power_more n;
       last_is = next_is;
-      made = below_more (λ k. columns (get_or (set keys (n + 1) words) k []) ≡ round_key key k) (n + 1)
+      made = below_more (λ k. get_or (set keys (n + 1) next) k [] ≡ round_key key k) (n + 1)
           (λ k h. let other : k ≢ n + 1 = omega arith in
-          ap columns (get_or-set_other keys (n + 1) k words [] other) ∙ c.loop-n.invariant.made k h)
-          (ap columns (get_or-set_same keys (n + 1) words [] fits) ∙ c.words_of.ensures ∙ next_is);
+          get_or-set_other keys (n + 1) k next [] other ∙ c.loop-n.invariant.made k h)
+          (get_or-set_same keys (n + 1) next [] fits ∙ next_is);
     }
 
 pub returns : goal.returns
