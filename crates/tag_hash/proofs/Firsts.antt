@@ -1,17 +1,16 @@
 -- The fault of a netstring is the first one from left to right.
-use Rattle.std.proofs.Common.{◌≡◌, ℕ, zero, suc, ◌+◌, ◌-◌, ◌^◌, ◌<◌, ◌≤◌, List, [], ◌∷◌, ◌++◌, length, take, drop, get_or, Bool, true, false, cond, inl, inr, refl, sym, ap, subst, ◌∙◌, arith, length-drop, length-take}
+use Rattle.std.proofs.Common.{◌≡◌, ℕ, suc, ◌+◌, ◌-◌, ◌^◌, ◌<◌, ◌≤◌, List, [], ◌∷◌, ◌++◌, length, take, drop, get_or, Bool, true, false, cond, inl, inr, refl, sym, ap, subst, ◌∙◌, arith, length-drop, length-take}
 use Rattle.std.specs.Prelude.{◌==◌, ◌≢◌, ◌&&◌, nat_lt, if◌then◌else◌, Result, Ok, Err, IfErr}
 use Rattle.std.specs.Char.{is_ascii_digit}
 use Rattle.std.specs.Str.Parse.{digits_value}
 use Rattle.std.proofs.lemmas.List.{take-append-drop, drop-drop, get_or-drop, get_or-take}
-use Rattle.std.proofs.Math.Seq.{drop-cons}
 use Rattle.tag_hash.specs.Decimal.{decimal_text}
 use Rattle.tag_hash.specs.NetstringAt.{netstring_at, announced, closed, digit_count, first_value}
 use Rattle.tag_hash.specs.Faults.{NoDigit, BeginsWith, IsCut, IsFirst}
 use Rattle.tag_hash.specs.declared.netstrings.NetFault.{NetFault}
 use Rattle.tag_hash.specs.declared.netstrings.NetFault.TheVariants.{NotDigits, LeadingZero, Short, NoComma, TooLong}
 use Rattle.tag_hash.specs.declared.netstrings.Span.{Span}
-use Rattle.tag_hash.proofs.Comparisons.{true_or_false, equal, equal_is, unequal_is, below, below_is, not_below_is, both}
+use Rattle.tag_hash.proofs.Comparisons.{true_or_false, equal, equal_is, unequal_is, below_is, not_below_is, both}
 use Rattle.tag_hash.proofs.Announced.{IsAnnounced, announced_by, announced_parts, by_tests, led, first_digits}
 use Rattle.tag_hash.proofs.Reading.{cut_at, digits_of_size, netstring_at_by, first_of_both, second_of_both}
 

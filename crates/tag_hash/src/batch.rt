@@ -1,5 +1,6 @@
 //! Tagged hashes of many values under one tag, four at a time.
-ghost use Rattle.std.specs.Prelude.{◌≡◌, ◌+◌, ◌<◌, ◌≤◌, ◌^◌, ◌++◌, [], ◌∷◌, length, map, take, IfOk};
+ghost use Rattle.std.specs.Prelude.{◌≡◌, ◌+◌, ◌<◌, ◌≤◌, ◌^◌, ◌++◌, [], ◌∷◌, length, map, take, IfOk, IsTrue};
+ghost use Rattle.std.specs.List.{All};
 ghost use Rattle.tag_hash.specs.Netstring.{netstring};
 ghost use Rattle.tag_hash.specs.Tagged.{tagged};
 
@@ -13,14 +14,14 @@ mod tests;
 
 /// The tagged hashes of four values, in their order.
 ///
-/// Values of one length, below 2^58 bytes, are hashed side by side where the tag has at most 60 bytes. Others are hashed
-/// one after another. It takes no memory.
+/// They are hashed side by side where the tag has at most 60 bytes, each value is below 2^58 bytes, and the longest is at
+/// most two fifths of all four, counted in bytes with 128 more for each. Others are hashed one after another. It takes no
+/// memory.
 pub fn tagged_four(tag: &[u8], values: &[&[u8]; 4]) -> [[u8; 32]; 4]
     ensures { result ≡ map (λ value. tagged tag.now value.now) values.now }
 {
     let [a, b, c, d] = *values;
-    let as_long = b.len() == a.len() && c.len() == a.len() && d.len() == a.len();
-    if as_long && a.len() < 1 << 58 && tag.len() <= 60 {
+    if tag.len() <= 60 && pays(values) {
         side_by_side(tag, a, b, c, d)
     } else {
         [
@@ -32,13 +33,32 @@ pub fn tagged_four(tag: &[u8], values: &[&[u8]; 4]) -> [[u8; 32]; 4]
     }
 }
 
-/// The tagged hashes of four values of one length.
+/// Whether it is quicker to hash these values, at most four, side by side: the lanes run as long as the longest one does,
+/// for about the time of two of its length one after another. A value counts as its bytes and 128 more, for the tag, the
+/// padding and the second hash. `false` where one has 2^58 bytes or more.
+fn pays(values: &[&[u8]]) -> bool
+    requires { length values.now ≤ 4 }
+    ensures { IsTrue result → All (λ value. length value.now < 2 ^ 58) values.now }
+{
+    let mut longest = 0;
+    let mut all = 0;
+    for value in values {
+        if value.len() >= 1 << 58 {
+            return false;
+        }
+        longest = longest.max(value.len() + 128);
+        all += value.len() + 128;
+    }
+    5 * longest <= 2 * all
+}
+
+/// The tagged hashes of four values.
 fn side_by_side(tag: &[u8], a: &[u8], b: &[u8], c: &[u8], d: &[u8]) -> [[u8; 32]; 4]
     requires short_tag { length tag.now ≤ 60 }
-    requires short { length a.now < 2 ^ 58 }
-    requires as_long_b { length b.now ≡ length a.now }
-    requires as_long_c { length c.now ≡ length a.now }
-    requires as_long_d { length d.now ≡ length a.now }
+    requires short_a { length a.now < 2 ^ 58 }
+    requires short_b { length b.now < 2 ^ 58 }
+    requires short_c { length c.now < 2 ^ 58 }
+    requires short_d { length d.now < 2 ^ 58 }
     ensures { result ≡ tagged tag.now a.now ∷ tagged tag.now b.now
         ∷ tagged tag.now c.now ∷ tagged tag.now d.now ∷ [] }
 {
@@ -76,8 +96,8 @@ fn append(text: &mut [u8; 64], len: usize, piece: &[u8]) -> usize
 
 /// The tagged hashes of values of any lengths, in their order: `Err` only where memory is refused.
 ///
-/// Each three or four values of one length that follow one another are hashed by `tagged_four`, what is left over by
-/// `tagged`.
+/// The next four values go side by side by the rule of `tagged_four`, and so do the last three, beside an empty one; else
+/// the next one is hashed alone.
 pub fn tagged_all(alloc: Global, tag: &[u8], values: &[&[u8]]) -> Result<Vec<[u8; 32]>, AllocError>
     ensures { IfOk result (λ digests.
         digests.items ≡ map (λ value. tagged tag.now value.now) values.now) }
@@ -90,7 +110,7 @@ pub fn tagged_all(alloc: Global, tag: &[u8], values: &[&[u8]]) -> Result<Vec<[u8
     Ok(digests)
 }
 
-/// Appends the tagged hashes of the next values, of a run or else of one, and gives of how many.
+/// Appends the tagged hashes of the next four values, or of the last three, or else of one, and gives of how many.
 fn push_next(digests: &mut Vec<[u8; 32]>, tag: &[u8], values: &[&[u8]]) -> Result<usize, AllocError>
     requires { 0 < length values.now }
     ensures some { IfOk result (λ n. 0 < n) }
@@ -98,26 +118,15 @@ fn push_next(digests: &mut Vec<[u8; 32]>, tag: &[u8], values: &[&[u8]]) -> Resul
     ensures pushed { IfOk result (λ n. digests.new.items
         ≡ digests.old.items ++ map (λ value. tagged tag.now value.now) (take n values.now)) }
 {
-    let count = run_length(values);
-    if count >= 3 {
-        let four = tagged_four(tag, &[values[0], values[1], values[2], values[count - 1]]);
-        digests.extend_from_slice(&four[..count])?;
+    let count = values.len().min(4);
+    let next = &values[..count];
+    if pays(next) {
+        let mut four: [&[u8]; 4] = [&[]; 4];
+        four[..count].copy_from_slice(next);
+        let hashes = tagged_four(tag, &four);
+        digests.extend_from_slice(&hashes[..count])?;
         return Ok(count);
     }
     digests.push(tagged(tag, values[0]))?;
     Ok(1)
-}
-
-/// How many of the first four values have the length of the first, up to one that hasn't.
-fn run_length(values: &[&[u8]]) -> usize
-    requires { 0 < length values.now }
-    ensures few { result ≤ 4 }
-    ensures within { result ≤ length values.now }
-{
-    let size = values[0].len();
-    values
-        .iter()
-        .take(4)
-        .take_while(|value| value.len() == size)
-        .count()
 }

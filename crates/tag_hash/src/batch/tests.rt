@@ -58,21 +58,43 @@ fn four_under_long_tags_are_those_of_another_program(rt: HostRuntime) -> Result<
     check_four(&rt, rt.alloc(), &tag, 20, &vectors::HASHES_UNDER_A_LONG_TAG)
 }
 
+/// The values of the table that has a hash for each.
+fn all_values(alloc: Global) -> Result<Vec<Vec<u8>>, AllocError> {
+    let mut values = Vec::new(alloc);
+    for (j, (size, _)) in vectors::HASHES_OF_ALL.iter().enumerate() {
+        values.push(value(alloc, j, *size)?)?;
+    }
+    Ok(values)
+}
+
+/// Compares hashes with those of the table from `at` on.
+fn check_all(rt: &impl Abort, alloc: Global, at: usize, digests: &[[u8; 32]]) -> Result<(), Fail> {
+    for (digest, (size, text)) in digests.iter().zip(vectors::HASHES_OF_ALL.iter().skip(at)) {
+        let bytes = hex::decode(alloc, *text)?;
+        assert_eq!(rt; digest.as_slice(), bytes.as_slice(), "{size} bytes");
+    }
+    Ok(())
+}
+
+#[test]
+fn four_of_any_lengths_are_those_of_another_program(rt: HostRuntime) -> Result<(), Fail> {
+    let values = all_values(rt.alloc())?;
+    for (at, four) in values.windows(4).enumerate() {
+        let digests = tagged_four(TAG, &[&four[0], &four[1], &four[2], &four[3]]);
+        check_all(&rt, rt.alloc(), at, &digests)?;
+    }
+    Ok(())
+}
+
 #[test]
 fn all_are_those_of_another_program(rt: HostRuntime) -> Result<(), Fail> {
-    let mut values = Vec::new(rt.alloc());
-    for (j, (size, _)) in vectors::HASHES_OF_ALL.iter().enumerate() {
-        values.push(value(rt.alloc(), j, *size)?)?;
-    }
+    let values = all_values(rt.alloc())?;
     let mut slices = Vec::new(rt.alloc());
     for bytes in &values {
         slices.push(bytes.as_slice())?;
-    }
-    let digests = tagged_all(rt.alloc(), TAG, &slices)?;
-    assert_eq!(rt; digests.len(), vectors::HASHES_OF_ALL.len());
-    for (digest, (size, text)) in digests.iter().zip(&vectors::HASHES_OF_ALL) {
-        let bytes = hex::decode(rt.alloc(), *text)?;
-        assert_eq!(rt; digest.as_slice(), bytes.as_slice(), "{size} bytes");
+        let digests = tagged_all(rt.alloc(), TAG, &slices)?;
+        assert_eq!(rt; digests.len(), slices.len());
+        check_all(&rt, rt.alloc(), 0, &digests)?;
     }
     assert_eq!(rt; tagged_all(rt.alloc(), TAG, &[])?.len(), 0);
     Ok(())

@@ -1,8 +1,13 @@
-use Rattle.std.proofs.Common.{◌≡◌, ℕ, ◌+◌, ◌-◌, ◌*◌, ◌/◌, [], ◌∷◌, ◌++◌, length, slice_index, sym, ap, ◌∙◌, arith, length-append, inl, inr}
+use Rattle.std.proofs.Common.{◌≡◌, ℕ, ◌+◌, ◌-◌, ◌*◌, ◌/◌, List, [], ◌∷◌, ◌++◌, length, slice_index, sym, ap, ◌∙◌, arith, inl, inr}
 use Rattle.std.proofs.lemmas.Bool.{cases_lt}
 use Rattle.std.proofs.lemmas.Simd.{get_or-replicate}
-use Rattle.tag_hash.proofs.PaddedMessage.{block_from_bytes, prefix_at, value_at, one_at, zero_at, length_field_at}
+use Rattle.tag_hash.proofs.PaddedMessage.{block_of_value, bytes_of_block, prefix_at, value_at, one_at, zero_at, length_field_at, past_end}
 use Rattle.tag_hash.proofs.four.block_of.Goals as goal
+
+pub returns-then-at-len : goal.returns-then-at-len
+returns-then-at-len c = λ k.
+    ap (λ (l : List ℕ). slice_index l k)
+    (c.copy_from_slice.ensures.after ∙ block_of_value c.args.prefix.now c.args.value.now c.args.n c.if-prefix-at.true c.if-at-len.true)
 
 pub returns : goal.returns
 returns c =
@@ -15,7 +20,7 @@ returns c =
     let second = c.lay-2.ensures in
     let third = c.lay-3.ensures in
     let last = c.lay-4.ensures in
-    block_from_bytes c.lay-4.new.block (p ++ v) c.args.n last.long (omega (arith, c.requires.within, length-append p v))
+    bytes_of_block c.lay-4.new.block (p ++ v) c.args.n last.long
     (λ k lt.
     let i : ℕ = 64 * c.args.n + k in
     elim (cases_lt i (length p)) [
@@ -32,10 +37,15 @@ returns c =
             | inl zero ↦
                 last.before k (omega arith) ∙ third.after k (omega arith) ∙ second.after k (omega arith) ∙ first.after k (omega arith)
                 ∙ get_or-replicate 64 k 0 0 lt ∙ sym (zero_at p v i after zero)
-            | inr field ↦
-                let at : i - (end - 8) ≡ i + 8 - end = omega arith in
-                last.inside k lt (omega arith) (omega (arith, eight)) ∙ ap (λ (x : ℕ). slice_index bits x) at
-                ∙ length_field_at p v bits i c.requires.short c.to_be_bytes-bits.ensures (omega arith) field
+            | inr field ↦ elim (cases_lt i end) [
+              | inl inside ↦
+                  let at : i - (64 * c.block_count-end.result - 8) ≡ i + 8 - end = omega arith in
+                  last.inside k lt (omega arith) (omega (arith, eight)) ∙ ap (λ (x : ℕ). slice_index bits x) at
+                  ∙ length_field_at p v bits i c.requires.short c.to_be_bytes-bits.ensures inside field
+              | inr past ↦
+                  last.after k (omega (arith, eight)) ∙ third.after k (omega arith) ∙ second.after k (omega arith) ∙ first.after k (omega arith)
+                  ∙ get_or-replicate 64 k 0 0 lt ∙ sym (past_end p v i past)
+            ]
           ]
           | inr not_after ↦
               let e : i ≡ length p + length v = omega arith in

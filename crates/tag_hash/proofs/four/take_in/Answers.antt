@@ -1,4 +1,4 @@
-use Rattle.std.proofs.Common.{◌≡◌, ℕ, ◌+◌, ◌-◌, ◌*◌, List, ◌++◌, length, take, drop, ap, ◌∙◌, arith}
+use Rattle.std.proofs.Common.{◌≡◌, ℕ, ◌+◌, ◌-◌, ◌*◌, List, ◌++◌, ◌≤◌, length, take, drop, slice_index, ap, ◌∙◌, arith}
 use Rattle.sha2.specs.Sha256.{padded_message}
 use Rattle.tag_hash.proofs.LaneLemmas.{together_blocks}
 use Rattle.tag_hash.proofs.PaddedMessage.{block_of_value}
@@ -8,13 +8,13 @@ pub returns-then-at-prefix : goal.returns-then-at-prefix
 returns-then-at-prefix c = λ h held.
     let p = c.args.prefix.now in
     let n = c.args.n in
-    let from : ℕ = 64 * n - length p in
-    let width : from + 64 - from ≡ 64 = omega arith in
-    let block : (v : List ℕ) → length v ≡ length c.args.a.now → take (from + 64 - from) (drop from v) ≡ take 64 (drop (n * 64) (padded_message (p ++ v))) = λ v long.
-    ap (λ (k : ℕ). take k (drop from v)) width ∙ block_of_value p v n c.if-prefix-at.true (omega (arith, c.if-at-prefix.true)) in
+    let block : (v : List ℕ) → 64 * n + 64 ≤ length p + length v → (k : ℕ)
+    → slice_index (take (64 * n - length p + 64 - (64 * n - length p)) (drop (64 * n - length p) v)) k
+    ≡ slice_index (take 64 (drop (n * 64) (padded_message (p ++ v)))) k = λ v fits k.
+    ap (λ (l : List ℕ). slice_index l k) (block_of_value p v n c.if-prefix-at.true fits) in
     c.compress_four.ensures h held
     ∙ together_blocks h (λ v. take 64 (drop (n * 64) (padded_message (p ++ v)))) c.args.a.now c.args.b.now c.args.c.now c.args.d.now _ _ _ _
-    (block c.args.a.now (omega arith)) (block c.args.b.now c.requires.as_long_b) (block c.args.c.now c.requires.as_long_c) (block c.args.d.now c.requires.as_long_d)
+    (block c.args.a.now (omega arith)) (block c.args.b.now (omega arith)) (block c.args.c.now (omega arith)) (block c.args.d.now (omega arith))
 
 pub returns-else-prefix-at : goal.returns-else-prefix-at
 returns-else-prefix-at c = λ h held.

@@ -94,8 +94,9 @@ pub static HASHES_BY_LENGTH: [(usize, [&str; 4]); 10] = [
     ),
 ];
 
-/// Under the same tag: how many bytes value `j` has, and its hash.
-pub static HASHES_OF_ALL: [(usize, &str); 16] = [
+/// Under the same tag: how many bytes value `j` has, and its hash. Next to one another are lengths whose messages end in
+/// one block and in the next, under a tag whose netstring has 20 bytes, and lengths that are far from one another.
+pub static HASHES_OF_ALL: [(usize, &str); 44] = [
     (
         64,
         "33c1707b549e1d94d8504f24a6a287df932a57015ae07c9a352baa2db0cab4ab",
@@ -159,6 +160,118 @@ pub static HASHES_OF_ALL: [(usize, &str); 16] = [
     (
         119,
         "5f18ac06677740e3a3d37a16c166880b62bc5a273efb7b0c9c7b3326286780d5",
+    ),
+    (
+        35,
+        "b630f8ea37e5e7a82aa4ae35c33d817c9fccd6f4c0b1729e496b60b7a05e1eec",
+    ),
+    (
+        36,
+        "53716d449ed4e7a825e60ab55041fa117054adc4e48222f3070dbf15d6461aa0",
+    ),
+    (
+        35,
+        "7f5b9f78c8ae7087ca83fd40cfb7df9fde27e591f6c0f4bebb6839eff2aee444",
+    ),
+    (
+        36,
+        "dd92f52d5be35bea5e8df9680746e976d535f71172690b025928c2743a007ad6",
+    ),
+    (
+        44,
+        "cdecb32cb794e820c2c6dbe219ffa07de0df7df20bf6dfb0eb9c238b7f8797e1",
+    ),
+    (
+        45,
+        "a7782ba8bf35b9754b172f69f7e2269964b76b60b140f42ff395a5733344c3f2",
+    ),
+    (
+        55,
+        "fd3d5ec45459aae6416ff7c44138d5b7d3dc2d4ee8459656c761249394249b0e",
+    ),
+    (
+        56,
+        "c947715414a4b2b18f31ed0f55251e38fb91d95b0d6109ff9d8d938db721d526",
+    ),
+    (
+        63,
+        "73082a79b8c0ea4328a0d06adc78823930b231247668049912a4a743780f27ad",
+    ),
+    (
+        64,
+        "26fa38707885179bb04f06a55b158643e6a2eb33166e730eeb0dbdce8a915f05",
+    ),
+    (
+        99,
+        "2c39214cf9efb6f6e5faf6ae50da636ab93a6e404270310289b74c1401718485",
+    ),
+    (
+        100,
+        "cd4e1ca1e77528722ef95441954b53e8bbd7c9fc714409ff0506f34c707320c0",
+    ),
+    (
+        109,
+        "5a77f2950683f0220928a320e08d3eef2432709379d73731bd985b677e240c29",
+    ),
+    (
+        119,
+        "4f3138229531220dcb5ab83b528253e8b94b7d112e35a2414c4d3f04bafcdf2c",
+    ),
+    (
+        120,
+        "8ad9e68fc06896f140afd164bb599ef07462439363fe63db98c67ecc6c80b8bd",
+    ),
+    (
+        110,
+        "e5491741cfcbae9eac182e661f69d032941a9d97b5502c28c571cf0e75da9b5a",
+    ),
+    (
+        1000,
+        "86fc0b36c63978fb8567debbf77e18f325053dc82a57dc5fd9c591376d10156e",
+    ),
+    (
+        1000,
+        "99c1abbe49c5f03a5a61c080df66a5e50cc5141477803e4bdb6aac12133a7b94",
+    ),
+    (
+        1001,
+        "686f84dc4307240ab0b4acd984b8c816561c372183d907993b8a85dc800950b4",
+    ),
+    (
+        990,
+        "7ebaa9b7309719d0fd23e8abbf9dfa9b244eabfeee23701e33c6ff204b90a14e",
+    ),
+    (
+        500,
+        "83ae9dc13a882229a19202de488350d0fe76f9c621f384fff73f822a8973cb08",
+    ),
+    (
+        0,
+        "5314f5e62ee1b5fac52d44f6bcdfaefb7bada0ef02e36036c060b1c8b5847328",
+    ),
+    (
+        8183,
+        "2cea33252158feb1076beda25ca6f8603aea7db85b832aa85b9a507ffa0c84bd",
+    ),
+    (
+        8192,
+        "6a3c985d5c4b196c3e49057ee417e2846eea1d3052a536a51f29c6ab9eb63612",
+    ),
+    (
+        8192,
+        "7b43b921e33ecb6942f58b20ddbb4c10271222606881f97c337f35f064a076d7",
+    ),
+    (
+        8182,
+        "eaa467bc08385ec6448abba7a73072139823e5455a6a2c77f537d9cbda05a610",
+    ),
+    (
+        100,
+        "090ceb983335c5f08cba7b222b1e942a6fee72659207c7a1b9030d90d950018e",
+    ),
+    (
+        8192,
+        "dad78104ce69ac1309a44000165d78fde2b4092d988b6eb455098c26665a8897",
     ),
 ];
 
