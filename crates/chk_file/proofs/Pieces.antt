@@ -1,7 +1,7 @@
 -- Lists that are joined piece by piece.
-use Rattle.std.proofs.Common.{◌≡◌, ℕ, ◌+◌, ◌<◌, List, [], ◌∷◌, ◌++◌, length, take, map, get_or, Bool, true, false, refl, sym, ap, ◌∙◌, arith}
+use Rattle.std.proofs.Common.{◌≡◌, ℕ, ◌+◌, ◌<◌, List, [], ◌∷◌, ◌++◌, length, map, get_or, Bool, true, false, refl, ap, ◌∙◌, arith}
 use Rattle.std.specs.List.{concat, list_all, range_with_len}
-use Rattle.std.proofs.lemmas.List.{append-nil, map_more}
+use Rattle.std.proofs.lemmas.List.{append-nil}
 use Rattle.std.proofs.lemmas.List.FromFn.{length-range_with_len, get_or-range_with_len, map-range_with_len_more}
 use Rattle.std.proofs.lemmas.List.Folds.{concat-append, list_all-append, list_all_at}
 use Rattle.std.proofs.lemmas.Bool.{and_from}
@@ -9,9 +9,6 @@ use Rattle.chk_file.proofs.Tools.{range_next}
 
 concat_push : (xs : List (List ℕ)) (x : List ℕ) → concat (xs ++ x ∷ []) ≡ concat xs ++ x
 concat_push xs x = concat-append xs (x ∷ []) ∙ ap (λ ys. concat xs ++ ys) (append-nil x)
-
-pub joined_more : {X : Type 0} (f : X → List ℕ) (xs : List X) (i : ℕ) (d : X) → i < length xs → concat (map f (take i xs)) ++ f (get_or xs i d) ≡ concat (map f (take (i + 1) xs))
-joined_more f xs i d below = sym (ap concat (map_more f xs i d below) ∙ concat_push (map f (take i xs)) (f (get_or xs i d)))
 
 pub concat_next : (f : ℕ → List ℕ) (n : ℕ) → concat (map f (range_with_len 0 (n + 1))) ≡ concat (map f (range_with_len 0 n)) ++ f n
 concat_next f n = ap concat (map-range_with_len_more f 0 n n (omega arith)) ∙ concat_push (map f (range_with_len 0 n)) (f n)

@@ -1,6 +1,6 @@
 //! Segments that are decoded.
-ghost use Rattle.std.specs.Prelude.{◌≡◌, ◌<◌, ◌++◌, ◌==◌, length, map, All, IfOk, OnOk};
-ghost use Rattle.std.specs.List.{concat, list_all};
+ghost use Rattle.std.specs.Prelude.{◌≡◌, ◌<◌, ◌++◌, ◌==◌, length, All, IfOk, OnOk};
+ghost use Rattle.std.specs.List.{list_all};
 ghost use Rattle.erasure.specs.Given.{numbered_of};
 ghost use Rattle.share_codec.specs.Segments.{segment_count};
 ghost use Rattle.chk_file.specs.Taken.{AreTaken};
@@ -35,7 +35,7 @@ pub(crate) fn add_segment(
     Ok(zeros)
 }
 
-/// Appends what k good shares give at a segment, with its padding.
+/// Appends what k good shares give at a segment, with its padding, decoded where it stays.
 fn push_decoded(
     alloc: Global,
     params: &Params,
@@ -51,8 +51,8 @@ fn push_decoded(
         ≡ bytes.old.items ++ decoded_at params.now shares.now at) }
 {
     let blocks = numbered(alloc, shares, at)?;
-    match code.decode(alloc, &blocks) {
-        Ok(primary) => push_blocks(bytes, &primary),
+    match code.decode_into(alloc, &blocks, bytes) {
+        Ok(()) => Ok(()),
         Err(CodeFault::NoMemory) => Err(AllocError),
         Err(CodeFault::BadParameters) => unreachable!(),
         Err(CodeFault::TooFew) => unreachable!(),
@@ -75,17 +75,6 @@ fn numbered<'a>(
         blocks.push((share.number(), share.block(at)))?;
     }
     Ok(blocks)
-}
-
-/// Appends blocks in a row.
-fn push_blocks(bytes: &mut Vec<u8>, blocks: &[Vec<u8>]) -> Result<(), AllocError>
-    ensures { OnOk result (bytes.new.items
-        ≡ bytes.old.items ++ concat (map (λ block. block.items) blocks.now)) }
-{
-    for block in blocks {
-        bytes.extend_from_slice(block)?;
-    }
-    Ok(())
 }
 
 /// Whether there is no other byte than zeros.

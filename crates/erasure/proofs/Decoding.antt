@@ -1,6 +1,8 @@
 -- The steps of encoding and decoding: lists that grow by one, and what the results are.
-use Rattle.std.proofs.Common.{◌≡◌, ℕ, zero, suc, ◌+◌, ◌<◌, ◌≤◌, List, [], ◌∷◌, ◌++◌, length, get_or, take, slice_index, slice_index_or, All, Bor, Result, Ok, Err, IfOk, OnOk, refl, sym, ap, ◌∙◌, subst, arith}
-use Rattle.std.proofs.lemmas.List.{take_more, map-append, length-map}
+use Rattle.std.proofs.Common.{◌≡◌, ℕ, zero, suc, ◌+◌, ◌<◌, ◌≤◌, List, [], ◌∷◌, ◌++◌, length, get_or, take, slice_index, slice_index_or, All, Bor, Result, Ok, Err, IfOk, refl, sym, ap, ◌∙◌, subst, arith}
+use Rattle.std.specs.List.{concat}
+use Rattle.std.proofs.lemmas.List.{take_more, map-append, length-map, append-nil}
+use Rattle.std.proofs.lemmas.List.Folds.{concat-append}
 use Rattle.std.proofs.lemmas.List.FromFn.{map-range_with_len_more}
 use Rattle.erasure.specs.Code.{place_of, AreBytes, IsBlock}
 use Rattle.erasure.specs.Blocks.{size_of, block_through, first_places, block_of, primary_from}
@@ -43,6 +45,15 @@ first_blocks_more places blocks j made b h e =
     ap (λ (xs : List (List ℕ)). xs ++ b ∷ []) h
     ∙ ap (λ (c : List ℕ). first_blocks places blocks j ++ c ∷ []) e
     ∙ sym (map-range_with_len_more (λ j. block_through places blocks (place_of j)) 0 j j (omega arith))
+
+pub joined_more : (places : List ℕ) (blocks : List (List ℕ)) (j : ℕ)
+    → concat (first_blocks places blocks j) ++ block_through places blocks (place_of j) ≡ concat (first_blocks places blocks (j + 1))
+joined_more places blocks j =
+    let block : List ℕ = block_through places blocks (place_of j) in
+    sym
+    (ap concat (map-range_with_len_more (λ j. block_through places blocks (place_of j)) 0 j j (omega arith))
+    ∙ concat-append (first_blocks places blocks j) (block ∷ [])
+    ∙ ap (λ (ys : List ℕ). concat (first_blocks places blocks j) ++ ys) (append-nil block))
 
 -- ---- a block that is at hand
 pub block_at_hand : (given : List (ℕ × List ℕ)) (at number : ℕ) → AreNumbers (numbers_of given) → HaveOneLength (blocks_of given)
@@ -88,14 +99,6 @@ given_are_blocks given numbers same bytes a d lt =
     (sym at ∙ bytes_of given a d lt)
     (subst (λ (k : ℕ). IsBlock (primary_from k given) (size_of (blocks_of given)) (get_or given a d).0 (block_through (places_of given) (blocks_of given) (place_of (get_or given a d).0)))
     (length-places_of given) is)
-
-pub on_ok : {T E : Type 0} (r : Result T E) (P : Type 0) → P → OnOk r P
-on_ok (Ok v) P h = h
-on_ok (Err e) P h = tt
-
-pub if_ok_both : {T E : Type 0} (r : Result T E) (P R : T → Type 0) (Q : Type 0) → ((v : T) → P v → Q → R v) → IfOk r P → OnOk r Q → IfOk r R
-if_ok_both (Ok v) P R Q f h q = f v h q
-if_ok_both (Err e) P R Q f h q = h
 
 -- ---- what decoding the first k blocks gives, from decoding as many
 pub length-numbered_of : (given : List (ℕ × Bor (List ℕ))) → length (numbered_of given) ≡ length given

@@ -1,15 +1,17 @@
 //! The code: encoding a block, and decoding.
-ghost use Rattle.std.specs.Prelude.{◌≡◌, ◌≢◌, ◌↔◌, ◌<◌, ◌≤◌, length, map, take, slice_index, All, IfSome, IfOk, OnOk, IfErr, IsOk, IsErrOf, IsOkUnless};
+ghost use Rattle.std.specs.Prelude.{◌≡◌, ◌≢◌, ◌↔◌, ◌<◌, ◌≤◌, ◌++◌, length, map, take, drop, All, IfOk, OnOk, IfErr, OnErr, IsOk, IsErrOf, IsOkUnless};
+ghost use Rattle.std.specs.List.{concat};
 ghost use Rattle.octets.specs.Sharing.{IsSharing};
-ghost use Rattle.erasure.specs.Code.{place_of, AreBytes, AreBlocks, IsBlock};
-ghost use Rattle.erasure.specs.Blocks.{size_of, block_through, block_of, primary_from, AreInverses};
+ghost use Rattle.erasure.specs.Code.{AreBytes, AreBlocks, IsBlock};
+ghost use Rattle.erasure.specs.Blocks.{size_of, block_of, primary_from};
 ghost use Rattle.erasure.specs.Given.{contents_of, numbered_of, numbers_of, blocks_of, AreDistinct, AreNumbers, Repeats, HaveOneLength, HasAnotherLength};
 
 use crate::fault::CodeFault;
 use crate::given::{has_another_length, repeats};
-use crate::interpolation::{block_at, inverses_at, place, places_of_first};
+use crate::interpolation::{inverses_at, place, places_of_first, push_block_at, push_copy};
+use crate::known::Known;
 use octets::is_sharing;
-use std::alloc::Global;
+use std::alloc::{AllocError, Global};
 use std::marker::Model;
 
 /// A code of n blocks, of which any k give the k primary ones.
@@ -72,11 +74,34 @@ impl Code {
             → IfOk result (λ b. IsBlock blocks (size_of blocks) i b.items) }
         ensures only_memory { IsOkUnless result CodeFault.NoMemory }
     {
+        let mut block = Vec::new(alloc);
+        self.encode_block_into(primary, i, &mut block)?;
+        Ok(block)
+    }
+
+    /// Appends block `i` of the code of the k primary blocks, which are of one length. Where memory is refused, nothing is
+    /// appended.
+    pub fn encode_block_into(
+        &self,
+        primary: &[&[u8]],
+        i: u16,
+        bytes: &mut Vec<u8>,
+    ) -> Result<(), AllocError>
+        requires count { length primary.now ≡ self.now.k }
+        requires one_length { HaveOneLength (contents_of primary.now) }
+        requires number { i < self.now.n }
+        ensures block { OnOk result (bytes.new.items
+            ≡ bytes.old.items ++ block_of (contents_of primary.now) i) }
+        ensures code { let blocks = contents_of primary.now in
+            AreBlocks (size_of blocks) blocks → OnOk result
+            (IsBlock blocks (size_of blocks) i (drop (length bytes.old.items) bytes.new.items)) }
+        ensures refused { OnErr result (bytes.new.items ≡ bytes.old.items) }
+    {
         if i < self.k {
-            return copied(alloc, primary[i as usize]);
+            return push_copy(primary[i as usize], bytes);
         }
         let places = &self.places[..self.k as usize];
-        block_at(alloc, places, &self.inverses, primary, place(i))
+        push_block_at(places, &self.inverses, primary, place(i), bytes)
     }
 
     /// The k primary blocks, from the first k of the numbered blocks, which alone are looked at.
@@ -106,106 +131,76 @@ impl Code {
             OnOk result ((self.now.k ≤ length blocks.now) × AreDistinct (numbers_of given)
             × HaveOneLength (blocks_of given)) }
     {
+        let given = self.decodable(blocks)?;
+        Known::new(alloc, given)?.primary(alloc)
+    }
+
+    /// Appends the k primary blocks in a row, from the first k of the numbered blocks, which alone are looked at. Those of
+    /// them that are given are copied once, and the others are made where they stay.
+    ///
+    /// Refused as by `decode`. On each fault nothing is appended. The vector grows block by block: it is best made with room
+    /// for all of them.
+    pub fn decode_into(
+        &self,
+        alloc: Global,
+        blocks: &[(u16, &[u8])],
+        bytes: &mut Vec<u8>,
+    ) -> Result<(), CodeFault>
+        requires { All (λ b. b.0 < self.now.n) (take self.now.k blocks.now) }
+
+        ensures primary { let given = numbered_of (take self.now.k blocks.now) in
+            OnOk result (bytes.new.items ≡ bytes.old.items ++ concat (primary_from self.now.k given)) }
+        ensures refused { OnErr result (bytes.new.items ≡ bytes.old.items) }
+
+        ensures too_few { IsErrOf result CodeFault.TooFew ↔ (length blocks.now < self.now.k) }
+        ensures repeated { let given = numbered_of (take self.now.k blocks.now) in
+            IsErrOf result CodeFault.Repeated
+            ↔ ((self.now.k ≤ length blocks.now) × Repeats (numbers_of given)) }
+        ensures unequal { let given = numbered_of (take self.now.k blocks.now) in
+            IsErrOf result CodeFault.UnequalLength
+            ↔ ((self.now.k ≤ length blocks.now) × AreDistinct (numbers_of given)
+            × HasAnotherLength (blocks_of given)) }
+        ensures no_other { IfErr result (λ e. e ≢ CodeFault.BadParameters) }
+        ensures taken { let given = numbered_of (take self.now.k blocks.now) in
+            OnOk result ((self.now.k ≤ length blocks.now) × AreDistinct (numbers_of given)
+            × HaveOneLength (blocks_of given)) }
+    {
+        let given = self.decodable(blocks)?;
+        Known::new(alloc, given)?.push_primary(bytes)
+    }
+
+    /// The first k blocks, if the primary ones can be made of them.
+    fn decodable<'a>(
+        &self,
+        blocks: &'a [(u16, &'a [u8])],
+    ) -> Result<&'a [(u16, &'a [u8])], CodeFault>
+        requires { All (λ b. b.0 < self.now.n) (take self.now.k blocks.now) }
+        ensures given { IfOk result (λ given. given.now ≡ take self.now.k blocks.now) }
+        ensures too_few { IsErrOf result CodeFault.TooFew ↔ (length blocks.now < self.now.k) }
+        ensures repeated { let given = numbered_of (take self.now.k blocks.now) in
+            IsErrOf result CodeFault.Repeated
+            ↔ ((self.now.k ≤ length blocks.now) × Repeats (numbers_of given)) }
+        ensures unequal { let given = numbered_of (take self.now.k blocks.now) in
+            IsErrOf result CodeFault.UnequalLength
+            ↔ ((self.now.k ≤ length blocks.now) × AreDistinct (numbers_of given)
+            × HasAnotherLength (blocks_of given)) }
+        ensures no_other { IfErr result (λ e. (e ≢ CodeFault.BadParameters)
+            × (e ≢ CodeFault.NoMemory)) }
+        ensures taken { let given = numbered_of (take self.now.k blocks.now) in
+            OnOk result ((0 < self.now.k) × (self.now.k ≤ 256) × (self.now.k ≤ length blocks.now)
+            × AreNumbers (numbers_of given) × HaveOneLength (blocks_of given)) }
+    {
         let k = self.k as usize;
         if blocks.len() < k {
             return Err(CodeFault::TooFew);
         }
-        decode_all(alloc, &blocks[..k])
-    }
-}
-
-/// The primary blocks, from as many blocks of the code.
-fn decode_all(alloc: Global, given: &[(u16, &[u8])]) -> Result<Vec<Vec<u8>>, CodeFault>
-    requires some { (0 < length given.now) × (length given.now ≤ 256) }
-    requires small { All (λ g. g.0 < 256) given.now }
-    ensures primary { IfOk result (λ v. map (λ b. b.items) v.items
-        ≡ primary_from (length given.now) (numbered_of given.now)) }
-    ensures too_few { IfErr result (λ e. (e ≢ CodeFault.TooFew) × (e ≢ CodeFault.BadParameters)) }
-    ensures repeated { IsErrOf result CodeFault.Repeated
-        ↔ Repeats (numbers_of (numbered_of given.now)) }
-    ensures unequal { IsErrOf result CodeFault.UnequalLength
-        ↔ (AreDistinct (numbers_of (numbered_of given.now))
-        × HasAnotherLength (blocks_of (numbered_of given.now))) }
-    ensures taken { OnOk result (AreNumbers (numbers_of (numbered_of given.now))
-        × HaveOneLength (blocks_of (numbered_of given.now))) }
-{
-    if repeats(given) {
-        return Err(CodeFault::Repeated);
-    }
-    if has_another_length(given) {
-        return Err(CodeFault::UnequalLength);
-    }
-    restore(alloc, given)
-}
-
-/// The primary blocks, from as many blocks of the code, of one length and with different numbers.
-fn restore(alloc: Global, given: &[(u16, &[u8])]) -> Result<Vec<Vec<u8>>, CodeFault>
-    requires some { (0 < length given.now) × (length given.now ≤ 256) }
-    requires numbers { AreNumbers (numbers_of (numbered_of given.now)) }
-    requires one_length { HaveOneLength (blocks_of (numbered_of given.now)) }
-    ensures primary { IfOk result (λ v. map (λ b. b.items) v.items
-        ≡ primary_from (length given.now) (numbered_of given.now)) }
-    ensures only_memory { IsOkUnless result CodeFault.NoMemory }
-{
-    let mut places = Vec::with_capacity(alloc, given.len())?;
-    let mut sources = Vec::with_capacity(alloc, given.len())?;
-    for (number, block) in given {
-        places.push(place(*number))?;
-        sources.push(*block)?;
-    }
-    let inverses = inverses_at(&places);
-    let mut primary = Vec::with_capacity(alloc, given.len())?;
-    for j in 0..given.len() {
-        primary.push(primary_block(alloc, given, &places, &inverses, &sources, j as u16)?)?;
-    }
-    Ok(primary)
-}
-
-/// Primary block `j`: as it was given, or else from the blocks at their points.
-fn primary_block(
-    alloc: Global,
-    given: &[(u16, &[u8])],
-    places: &[u8],
-    inverses: &[u8; 256],
-    blocks: &[&[u8]],
-    j: u16,
-) -> Result<Vec<u8>, CodeFault>
-    requires some { 0 < length given.now }
-    requires few { length given.now ≤ 256 }
-    requires number { j < 256 }
-    requires numbers { AreNumbers (numbers_of (numbered_of given.now)) }
-    requires one_length { HaveOneLength (blocks_of (numbered_of given.now)) }
-    requires places { places.now ≡ map (λ g. place_of g.0) (numbered_of given.now) }
-    requires inverses { AreInverses places.now inverses.now }
-    requires blocks { contents_of blocks.now ≡ blocks_of (numbered_of given.now) }
-    ensures block { IfOk result (λ b. b.items
-        ≡ block_through places.now (contents_of blocks.now) (place_of j)) }
-    ensures only_memory { IsOkUnless result CodeFault.NoMemory }
-{
-    match index_of(given, j) {
-        Some(at) => copied(alloc, blocks[at]),
-        None => block_at(alloc, places, inverses, blocks, place(j)),
-    }
-}
-
-/// Where the block of this number stands, if it is given.
-fn index_of(given: &[(u16, &[u8])], number: u16) -> Option<usize>
-    ensures { IfSome result (λ at. (at < length given.now)
-        × (slice_index (numbers_of (numbered_of given.now)) at ≡ number)) }
-{
-    for (at, (other, _)) in given.iter().enumerate() {
-        if *other == number {
-            return Some(at);
+        let given = &blocks[..k];
+        if repeats(given) {
+            return Err(CodeFault::Repeated);
         }
+        if has_another_length(given) {
+            return Err(CodeFault::UnequalLength);
+        }
+        Ok(given)
     }
-    None
-}
-
-/// A copy of a block.
-fn copied(alloc: Global, block: &[u8]) -> Result<Vec<u8>, CodeFault>
-    ensures block { IfOk result (λ b. b.items ≡ block.now) }
-    ensures only_memory { IsOkUnless result CodeFault.NoMemory }
-    ensures bytes { AreBytes block.now }
-{
-    Ok(Vec::from_slice(alloc, block)?)
 }

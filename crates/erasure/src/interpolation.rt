@@ -1,13 +1,12 @@
 //! The value of a polynomial at one evaluation point from its values at others, byte by byte over whole blocks.
-ghost use Rattle.std.specs.Prelude.{◌≡◌, ◌<◌, ◌≤◌, length, take, IfOk, IsOkUnless};
-ghost use Rattle.erasure.specs.Code.{place_of};
-ghost use Rattle.erasure.specs.Blocks.{distance_of, whole_distance_of, weight_of, block_through, first_places, AreInverses};
+ghost use Rattle.std.specs.Prelude.{◌≡◌, ◌<◌, ◌≤◌, ◌++◌, length, take, replicate, OnOk, OnErr};
+ghost use Rattle.erasure.specs.Code.{place_of, AreBytes};
+ghost use Rattle.erasure.specs.Blocks.{distance_of, whole_distance_of, weight_of, size_of, block_through, first_places, AreInverses};
 ghost use Rattle.erasure.specs.Given.{contents_of, HaveOneLength};
 
-use crate::fault::CodeFault;
 use crate::kernel::mul_add;
 use gf_field::{exp, inv, mul};
-use std::alloc::Global;
+use std::alloc::AllocError;
 
 /// The evaluation point of block `number`.
 pub(crate) fn place(number: u16) -> u8
@@ -92,27 +91,64 @@ fn weight(places: &[u8], inverses: &[u8; 256], j: usize, x: u8, whole: u8) -> u8
     mul(distance_from_whole(places, j, x, whole), inverses[j])
 }
 
-/// The block at `x`, from the blocks at these points.
-pub(crate) fn block_at(
-    alloc: Global,
+/// Appends the block at `x`, from the blocks at these points. Where memory is refused, nothing is appended.
+pub(crate) fn push_block_at(
     places: &[u8],
     inverses: &[u8; 256],
     blocks: &[&[u8]],
     x: u8,
-) -> Result<Vec<u8>, CodeFault>
+    bytes: &mut Vec<u8>,
+) -> Result<(), AllocError>
     requires some { 0 < length blocks.now }
     requires few { length places.now ≤ 256 }
     requires as_many { length places.now ≡ length blocks.now }
     requires inverses { AreInverses places.now inverses.now }
     requires one_length { HaveOneLength (contents_of blocks.now) }
-    ensures block { IfOk result (λ b. b.items
-        ≡ block_through places.now (contents_of blocks.now) x) }
-    ensures only_memory { IsOkUnless result CodeFault.NoMemory }
+    ensures block { OnOk result (bytes.new.items
+        ≡ bytes.old.items ++ block_through places.now (contents_of blocks.now) x) }
+    ensures refused { OnErr result (bytes.new.items ≡ bytes.old.items) }
 {
-    let mut sum = vec![in alloc; 0u8; blocks[0].len()]?;
+    let start = bytes.len();
+    push_zeros(blocks[0], bytes)?;
+    add_blocks(
+        places,
+        inverses,
+        blocks,
+        x,
+        &mut bytes.as_mut_slice()[start..],
+    );
+    Ok(())
+}
+
+/// Appends as many zeros as a block has bytes. Where memory is refused, nothing is appended.
+fn push_zeros(block: &[u8], bytes: &mut Vec<u8>) -> Result<(), AllocError>
+    ensures zeros { OnOk result (bytes.new.items
+        ≡ bytes.old.items ++ replicate (length block.now) 0) }
+    ensures refused { OnErr result (bytes.new.items ≡ bytes.old.items) }
+{
+    bytes.resize(bytes.len() + block.len(), 0)
+}
+
+/// Appends a copy of a block. Where memory is refused, nothing is appended.
+pub(crate) fn push_copy(block: &[u8], bytes: &mut Vec<u8>) -> Result<(), AllocError>
+    ensures block { OnOk result (bytes.new.items ≡ bytes.old.items ++ block.now) }
+    ensures refused { OnErr result (bytes.new.items ≡ bytes.old.items) }
+    ensures small { AreBytes block.now }
+{
+    bytes.extend_from_slice(block)
+}
+
+/// Adds to zeros the weighted blocks, which gives the block at `x`.
+fn add_blocks(places: &[u8], inverses: &[u8; 256], blocks: &[&[u8]], x: u8, sum: &mut [u8])
+    requires few { length places.now ≤ 256 }
+    requires as_many { length places.now ≡ length blocks.now }
+    requires inverses { AreInverses places.now inverses.now }
+    requires one_length { HaveOneLength (contents_of blocks.now) }
+    requires zeros { sum.old ≡ replicate (size_of (contents_of blocks.now)) 0 }
+    ensures { sum.new ≡ block_through places.now (contents_of blocks.now) x }
+{
     let whole = whole_distance(places, x);
     for (j, block) in blocks.iter().enumerate() {
-        mul_add(&mut sum, block, weight(places, inverses, j, x, whole));
+        mul_add(sum, block, weight(places, inverses, j, x, whole));
     }
-    Ok(sum)
 }

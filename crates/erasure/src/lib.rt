@@ -8,6 +8,8 @@
 mod code;
 /// What can be wrong with the blocks that are given to be decoded.
 mod given;
+/// Blocks that are known, and the primary blocks that are made of them.
+mod known;
 /// The value of a polynomial at one point from its values at others, over whole blocks.
 mod interpolation;
 /// The loops over the bytes of blocks.

@@ -33,7 +33,7 @@ fn can_decode(code: &Code, n: u16, blocks: &[(u16, &[u8])]) -> bool
     true
 }
 
-/// All n blocks.
+/// All n blocks, in both forms of the call.
 fn encode_all(
     rt: &impl Abort,
     alloc: Global,
@@ -44,23 +44,37 @@ fn encode_all(
     assert_eq!(rt; primary.len(), k as usize);
     assert!(rt; have_one_length(primary));
     let mut blocks = Vec::new(alloc);
+    let mut row = Vec::new(alloc);
     for i in 0..n {
-        blocks.push(code.encode_block(alloc, primary, i)?)?;
+        let block = code.encode_block(alloc, primary, i)?;
+        code.encode_block_into(primary, i, &mut row)?;
+        assert!(rt; row.ends_with(&block));
+        blocks.push(block)?;
     }
     Ok(blocks)
 }
 
+/// The primary blocks, in both forms of the call.
 fn decode(
+    rt: &impl Abort,
     alloc: Global,
     (k, n): (u16, u16),
     blocks: &[(u16, &[u8])],
 ) -> Result<Vec<Vec<u8>>, CodeFault> {
     let code = Code::new(k, n)?;
-    if can_decode(&code, n, blocks) {
-        code.decode(alloc, blocks)
-    } else {
-        Err(CodeFault::BadParameters)
+    assert!(rt; can_decode(&code, n, blocks));
+    let mut row = Vec::from_slice(alloc, &[7])?;
+    let into = code.decode_into(alloc, blocks, &mut row);
+    let primary = code.decode(alloc, blocks);
+    let mut whole = Vec::from_slice(alloc, &[7])?;
+    if let Ok(primary) = &primary {
+        for block in primary {
+            whole.extend_from_slice(block)?;
+        }
     }
+    assert!(rt; into.as_ref().err() == primary.as_ref().err());
+    assert_eq!(rt; row, whole);
+    primary
 }
 
 #[test]
@@ -79,7 +93,7 @@ fn two_of_four(rt: HostRuntime) -> Result<(), Fail> {
     assert_eq!(rt; blocks.len(), 4);
     assert_eq!(rt; blocks[2].as_slice(), [5].as_slice());
     assert_eq!(rt; blocks[3].as_slice(), [9].as_slice());
-    let primary = decode(rt.alloc(), (2, 4), &[(2, &[5]), (3, &[9])])?;
+    let primary = decode(&rt, rt.alloc(), (2, 4), &[(2, &[5]), (3, &[9])])?;
     assert_eq!(rt; primary.len(), 2);
     assert_eq!(rt; primary[0].as_slice(), [1].as_slice());
     assert_eq!(rt; primary[1].as_slice(), [3].as_slice());
@@ -90,19 +104,19 @@ fn two_of_four(rt: HostRuntime) -> Result<(), Fail> {
 fn faults_come_in_their_order(rt: HostRuntime) {
     assert!(rt;
         matches!(
-            &decode(rt.alloc(), (2, 4), &[(2, &[5])]),
+            &decode(&rt, rt.alloc(), (2, 4), &[(2, &[5])]),
             Err(CodeFault::TooFew)
         )
     );
     assert!(rt;
         matches!(
-            &decode(rt.alloc(), (2, 4), &[(2, &[5]), (2, &[5, 7])]),
+            &decode(&rt, rt.alloc(), (2, 4), &[(2, &[5]), (2, &[5, 7])]),
             Err(CodeFault::Repeated)
         )
     );
     assert!(rt;
         matches!(
-            &decode(rt.alloc(), (2, 4), &[(2, &[5]), (3, &[9, 7])]),
+            &decode(&rt, rt.alloc(), (2, 4), &[(2, &[5]), (3, &[9, 7])]),
             Err(CodeFault::UnequalLength)
         )
     );
@@ -110,7 +124,12 @@ fn faults_come_in_their_order(rt: HostRuntime) {
 
 #[test]
 fn blocks_past_the_kth_are_not_looked_at(rt: HostRuntime) -> Result<(), Fail> {
-    let primary = decode(rt.alloc(), (2, 4), &[(2, &[5]), (3, &[9]), (3, &[0, 0])])?;
+    let primary = decode(
+        &rt,
+        rt.alloc(),
+        (2, 4),
+        &[(2, &[5]), (3, &[9]), (3, &[0, 0])],
+    )?;
     assert_eq!(rt; primary.len(), 2);
     assert_eq!(rt; primary[0].as_slice(), [1].as_slice());
     Ok(())
@@ -152,7 +171,7 @@ fn check_vector(
             given.push((i, *piece))?;
         }
     }
-    let decoded = decode(alloc, (k, n), &given)?;
+    let decoded = decode(rt, alloc, (k, n), &given)?;
     for (block, piece) in decoded.iter().zip(primary) {
         assert_eq!(rt; block.as_slice(), *piece);
     }
@@ -186,7 +205,7 @@ fn check_choice(
     if given.len() != k as usize {
         return Ok(());
     }
-    let decoded = decode(alloc, (k, n), &given)?;
+    let decoded = decode(rt, alloc, (k, n), &given)?;
     assert_eq!(rt; decoded.len(), k as usize);
     for (block, expected) in decoded.iter().zip(blocks) {
         assert_eq!(rt; block.as_slice(), expected.as_slice());

@@ -156,12 +156,11 @@ fn code_padded(
         ≡ with_blocks drafts.old (first_chunks size params.now.k bytes.now)) }
 {
     let primary = cut(alloc, bytes, size, params.k as usize)?;
-    take_blocks(alloc, params, code, &primary, drafts)
+    take_blocks(params, code, &primary, drafts)
 }
 
 /// Appends to each share the block of its number.
 fn take_blocks(
-    alloc: Global,
     params: &Params,
     code: &Code,
     primary: &[&[u8]],
@@ -174,47 +173,9 @@ fn take_blocks(
     ensures { OnOk result (drafts.new ≡ with_blocks drafts.old (contents_of primary.now)) }
 {
     for number in 0..params.n {
-        let draft = &mut drafts[number as usize];
-        take_block(alloc, params, code, primary, number, draft)?;
+        drafts[number as usize].take(code, primary, number)?;
     }
     Ok(())
-}
-
-/// Appends to a share the block of its number, a primary one from where it stands.
-fn take_block(
-    alloc: Global,
-    params: &Params,
-    code: &Code,
-    primary: &[&[u8]],
-    number: u16,
-    draft: &mut Draft,
-) -> Result<(), AllocError>
-    requires code { (code.now.k ≡ params.now.k) × (code.now.n ≡ params.now.n) }
-    requires count { length primary.now ≡ params.now.k }
-    requires blocks { AreBlocks (size_of (contents_of primary.now)) (contents_of primary.now) }
-    requires number { number < params.now.n }
-    ensures { OnOk result (draft.new
-        ≡ with_block draft.old (block_of (contents_of primary.now) number)) }
-{
-    erasure::laws::blocks_are_the_code();
-    if number < params.k {
-        return draft.take(primary[number as usize]);
-    }
-    let block = encode(alloc, code, primary, number)?;
-    draft.take(&block)
-}
-
-/// Block `number` of the code.
-fn encode(alloc: Global, code: &Code, primary: &[&[u8]], number: u16) -> Result<Vec<u8>, AllocError>
-    requires count { length primary.now ≡ code.now.k }
-    requires blocks { AreBlocks (size_of (contents_of primary.now)) (contents_of primary.now) }
-    requires number { number < code.now.n }
-    ensures { IfOk result (λ block. block.items ≡ block_of (contents_of primary.now) number) }
-{
-    match code.encode_block(alloc, primary, number) {
-        Ok(block) => Ok(block),
-        Err(_) => Err(AllocError),
-    }
 }
 
 /// Writes the fronts.

@@ -1,5 +1,5 @@
-use Rattle.std.proofs.Common.{◌≡◌, ◌<◌, ◌++◌, ℕ, List, Bor, Err, length, map, take, sym, ap, subst, ◌∙◌, arith}
-use Rattle.std.specs.Prelude.{All, OnOk}
+use Rattle.std.proofs.Common.{◌≡◌, ◌<◌, ◌++◌, ℕ, List, Bor, Err, length, take, sym, ap, subst, ◌∙◌, arith}
+use Rattle.std.specs.Prelude.{All}
 use Rattle.std.specs.List.{concat}
 use Rattle.std.proofs.lemmas.List.{take_all, length-map}
 use Rattle.std.proofs.lemmas.List.Elements.{All-take}
@@ -23,8 +23,8 @@ numbered-requires c k d below =
     let inside = c.requires.inside in
     omega arith
 
-pub decode-requires : goal.decode-requires
-decode-requires c =
+pub decode_into-requires : goal.decode_into-requires
+decode_into-requires c =
     let p = c.args.params.now in
     let given = c.deref.result.now in
     let e : numbered_of given ≡ blocks_at c.args.shares.now c.args.at = ap numbered_of c.deref.ensures.value ∙ c.in_ok-blocks.ensures in
@@ -35,14 +35,11 @@ decode-requires c =
 
 pub returns-in-Ok : goal.returns-in-Ok
 returns-in-Ok c =
-    let p = c.args.params.now in
     let given = c.deref.result.now in
     let e : numbered_of given ≡ blocks_at c.args.shares.now c.args.at = ap numbered_of c.deref.ensures.value ∙ c.in_ok-blocks.ensures in
     let seen : numbered_of (take c.args.code.now.k given) ≡ blocks_at c.args.shares.now c.args.at =
     looked_at c.args.code.now.k given c.args.shares.now c.args.at e (c.requires.taken.many ∙ sym c.requires.code.0) in
-    let made : map (λ b. b.items) c.deref-in-Ok.result.now ≡ primary_from p.k (blocks_at c.args.shares.now c.args.at) =
-    ap (map (λ b. b.items)) c.deref-in-Ok.ensures.value ∙ c.in-Ok.ensures.primary ∙ (λ i. primary_from (c.requires.code.0 i) (seen i)) in
-    subst (λ (bs : List (List ℕ)). OnOk c.push_blocks.result (c.push_blocks.new.bytes.items ≡ c.args.bytes.now.items ++ concat bs)) made c.push_blocks.ensures
+    c.in-Ok.ensures.primary ∙ (λ i. c.args.bytes.now.items ++ concat (primary_from (c.requires.code.0 i) (seen i)))
 
 pub unreachable-requires-in-Err-Repeated : goal.unreachable-requires-in-Err-Repeated
 unreachable-requires-in-Err-Repeated c =
@@ -50,7 +47,7 @@ unreachable-requires-in-Err-Repeated c =
     let e : numbered_of given ≡ blocks_at c.args.shares.now c.args.at = ap numbered_of c.deref.ensures.value ∙ c.in_ok-blocks.ensures in
     let seen : numbered_of (take c.args.code.now.k given) ≡ blocks_at c.args.shares.now c.args.at =
     looked_at c.args.code.now.k given c.args.shares.now c.args.at e (c.requires.taken.many ∙ sym c.requires.code.0) in
-    let repeats = (c.decode.ensures.repeated.0 (c.in-Err-Repeated.is ∙ ap Err c.in-Err-Repeated.field-0-is)).1 in
+    let repeats = (c.decode_into.ensures.repeated.0 (c.in-Err-Repeated.is ∙ ap Err c.in-Err-Repeated.field-0-is)).1 in
     never_repeats (numbers_of (numbered_of (take c.args.code.now.k given)))
     (subst AreDistinct (sym (ap numbers_of seen ∙ numbers-blocks_at c.args.shares.now c.args.at)) c.requires.taken.apart) repeats
 
@@ -60,5 +57,5 @@ unreachable-requires-in-Err-UnequalLength c =
     let e : numbered_of given ≡ blocks_at c.args.shares.now c.args.at = ap numbered_of c.deref.ensures.value ∙ c.in_ok-blocks.ensures in
     let seen : numbered_of (take c.args.code.now.k given) ≡ blocks_at c.args.shares.now c.args.at =
     looked_at c.args.code.now.k given c.args.shares.now c.args.at e (c.requires.taken.many ∙ sym c.requires.code.0) in
-    let other = (c.decode.ensures.unequal.0 (c.in-Err-UnequalLength.is ∙ ap Err c.in-Err-UnequalLength.field-0-is)).2 in
+    let other = (c.decode_into.ensures.unequal.0 (c.in-Err-UnequalLength.is ∙ ap Err c.in-Err-UnequalLength.field-0-is)).2 in
     one_length c.args.params.now c.args.shares.now c.args.at c.requires.inside c.requires.taken.cut (subst (λ (g : List (ℕ × List ℕ)). HasAnotherLength (blocks_of g)) seen other)

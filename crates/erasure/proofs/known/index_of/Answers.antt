@@ -1,6 +1,6 @@
 use Rattle.std.proofs.Common.{◌∙◌}
 use Rattle.erasure.proofs.Numbered.{nothing, number_at}
-use Rattle.erasure.proofs.code.index_of.Goals as goal
+use Rattle.erasure.proofs.known.index_of.Goals as goal
 
 pub returns-then-other-number : goal.returns-then-other-number
 returns-then-other-number c =
