@@ -11,7 +11,7 @@ pub vectors_at : (n : ℕ) (f : ℕ → ℕ → ℕ) (k : ℕ) → k < n → get
 vectors_at n f k lt = get_or-map-range_with_len (λ k. four (f k)) 0 n k k [] lt (omega arith)
 
 -- a word of the schedules from the four words before it
-pub scheduled_next : (b : ℕ → List ℕ) (t k : ℕ) → t + 32 ≤ 64 → k < 16 → (j : ℕ)
+pub scheduled_next : (b : ℕ → List ℕ) (t k : ℕ) → t + 24 ≤ 64 → k < 8 → (j : ℕ)
     → add32 (add32 (add32 (small_sigma1 (scheduled b (t + (k + 14)) j)) (scheduled b (t + (k + 9)) j))
     (small_sigma0 (scheduled b (t + (k + 1)) j))) (scheduled b (t + k) j) ≡ scheduled b (t + 16 + k) j
 scheduled_next b t k le lt j =
@@ -32,7 +32,7 @@ pub scheduled_from : (b : ℕ → List ℕ) (t k : ℕ) → four (scheduled b (t
 scheduled_from b t k = let e : t + 16 + k ≡ t + (16 + k) = omega arith in ap (λ (i : ℕ). four (scheduled b i)) e
 
 -- a vector of the schedules' next words
-pub next_vector : (b : ℕ → List ℕ) (t k : ℕ) (x : List ℕ) → t + 32 ≤ 64 → k < 16
+pub next_vector : (b : ℕ → List ℕ) (t k : ℕ) (x : List ℕ) → t + 24 ≤ 64 → k < 8
     → x ≡ four (λ j. add32 (add32 (add32 (small_sigma1 (scheduled b (t + (k + 14)) j)) (scheduled b (t + (k + 9)) j))
     (small_sigma0 (scheduled b (t + (k + 1)) j))) (scheduled b (t + k) j))
     → x ≡ four (scheduled b (t + 16 + k))

@@ -163,16 +163,18 @@ fn first_rounds(v: [u32x4; 8], w: &[u32x4; 16]) -> [u32x4; 8]
     numbered_round(v, w[15], 0, 15)
 }
 
-/// Sixteen rounds from `from` on. Their words take the place of the sixteen before, of which each is made as its round
-/// needs it.
+/// Eight rounds from `from` on, by the sixteen words before them. Each next word is made as its round needs it, and the
+/// eight of them follow the last eight of those sixteen.
+///
+/// So few, since a loop of sixteen is too long for a processor to keep it decoded.
 #[inline(always)]
 fn later_rounds(v: [u32x4; 8], w: &mut [u32x4; 16], from: usize) -> [u32x4; 8]
     requires after { 16 ≤ from }
-    requires within { from + 16 ≤ 64 }
+    requires within { from + 8 ≤ 64 }
     ensures { (b : ℕ → List ℕ) → w.old ≡ words_from b (from - 16)
-        → (w.new ≡ words_from b from)
+        → (w.new ≡ words_from b (from - 8))
         × ((h : ℕ → List ℕ) → v ≡ variables_at b h from
-        → result ≡ variables_at b h (from + 16)) }
+        → result ≡ variables_at b h (from + 8)) }
 {
     let w0 = next_word(w[0], w[1], w[9], w[14]);
     let v = numbered_round(v, w0, from, 0);
@@ -190,24 +192,8 @@ fn later_rounds(v: [u32x4; 8], w: &mut [u32x4; 16], from: usize) -> [u32x4; 8]
     let v = numbered_round(v, w6, from, 6);
     let w7 = next_word(w[7], w[8], w0, w5);
     let v = numbered_round(v, w7, from, 7);
-    let w8 = next_word(w[8], w[9], w1, w6);
-    let v = numbered_round(v, w8, from, 8);
-    let w9 = next_word(w[9], w[10], w2, w7);
-    let v = numbered_round(v, w9, from, 9);
-    let w10 = next_word(w[10], w[11], w3, w8);
-    let v = numbered_round(v, w10, from, 10);
-    let w11 = next_word(w[11], w[12], w4, w9);
-    let v = numbered_round(v, w11, from, 11);
-    let w12 = next_word(w[12], w[13], w5, w10);
-    let v = numbered_round(v, w12, from, 12);
-    let w13 = next_word(w[13], w[14], w6, w11);
-    let v = numbered_round(v, w13, from, 13);
-    let w14 = next_word(w[14], w[15], w7, w12);
-    let v = numbered_round(v, w14, from, 14);
-    let w15 = next_word(w[15], w0, w8, w13);
-    let v = numbered_round(v, w15, from, 15);
     *w = [
-        w0, w1, w2, w3, w4, w5, w6, w7, w8, w9, w10, w11, w12, w13, w14, w15,
+        w[8], w[9], w[10], w[11], w[12], w[13], w[14], w[15], w0, w1, w2, w3, w4, w5, w6, w7,
     ];
     v
 }
@@ -241,8 +227,8 @@ pub(crate) fn compress_four(state: &mut [u32x4; 8], a: &[u8], b: &[u8], c: &[u8]
 {
     let mut words = first_words(a, b, c, d);
     let mut v = first_rounds(*state, &words);
-    for turn in 1..4usize {
-        let next = later_rounds(v, &mut words, 16 * turn);
+    for turn in 2..8usize {
+        let next = later_rounds(v, &mut words, 8 * turn);
         v = next;
     }
     let sum = sums(*state, v);

@@ -15,9 +15,9 @@ loop-turn-init c =
 pub loop-turn-preserved : goal.loop-turn-preserved
 loop-turn-preserved c =
     let b : ℕ → List ℕ = one_of c.args.a.now c.args.b.now c.args.c.now c.args.d.now in
-    let t : ℕ = 16 * c.loop-turn.turn in
-    let there : t ≡ 16 * (c.loop-turn.turn + 1) - 16 = omega arith in
-    let more : t + 16 ≡ 16 * (c.loop-turn.turn + 1) = omega arith in
+    let t : ℕ = 8 * c.loop-turn.turn in
+    let there : t - 8 ≡ 8 * (c.loop-turn.turn + 1) - 16 = omega arith in
+    let more : t + 8 ≡ 8 * (c.loop-turn.turn + 1) = omega arith in
     let later = c.later_rounds-next.ensures b c.loop-turn.invariant.scheduled in
     record {
       scheduled = later.0 ∙ ap (words_from b) there;
@@ -28,6 +28,6 @@ pub returns : goal.returns
 unfolding compress
 returns c = λ h held.
     let b : ℕ → List ℕ = one_of c.args.a.now c.args.b.now c.args.c.now c.args.d.now in
-    let done : 16 * c.loop-turn.turn ≡ 64 = omega arith in
+    let done : 8 * c.loop-turn.turn ≡ 64 = omega arith in
     c.sums-sum.ensures h (λ j. rounds (h j) (schedule (b j) 48) 64) held
     (c.loop-turn.invariant.rounded h held ∙ ap (variables_at b h) done)
