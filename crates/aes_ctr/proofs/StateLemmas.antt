@@ -1,7 +1,7 @@
 -- Lists of 16 bytes.
 use Rattle.std.proofs.lemmas.List.FromFn.{fill_by_all, get_or-map-range_with_len}
 use Rattle.aes_ctr.specs.Planes.{lanes}
-use Rattle.std.proofs.Common.{sym, ap, add-zero, zero, suc, ◌+◌, ◌<◌, ◌≤◌, set, arith, get_or-set_same, get_or-set_other, length-set, length, get_or, refl, ◌≡◌, ℕ, List, [], ◌∷◌}
+use Rattle.std.proofs.Common.{◌<◌, arith, length, get_or, refl, ◌≡◌, ℕ, List, [], ◌∷◌}
 
 -- two lists of 16 numbers that agree place by place
 pub same_16 : {x0 x1 x2 x3 x4 x5 x6 x7 x8 x9 x10 x11 x12 x13 x14 x15 : ℕ}
@@ -16,42 +16,6 @@ same_16 h0 h1 h2 h3 h4 h5 h6 h7 h8 h9 h10 h11 h12 h13 h14 h15 = cc
 pub list_of_16 : (xs : List ℕ) → length xs ≡ 16
     → xs ≡ get_or xs 0 0 ∷ get_or xs 1 0 ∷ get_or xs 2 0 ∷ get_or xs 3 0 ∷ get_or xs 4 0 ∷ get_or xs 5 0 ∷ get_or xs 6 0 ∷ get_or xs 7 0 ∷ get_or xs 8 0 ∷ get_or xs 9 0 ∷ get_or xs 10 0 ∷ get_or xs 11 0 ∷ get_or xs 12 0 ∷ get_or xs 13 0 ∷ get_or xs 14 0 ∷ get_or xs 15 0 ∷ []
 list_of_16 xs long = fill_by_all (λ k. get_or xs k 0) xs 16 0 long (λ k h. refl)
-
--- a fact at each number below 4
-pub below_4 : (P : ℕ → Type 0) → P 0 → P 1 → P 2 → P 3 → (i : ℕ) → i < 4 → P i
-below_4 P a b c d zero h = a
-below_4 P a b c d (suc zero) h = b
-below_4 P a b c d (suc (suc zero)) h = c
-below_4 P a b c d (suc (suc (suc zero))) h = d
-below_4 P a b c d (suc (suc (suc (suc i)))) h = absurd (omega arith)
-
--- four writes side by side
-module _ (xs : List ℕ) (at a b c d : ℕ) (fits : at + 4 ≤ length xs) where
-  wrote_0 : get_or (set (set (set (set xs at a) (at + 1) b) (at + 2) c) (at + 3) d) (at + 0) 0 ≡ a
-  wrote_0 = grind (arith, get_or-set_same, get_or-set_other, length-set)
-
-  wrote_1 : get_or (set (set (set (set xs at a) (at + 1) b) (at + 2) c) (at + 3) d) (at + 1) 0 ≡ b
-  wrote_1 = grind (arith, get_or-set_same, get_or-set_other, length-set)
-
-  wrote_2 : get_or (set (set (set (set xs at a) (at + 1) b) (at + 2) c) (at + 3) d) (at + 2) 0 ≡ c
-  wrote_2 = grind (arith, get_or-set_same, get_or-set_other, length-set)
-
-  wrote_3 : get_or (set (set (set (set xs at a) (at + 1) b) (at + 2) c) (at + 3) d) (at + 3) 0 ≡ d
-  wrote_3 = grind (arith, get_or-set_same, get_or-set_other, length-set)
-
-  pub wrote_4 : (i : ℕ) → i < 4
-      → get_or (set (set (set (set xs at a) (at + 1) b) (at + 2) c) (at + 3) d) (at + i) 0 ≡ get_or (a ∷ b ∷ c ∷ d ∷ []) i 0
-  wrote_4 = below_4
-      (λ i. get_or (set (set (set (set xs at a) (at + 1) b) (at + 2) c) (at + 3) d) (at + i) 0 ≡ get_or (a ∷ b ∷ c ∷ d ∷ []) i 0)
-      wrote_0 wrote_1 wrote_2 wrote_3
-
--- four places side by side
-pub side_by_side : (xs : List ℕ) (at i : ℕ) → i < 4
-    → get_or (get_or xs at 0 ∷ get_or xs (at + 1) 0 ∷ get_or xs (at + 2) 0 ∷ get_or xs (at + 3) 0 ∷ []) i 0
-    ≡ get_or xs (at + i) 0
-side_by_side xs at =
-    below_4 (λ i. get_or (get_or xs at 0 ∷ get_or xs (at + 1) 0 ∷ get_or xs (at + 2) 0 ∷ get_or xs (at + 3) 0 ∷ []) i 0
-    ≡ get_or xs (at + i) 0) (ap (λ (n : ℕ). get_or xs n 0) (sym (add-zero at))) refl refl refl
 
 -- a lane
 pub lanes_at : (f : ℕ → ℕ) (i : ℕ) → i < 16 → get_or (lanes f) i 0 ≡ f i

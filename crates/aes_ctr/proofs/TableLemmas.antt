@@ -6,7 +6,7 @@ use Rattle.aes_ctr.specs.Field.{times, times_bits, times_x}
 use Rattle.aes_ctr.specs.SBox.{s_box, inverse, affine, affine_bit}
 
 -- a list of a function's values has its value at each place
-pub value_at : {X : Type 0} (f : ℕ → X) (xs : List X) (a n : ℕ) (d : X) → xs ≡ map f (range_with_len a n)
+value_at : {X : Type 0} (f : ℕ → X) (xs : List X) (a n : ℕ) (d : X) → xs ≡ map f (range_with_len a n)
     → (x i : ℕ) → a + i ≡ x → i < n → get_or xs i d ≡ f x
 value_at {X} f xs a n d same x i at h =
     ap (λ (ys : List X). get_or ys i d) same ∙ get_or-map-range_with_len f a n i x d h at
