@@ -1,9 +1,9 @@
 #!/usr/bin/env python3
-"""Prints how much memory `gate_main serve` has at its highest during a put and a get of a body of 4 MiB at 3 of 10, in bodies: what
+"""Prints how much memory `gate_main serve` has at its highest during a put and a get of a body at 3 of 10, in bodies: what
 it has before is taken off, so what the stores hold counts for the put and not for the get. It is no test. It needs Linux, and the
 built program: run `rt run` in crates/gate_main first.
 
-usage: bench/memory.py [PROGRAM]
+usage: bench/memory.py [PROGRAM [BYTES]]        4,194,304 bytes unless told otherwise
 """
 
 import http.client
@@ -14,7 +14,8 @@ import time
 
 HERE = os.path.dirname(os.path.abspath(__file__))
 PROGRAM = sys.argv[1] if len(sys.argv) > 1 else os.path.join(HERE, "../crates/gate_main/out/gate_main")
-BODY = bytes(i % 251 for i in range(4_194_304))
+LENGTH = int(sys.argv[2]) if len(sys.argv) > 2 else 4_194_304
+BODY = (bytes(i % 251 for i in range(251)) * (LENGTH // 251 + 1))[:LENGTH]
 PORT = 3457
 
 

@@ -9,32 +9,36 @@ last=500
 folder=$(mktemp -d)
 trap 'rm -rf "$folder"' EXIT
 
-# A quarter of the runs for each of four processors.
-mkdir "$folder/0" "$folder/1" "$folder/2" "$folder/3"
+# The runs are shared out among the processors.
+processors=$(nproc)
+parts=$(seq 0 $((processors - 1)))
+for part in $parts; do
+    mkdir "$folder/$part"
+done
 for before in $(seq 0 $last); do
-    name=$(printf '%d/%04d' $((before % 4)) "$before")
+    name=$(printf '%d/%04d' $((before % processors)) "$before")
     : > "$folder/$name"
     echo "$before" > "$folder/$name.args"
 done
 running=
-for part in 0 1 2 3; do
+for part in $parts; do
     rt try --fail-alloc $last --cases "$folder/$part" -- refusal > "$folder/answers.$part" 2>&1 &
     running="$running $!"
 done
 for part in $running; do
     wait "$part" || failed=yes
 done
-cat "$folder"/answers.? > "$folder/answers"
+cat "$folder"/answers.* > "$folder/all"
 test -z "${failed-}" || {
-    cat "$folder/answers"
+    cat "$folder/all"
     exit 1
 }
 
-count() { grep -c "^$1\$" "$folder/answers" || true; }
+count() { grep -c "^$1\$" "$folder/all" || true; }
 served=$(count served) cut=$(count cut) refused=$(count refused)
 echo "allocations refused in turn: $cut cut a connection, $refused refused a call, $served runs met none"
 # The first run's exchange is over before the refused allocation, so none of its allocations is left out.
-grep -A 1 '^== 0000$' "$folder/answers" | grep -q '^served$'
+grep -A 1 '^== 0000$' "$folder/all" | grep -q '^served$'
 test "$cut" -gt 0
 test "$refused" -gt 0
 test $((served + cut + refused)) -eq $((last + 1))

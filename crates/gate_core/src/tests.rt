@@ -18,6 +18,8 @@ mod drawn;
 mod pairs;
 /// Runs in which stores are full or fail, where what is dropped can be told.
 mod premises;
+/// Callers with secrets of their own.
+mod secrets;
 
 /// A file of 56 bytes, the request that puts it, and its cap.
 const LETTERS: &[u8] = &[b'a'; 56];
@@ -30,9 +32,9 @@ const PUT_LETTERS: &[&[u8]] = &[
 const LETTERS_CAP: &[u8] =
     b"URI:CHK:xciehu7wkhrkdhseyznarsl6n4:ro65en3n4zxwl3gfinnekkeqado3jxpde7tfaj3sr7als57h4qoa:3:10:56";
 
-/// The cap of 4,194,304 bytes, byte i being i modulo 251.
+/// The cap of 16,777,216 bytes, byte i being i modulo 251.
 const LIMIT_CAP: &[u8] =
-    b"URI:CHK:jgkhjmtytfjnd7mf3yfu67pevm:rsiowm6f6c5kczq3horspgotv7dblegikfw6iyctuvatrb3hs2dq:3:10:4194304";
+    b"URI:CHK:fvgi73cmksn74kqnzhwwxvi2qe:fneiwbdgii64e5vjqzro3d54mf7lxiz7pz47hcuper3ojjzpw2zq:3:10:16777216";
 
 /// What stands before the cap in a request that gets what it names.
 const GET: &[u8] = b"GET /uri/";
@@ -95,7 +97,7 @@ fn gateway(alloc: Global, room: u64) -> Result<Gateway<MemStore>, Fail> {
 }
 
 fn open<S: Store>(gateway: &mut Gateway<S>, id: u64) -> Result<(), Fail> {
-    Ok(gateway.open(id)?)
+    Ok(gateway.open(id, None)?)
 }
 
 /// Bytes come on a connection.
@@ -161,7 +163,7 @@ fn put_counted(alloc: Global, size: usize) -> Result<Vec<u8>, Fail> {
 /// What connection 1 is answered to one more piece.
 fn asked<S: Store>(gateway: &mut Gateway<S>, piece: &[u8]) -> Result<Vec<u8>, Fail> {
     send(gateway, 1, piece)?;
-    given(gateway, 1, 10_000_000)
+    given(gateway, 1, 20_000_000)
 }
 
 /// What connection 1 is answered to one more piece, which is given in parts.
@@ -599,23 +601,23 @@ fn is_digest(alloc: Global, bytes: &[u8], digits: &str) -> Result<bool, Fail> {
 #[test]
 fn a_body_of_the_limit_is_stored(rt: HostRuntime) -> Result<(), Fail> {
     let alloc = rt.alloc();
-    let mut gateway = gateway(alloc, 20_000_000)?;
+    let mut gateway = gateway(alloc, 60_000_000)?;
     assert!(rt; is_limit_kept(alloc, &mut gateway)?);
     Ok(())
 }
 
 /// Whether a body of the longest length is stored and found, and a longer one refused.
 fn is_limit_kept(alloc: Global, gateway: &mut Gateway<MemStore>) -> Result<bool, Fail> {
-    let body = counted_bytes(alloc, 4_194_304)?;
+    let body = counted_bytes(alloc, 16_777_216)?;
     send_in_pieces(gateway, &put(alloc, &body)?)?;
     each_is_answered(
         alloc,
         gateway,
         &[
-            (&[], &[TEXT, b"100\r\n\r\n", LIMIT_CAP]),
-            (&[GET, LIMIT_CAP, HTTP], &[FILE, b"4194304\r\n\r\n", &body]),
+            (&[], &[TEXT, b"101\r\n\r\n", LIMIT_CAP]),
+            (&[GET, LIMIT_CAP, HTTP], &[FILE, b"16777216\r\n\r\n", &body]),
             (
-                &[b"PUT /uri HTTP/1.1\r\nHost: g\r\nContent-Length: 4194305\r\n\r\n"],
+                &[b"PUT /uri HTTP/1.1\r\nHost: g\r\nContent-Length: 16777217\r\n\r\n"],
                 &[
                     b"HTTP/1.1 413 Content Too Large\r\nContent-Type: text/plain; charset=utf-8\r\nContent-Length: 14\r\nConnection: close\r\n\r\nbody too long\n",
                 ],

@@ -1,7 +1,9 @@
 -- What a head block is that comes to a request.
-use Rattle.std.proofs.Common.{◌≡◌, cond, ℕ, ◌<◌, ◌≤◌, Bool, true, false, ◌&&◌, List, [], ◌∷◌, length, Option, Some, None, Result, Ok, Err, refl, sym, ap, ◌∙◌, arith}
-use Rattle.std.specs.Prelude.{nat_le, nat_lt, not, codes}
-use Rattle.std.specs.List.{list_all, filter, find, count_by}
+use Rattle.std.proofs.Common.{◌≡◌, cond, ℕ, ◌+◌, ◌<◌, ◌≤◌, Bool, true, false, ◌&&◌, List, [], ◌∷◌, length, Option, Some, None, Result, Ok, Err, refl, sym, ap, ◌∙◌, arith}
+use Rattle.std.specs.Prelude.{nat_le, nat_lt, not, codes, ◌||◌}
+use Rattle.std.proofs.Math.Dec.{eqb}
+use Rattle.std.proofs.Common.{◌⊎◌, inl, inr}
+use Rattle.std.specs.List.{list_all, list_any, filter, find, count_by}
 use Rattle.std.specs.Char.{is_ascii_digit}
 use Rattle.std.specs.Str.Parse.{digits_value}
 use Rattle.std.proofs.lemmas.List.{length-map}
@@ -11,11 +13,13 @@ use Rattle.httparse.specs.Grammar.{RequestHead, ReadsRequest}
 use Rattle.http_edge.specs.declared.field.Field.{Field}
 use Rattle.http_edge.specs.declared.item.Head.{Head}
 use Rattle.http_edge.specs.declared.item.FramingFault.{FramingFault}
-use Rattle.http_edge.specs.declared.item.FramingFault.TheVariants.{BadHost, TransferCoding, BadLength, TooLong}
+use Rattle.http_edge.specs.declared.item.FramingFault.TheVariants.{BadHead, BadHost, TransferCoding, BadLength, TooLong}
 use Rattle.http_edge.specs.declared.verdict.Awaited.{Awaited}
-use Rattle.http_edge.specs.declared.verdict.Verdict.TheVariants.{Taken, Refused}
+use Rattle.http_edge.specs.declared.verdict.Verdict.{Verdict}
+use Rattle.http_edge.specs.declared.verdict.Verdict.TheVariants.{Taken, InChunks, Refused}
+use Rattle.http_edge.specs.declared.verdict.Chunked.{Chunked}
 use Rattle.http_edge.specs.Block.{head_of}
-use Rattle.http_edge.specs.Judge.{field_of, head_parts, has_good_hosts, count_named, is_head_only, is_length, most_body_bytes, length_of, length_by, body_length, with_length, checked, verdict_of, within_limit, judged, request}
+use Rattle.http_edge.specs.Judge.{field_of, head_parts, eq_ignore_case, has_good_hosts, count_named, is_head_only, is_length, is_coding, most_body_bytes, length_of, length_by, body_length, Framing, counted, chunked, counted_by, framing_one, framing_by, body_framing, awaited_by, closes_after, expects_continue, with_framing, checked, verdict_of, within_limit, judged, request, request_of}
 use Rattle.http_edge.specs.Read.{IsRead}
 use Rattle.http_edge.proofs.BlockLemmas.{head_of_reads}
 
@@ -78,55 +82,141 @@ body_short : (fields : List Field) (n : ℕ) → body_length fields ≡ Ok n →
 unfolding body_length
 body_short fields n e = by_short _ n e
 
-checked_taken : (h : Head) (minor : ℕ) (a : Awaited) → checked h minor ≡ Taken a → (h ≡ a.head) × (body_length h.fields ≡ Ok a.length)
-unfolding checked
-checked_taken h minor a e = go (not (has_good_hosts minor (count_named (codes "host") h.fields)))
-    (nat_lt 0 (count_named (codes "transfer-encoding") h.fields)) (body_length h.fields) refl e
+-- several codings, none, and one
+pub several_codings : (minor : ℕ) (fields : List Field) → 1 < count_by is_coding fields → body_framing minor fields ≡ Err TransferCoding
+unfolding body_framing
+several_codings minor fields many = go (filter is_coding fields) (let size = length-filter is_coding fields in omega arith)
   where
-    go : (t u : Bool) (o : Result ℕ FramingFault) → body_length h.fields ≡ o
-        → cond t (Refused BadHost (is_head_only h)) (cond u (Refused TransferCoding (is_head_only h)) (with_length h minor o)) ≡ Taken a
-        → (h ≡ a.head) × (body_length h.fields ≡ Ok a.length)
-    go true u o f e = absurd (cc)
-    go false true o f e = absurd (cc)
-    go false false (Err x) f e = absurd (cc)
-    go false false (Ok n) f e = ((let head : h ≡ a.head = cc in head), f ∙ (let size : n ≡ a.length = cc in ap Ok size))
+    go : (l : List Field) → 1 < length l → framing_by l minor fields ≡ Err TransferCoding
+    go [] long = absurd (omega arith)
+    go (f ∷ []) long = absurd (omega arith)
+    go (f ∷ g ∷ l) long = refl
 
--- a request whose head was read from a block
-pub record IsTaken (a : Awaited) : Type 0 where
+pub no_coding : (minor : ℕ) (fields : List Field) → find is_coding fields ≡ None → body_framing minor fields ≡ counted_by (body_length fields)
+unfolding body_framing
+no_coding minor fields none = go (filter is_coding fields) (sym (find_first is_coding fields) ∙ none)
+  where
+    go : (l : List Field) → first_of l ≡ None → framing_by l minor fields ≡ counted_by (body_length fields)
+    go [] e = refl
+    go (f ∷ l) e = absurd (cc)
+
+pub one_coding : (minor : ℕ) (fields : List Field) (f : Field) → count_by is_coding fields ≤ 1 → find is_coding fields ≡ Some f
+    → body_framing minor fields ≡ framing_one (eq_ignore_case f.value (codes "chunked")) (eqb minor 0 || list_any is_length fields)
+unfolding body_framing
+one_coding minor fields f few some = go (filter is_coding fields) (let size = length-filter is_coding fields in omega arith) (sym (find_first is_coding fields) ∙ some)
+  where
+    go : (l : List Field) → length l ≤ 1 → first_of l ≡ Some f
+        → framing_by l minor fields ≡ framing_one (eq_ignore_case f.value (codes "chunked")) (eqb minor 0 || list_any is_length fields)
+    go [] short e = absurd (cc)
+    go (g ∷ []) short e = let same : g ≡ f = cc in
+        ap (λ (x : Field). framing_one (eq_ignore_case x.value (codes "chunked")) (eqb minor 0 || list_any is_length fields)) same
+    go (g ∷ h ∷ l) short e = absurd (omega arith)
+
+framing_counted : (minor : ℕ) (fields : List Field) (n : ℕ) → body_framing minor fields ≡ Ok (counted n) → n ≤ most_body_bytes
+unfolding body_framing
+framing_counted minor fields n e = go (filter is_coding fields) e
+  where
+    by : (o : Result ℕ FramingFault) → body_length fields ≡ o → counted_by o ≡ Ok (counted n) → n ≤ most_body_bytes
+    by (Err x) f e = absurd (cc)
+    by (Ok m) f e = let same : m ≡ n = cc in body_short fields n (f ∙ ap Ok same)
+
+    one : (t u : Bool) → cond (not t) (Err TransferCoding) (cond u (Err BadLength) (Ok chunked)) ≡ Ok (counted n) → n ≤ most_body_bytes
+    one true true e = absurd (cc)
+    one true false e = absurd (cc)
+    one false u e = absurd (cc)
+
+    go : (l : List Field) → framing_by l minor fields ≡ Ok (counted n) → n ≤ most_body_bytes
+    go [] e = by (body_length fields) refl e
+    go (f ∷ []) e = one (eq_ignore_case f.value (codes "chunked")) (eqb minor 0 || list_any is_length fields) e
+    go (f ∷ g ∷ l) e = absurd (cc)
+
+checked_taken : (h : Head) (minor : ℕ) (a : Awaited) → checked h minor ≡ Taken a → (h ≡ a.head) × (body_framing minor h.fields ≡ Ok (counted a.length))
+unfolding checked
+checked_taken h minor a e = go (not (has_good_hosts minor (count_named (codes "host") h.fields))) (body_framing minor h.fields) refl e
+  where
+    go : (t : Bool) (o : Result Framing FramingFault) → body_framing minor h.fields ≡ o
+        → cond t (Refused BadHost (is_head_only h)) (with_framing h minor o) ≡ Taken a
+        → (h ≡ a.head) × (body_framing minor h.fields ≡ Ok (counted a.length))
+    go true o f e = absurd (cc)
+    go false (Err x) f e = absurd (cc)
+    go false (Ok chunked) f e = absurd (cc)
+    go false (Ok (counted n)) f e = ((let head : h ≡ a.head = cc in head), f ∙ (let size : n ≡ a.length = cc in ap (λ (m : ℕ). Ok (counted m)) size))
+
+checked_chunks : (h : Head) (minor : ℕ) (a : Chunked) → checked h minor ≡ InChunks a → (h ≡ a.head) × (body_framing minor h.fields ≡ Ok chunked)
+unfolding checked
+checked_chunks h minor a e = go (not (has_good_hosts minor (count_named (codes "host") h.fields))) (body_framing minor h.fields) refl e
+  where
+    go : (t : Bool) (o : Result Framing FramingFault) → body_framing minor h.fields ≡ o
+        → cond t (Refused BadHost (is_head_only h)) (with_framing h minor o) ≡ InChunks a
+        → (h ≡ a.head) × (body_framing minor h.fields ≡ Ok chunked)
+    go true o f e = absurd (cc)
+    go false (Err x) f e = absurd (cc)
+    go false (Ok (counted n)) f e = absurd (cc)
+    go false (Ok chunked) f e = ((let head : h ≡ a.head = cc in head), f)
+
+-- a head that was read from a block, with this framing
+pub record IsHeadOf (given : Head) (framing : Framing) : Type 0 where
   pub block : List ℕ
   pub head : RequestHead
   pub reads : ReadsRequest block head []
-  pub parts : a.head ≡ head_parts head
-  pub few : length a.head.fields ≤ 64
-  pub body : body_length a.head.fields ≡ Ok a.length
+  pub parts : given ≡ head_parts head
+  pub few : length given.fields ≤ 64
+  pub says : body_framing head.minor given.fields ≡ Ok framing
+
+head_is : (block : List ℕ) (h : RequestHead) (given : Head) (framing : Framing) → head_of block ≡ Some h → length h.fields ≤ 64
+    → (head_parts h ≡ given) × (body_framing h.minor (head_parts h).fields ≡ Ok framing) → IsHeadOf given framing
+head_is block h given framing f few is =
+    let size : length (head_parts h).fields ≡ length h.fields = length-map h.fields field_of in
+    let same : length (head_parts h).fields ≡ length given.fields = ap (λ (x : Head). length x.fields) is.0 in
+    record {
+      block = block;
+      head = h;
+      reads = head_of_reads block h f;
+      parts = sym is.0;
+      few = omega arith;
+      says = ap (λ (x : Head). body_framing h.minor x.fields) (sym is.0) ∙ is.1;
+    }
+
+pub judged_head : (block : List ℕ) (v : Verdict) (given : Head) (framing : Framing) → judged block ≡ v
+    → ((h : Head) (minor : ℕ) → checked h minor ≡ v → (h ≡ given) × (body_framing minor h.fields ≡ Ok framing))
+    → (Refused BadHead false ≡ v → ⊥) → IsHeadOf given framing
+unfolding judged
+judged_head block v given framing e by other = go (head_of block) refl e
+  where
+    fit : (h : RequestHead) (b : Bool) → nat_le (length h.fields) 64 ≡ b → head_of block ≡ Some h
+        → verdict_of (cond b (Some (head_parts h, h.minor)) None) ≡ v → IsHeadOf given framing
+    fit h true test f e = head_is block h given framing f (grind (arith, nat_tests)) (by (head_parts h) h.minor e)
+    fit h false test f e = absurd (other e)
+
+    go : (o : Option RequestHead) → head_of block ≡ o → verdict_of (within_limit o) ≡ v → IsHeadOf given framing
+    go None f e = absurd (other e)
+    go (Some h) f e = fit h (nat_le (length h.fields) 64) refl f e
+
+-- a request whose head was read from a block
+pub record IsTaken (a : Awaited) : Type 0 where
+  pub of : IsHeadOf a.head (counted a.length)
   pub short : a.length ≤ most_body_bytes
 
 pub judged_taken : (block : List ℕ) (a : Awaited) → judged block ≡ Taken a → IsTaken a
-unfolding judged
-judged_taken block a e = go (head_of block) refl e
-  where
-    fit : (h : RequestHead) (b : Bool) → nat_le (length h.fields) 64 ≡ b → head_of block ≡ Some h
-        → verdict_of (cond b (Some (head_parts h, h.minor)) None) ≡ Taken a → IsTaken a
-    fit h true test f e =
-        let is = checked_taken (head_parts h) h.minor a e in
-        let size : length (head_parts h).fields ≡ length h.fields = length-map h.fields field_of in
-        let same : length (head_parts h).fields ≡ length a.head.fields = ap (λ (x : Head). length x.fields) is.0 in
-        let says : body_length a.head.fields ≡ Ok a.length = ap (λ (x : Head). body_length x.fields) (sym is.0) ∙ is.1 in
-        record {
-          block = block;
-          head = h;
-          reads = head_of_reads block h f;
-          parts = sym is.0;
-          few = grind (arith, nat_tests);
-          body = says;
-          short = body_short a.head.fields a.length says;
-        }
-    fit h false test f e = absurd (cc)
+judged_taken block a e =
+    let of : IsHeadOf a.head (counted a.length) = judged_head block (Taken a) a.head (counted a.length) e (λ h minor k. checked_taken h minor a k) (λ k. cc) in
+    record { of = of; short = framing_counted of.head.minor a.head.fields a.length of.says }
 
-    go : (o : Option RequestHead) → head_of block ≡ o → verdict_of (within_limit o) ≡ Taken a → IsTaken a
-    go None f e = absurd (cc)
-    go (Some h) f e = fit h (nat_le (length h.fields) 64) refl f e
+pub judged_chunks : (block : List ℕ) (a : Chunked) → judged block ≡ InChunks a → IsHeadOf a.head chunked
+judged_chunks block a e = judged_head block (InChunks a) a.head chunked e (λ h minor k. checked_chunks h minor a k) (λ k. cc)
 
 -- with a body as long as it says
 pub taken_read : (a : Awaited) (body : List ℕ) → IsTaken a → length body ≡ a.length → IsRead (request a body)
-taken_read a body t e = (t.block, t.head, t.reads, t.parts, t.few, t.body ∙ ap Ok (sym e))
+taken_read a body t e = (
+  t.of.block,
+  t.of.head,
+  t.of.reads,
+  t.of.parts,
+  t.of.few,
+  (let short = t.short in omega arith),
+  inl (t.of.says ∙ ap (λ (n : ℕ). Ok (counted n)) (sym e)),
+)
+
+-- with a body of chunks
+pub chunks_read : (a : Chunked) (body : List ℕ) → IsHeadOf a.head chunked → length body ≤ most_body_bytes → IsRead (request_of a body)
+chunks_read a body t short = (t.block, t.head, t.reads, t.parts, t.few, short, inr t.says)

@@ -10,12 +10,13 @@ use Rattle.http_edge.specs.Block.{head_of}
 use Rattle.http_edge.specs.declared.field.Field.{Field}
 use Rattle.http_edge.specs.declared.item.Head.{Head}
 use Rattle.http_edge.specs.declared.item.FramingFault.{FramingFault}
-use Rattle.http_edge.specs.declared.item.FramingFault.TheVariants.{BadHead, BadHost, TransferCoding, BadLength, TooLong}
+use Rattle.http_edge.specs.declared.item.FramingFault.TheVariants.{BadHead, BadHost, TransferCoding, BadLength, TooLong, BadChunk}
 use Rattle.http_edge.specs.declared.item.Item.{Item}
-use Rattle.http_edge.specs.declared.item.Item.TheVariants.{Request, Fault}
+use Rattle.http_edge.specs.declared.item.Item.TheVariants.{Request, Continue, Fault}
 use Rattle.http_edge.specs.declared.verdict.Awaited.{Awaited}
 use Rattle.http_edge.specs.declared.verdict.Verdict.{Verdict}
-use Rattle.http_edge.specs.declared.verdict.Verdict.TheVariants.{Taken, Refused}
+use Rattle.http_edge.specs.declared.verdict.Chunked.{Chunked}
+use Rattle.http_edge.specs.declared.verdict.Verdict.TheVariants.{Taken, InChunks, Refused}
 
 -- the number of a framing fault
 abbrev pub fault_number : FramingFault → ℕ
@@ -24,10 +25,12 @@ fault_number BadHost = 20
 fault_number TransferCoding = 21
 fault_number BadLength = 22
 fault_number TooLong = 23
+fault_number BadChunk = 25
 
 -- the connection closes after the item's answer
 abbrev pub closes : Item → Bool
 closes (Request head body close) = close
+closes Continue = false
 closes (Fault fault head_only) = true
 
 -- ---- the parts of a head
@@ -74,7 +77,7 @@ is_length f = eq_ignore_case f.name (codes "content-length")
 
 -- the most bytes of a body
 abbrev pub most_body_bytes : ℕ
-most_body_bytes = 4194304
+most_body_bytes = 16777216
 
 -- the number that a value writes: one or more decimal digits, with any number of leading zeros
 unfoldable pub length_of : List ℕ → Result ℕ FramingFault
@@ -98,17 +101,68 @@ closes_after head minor = minor == 0 || list_any asks_close head.fields
 abbrev pub is_head_only : Head → Bool
 is_head_only head = bytes_eq head.method (codes "HEAD")
 
--- a head whose body has the length
-abbrev pub with_length : Head → ℕ → Result ℕ FramingFault → Verdict
-with_length head minor (Err fault) = Refused fault (is_head_only head)
-with_length head minor (Ok n) = Taken (record { head = head; close = closes_after head minor; length = n })
+-- an Expect field of 100-continue, in any case
+unfoldable pub asks_continue : Field → Bool
+asks_continue f = eq_ignore_case f.name (codes "expect") && eq_ignore_case f.value (codes "100-continue")
+
+-- HTTP/1.1 with such a field asks for an interim answer
+abbrev pub expects_continue : Head → ℕ → Bool
+expects_continue head minor = not (minor == 0) && list_any asks_continue head.fields
+
+-- how a body's end is known: by so many bytes, or by chunks
+pub data Framing : Type 0 where
+  counted : ℕ → Framing
+  chunked : Framing
+
+abbrev pub is_coding : Field → Bool
+is_coding f = eq_ignore_case f.name (codes "transfer-encoding")
+
+abbrev pub counted_by : Result ℕ FramingFault → Result Framing FramingFault
+counted_by (Err fault) = Err fault
+counted_by (Ok n) = Ok (counted n)
+
+-- one coding, by whether it is chunked and whether chunks can't come here
+abbrev pub framing_one : Bool → Bool → Result Framing FramingFault
+framing_one is_chunked elsewhere =
+    if not is_chunked then Err TransferCoding else (if elsewhere then Err BadLength else Ok chunked)
+
+-- chunks alone are taken, in HTTP/1.1 and without a Content-Length field; without a coding the length counts
+abbrev pub framing_by : List Field → ℕ → List Field → Result Framing FramingFault
+framing_by [] minor fields = counted_by (body_length fields)
+framing_by (f ∷ []) minor fields =
+    framing_one (eq_ignore_case f.value (codes "chunked")) (minor == 0 || list_any is_length fields)
+framing_by (f ∷ g ∷ more) minor fields = Err TransferCoding
+
+unfoldable pub body_framing : ℕ → List Field → Result Framing FramingFault
+body_framing minor fields = framing_by (filter is_coding fields) minor fields
+
+-- a request whose body is awaited
+abbrev pub awaited_by : Head → Bool → Bool → Framing → Verdict
+awaited_by head close expects (counted n) = Taken (record { head = head; close = close; expects = expects; length = n })
+awaited_by head close expects chunked = InChunks (record { head = head; close = close; expects = expects })
+
+-- a head whose body is framed so
+abbrev pub with_framing : Head → ℕ → Result Framing FramingFault → Verdict
+with_framing head minor (Err fault) = Refused fault (is_head_only head)
+with_framing head minor (Ok framing) = awaited_by head (closes_after head minor) (expects_continue head minor) framing
 
 -- what a head with this minor version comes to, by the first check that it fails
 unfoldable pub checked : Head → ℕ → Verdict
 checked head minor =
     if not (has_good_hosts minor (count_named (codes "host") head.fields)) then Refused BadHost (is_head_only head)
-    else (if nat_lt 0 (count_named (codes "transfer-encoding") head.fields) then Refused TransferCoding (is_head_only head)
-    else with_length head minor (body_length head.fields))
+    else with_framing head minor (body_framing minor head.fields)
+
+-- what a length says, where none stands for chunks
+abbrev pub framing_so : Option ℕ → Framing
+framing_so None = chunked
+framing_so (Some n) = counted n
+
+abbrev pub framing_of : Result (Option ℕ) FramingFault → Result Framing FramingFault
+framing_of (Err fault) = Err fault
+framing_of (Ok length) = Ok (framing_so length)
+
+abbrev pub awaited_so : Head → Bool → Bool → Option ℕ → Verdict
+awaited_so head close expects length = awaited_by head close expects (framing_so length)
 
 -- ---- a head block
 
@@ -128,3 +182,14 @@ judged block = verdict_of (within_limit (head_of block))
 -- the request that a head and its whole body are
 abbrev pub request : Awaited → List ℕ → Item
 request a body = Request a.head body a.close
+
+abbrev pub request_of : Chunked → List ℕ → Item
+request_of a body = Request a.head body a.close
+
+-- an interim answer as a list, where one is asked for
+abbrev pub interim_of : Bool → List Item
+interim_of expects = if expects then Continue ∷ [] else []
+
+-- a body of no bytes asks for none
+abbrev pub interim : Bool → ℕ → List Item
+interim expects n = interim_of (expects && nat_lt 0 n)

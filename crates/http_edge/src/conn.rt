@@ -4,11 +4,11 @@ ghost use Rattle.std.specs.List.{list_any};
 ghost use Rattle.http_edge.specs.Judge.{closes};
 ghost use Rattle.http_edge.specs.Frame.{frame};
 ghost use Rattle.http_edge.specs.Left.{part_of, closed, is_closed, rest, frame_from, rest_from};
-ghost use Rattle.http_edge.specs.Line.{IsNext, IsSettled, Adds, listed};
+ghost use Rattle.http_edge.specs.Line.{IsSettled, Takes, listed};
 
 use crate::item::Item;
 use crate::line::split_line;
-use crate::state::{State, after_body, after_line};
+use crate::state::{State, after_body, after_chunks, after_line};
 use std::alloc::{AllocError, Global};
 use std::marker::Model;
 use std::mem;
@@ -90,6 +90,7 @@ impl Conn {
         match &self.state {
             State::Head(_) => true,
             State::Body(_, _) => true,
+            State::Chunks(_, _, _) => true,
             State::Closed => false,
         }
     }
@@ -102,8 +103,8 @@ impl Conn {
     {
         let mut bytes = piece;
         while self.is_open() && !bytes.is_empty() {
-            let (next, more) = self.split_next(bytes);
-            if let Some(item) = self.add(next)? {
+            let (item, more) = self.add(bytes)?;
+            if let Some(item) = item {
                 items.push(item)?;
             }
             bytes = more;
@@ -111,34 +112,36 @@ impl Conn {
         Ok(())
     }
 
-    /// The bytes up to the end of the next line or of the body, and what follows them.
-    fn split_next<'a>(&self, bytes: &'a [u8]) -> (&'a [u8], &'a [u8])
-        requires { 0 < length bytes.now }
-        ensures parts { bytes.now ≡ result.0.now ++ result.1.now }
-        ensures next { IsNext self.now result.0.now }
-        ensures shorter { length result.1.now < length bytes.now }
+    /// Takes the bytes up to the end of the next line or of the body, and gives the item that they complete, and the
+    /// bytes after them.
+    fn add<'a>(&mut self, bytes: &'a [u8]) -> Result<(Option<Item>, &'a [u8]), AllocError>
+        requires some { 0 < length bytes.now }
+        ensures { IfOk result (λ step.
+            Takes self.old bytes.now (listed step.0) self.new step.1.now) }
     {
-        match &self.state {
-            State::Head(_) => split_line(bytes),
+        match mem::replace(&mut self.state, State::Closed) {
+            State::Head(part) => {
+                let (line, more) = split_line(bytes);
+                let (state, item) = after_line(self.alloc, part, line)?;
+                self.state = state;
+                Ok((item, more))
+            }
             State::Body(awaited, body) => {
                 let missing = awaited.length - body.len();
-                bytes.split_at(missing.min(bytes.len()))
+                let (next, more) = bytes.split_at(missing.min(bytes.len()));
+                let (state, item) = after_body(self.alloc, awaited, body, next)?;
+                self.state = state;
+                Ok((item, more))
             }
-            State::Closed => bytes.split_at(bytes.len()),
+            State::Chunks(awaited, content, place) => {
+                let (state, item, taken) = after_chunks(
+                    self.alloc, awaited, content, place, bytes,
+                )?;
+                self.state = state;
+                let (_, more) = bytes.split_at(taken);
+                Ok((item, more))
+            }
+            State::Closed => Ok((None, &[])),
         }
-    }
-
-    /// Takes the next bytes, and gives the item that they complete.
-    fn add(&mut self, bytes: &[u8]) -> Result<Option<Item>, AllocError>
-        requires next { IsNext self.old bytes.now }
-        ensures { IfOk result (λ item. Adds self.old bytes.now (listed item) self.new) }
-    {
-        let (state, item) = match mem::replace(&mut self.state, State::Closed) {
-            State::Head(part) => after_line(self.alloc, part, bytes)?,
-            State::Body(awaited, body) => after_body(self.alloc, awaited, body, bytes)?,
-            State::Closed => (State::Closed, None),
-        };
-        self.state = state;
-        Ok(item)
     }
 }

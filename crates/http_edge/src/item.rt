@@ -23,18 +23,22 @@ pub enum FramingFault {
     /// HTTP/1.1 without exactly one Host field, or HTTP/1.0 with more than one (RFC 9112, section 3.2).
     #[error("bad Host field")]
     BadHost = 20,
-    /// A Transfer-Encoding field: bodies in a transfer coding aren't taken (RFC 9112, section 6.1).
+    /// More than one Transfer-Encoding field, or another coding than `chunked` (RFC 9112, section 6.1).
     #[error("transfer coding not supported")]
     TransferCoding = 21,
-    /// More than one Content-Length field, or one that isn't a decimal number (RFC 9112, section 6.3).
+    /// More than one Content-Length field, one that isn't a decimal number, or one beside `chunked`; `chunked` in an
+    /// HTTP/1.0 request (RFC 9112, sections 6.1 and 6.3).
     #[error("bad Content-Length field")]
     BadLength = 22,
-    /// A body of more than 4,194,304 bytes.
+    /// A body of more than 16,777,216 bytes.
     #[error("body too long")]
     TooLong = 23,
+    /// Bytes that begin no chunked body (RFC 9112, section 7.1).
+    #[error("bad chunk")]
+    BadChunk = 25,
 }
 
-/// A request, or the fault that ends a connection.
+/// A request, an interim answer that is asked for, or the fault that ends a connection.
 #[derive(Debug, Drop)]
 pub enum Item {
     /// A request with its body. `close` says that its connection closes after the answer.
@@ -43,6 +47,8 @@ pub enum Item {
         body: Bytes,
         close: bool,
     },
+    /// A request's head stands that asks for `100 Continue` before its body (RFC 9110, section 10.1.1).
+    Continue,
     /// A fault. `head_only` says that its answer has no body, since the head was a HEAD request's.
     Fault {
         fault: FramingFault,
@@ -51,7 +57,7 @@ pub enum Item {
 }
 
 impl FramingFault {
-    /// The number of the fault, 19 to 23.
+    /// The number of the fault, 19 to 23 or 25.
     pub fn number(self) -> u8
         ensures { result ≡ fault_number self }
     {
@@ -61,6 +67,7 @@ impl FramingFault {
             FramingFault::TransferCoding => 21,
             FramingFault::BadLength => 22,
             FramingFault::TooLong => 23,
+            FramingFault::BadChunk => 25,
         }
     }
 }
@@ -72,6 +79,7 @@ impl Item {
     {
         match self {
             Item::Request { close, .. } => *close,
+            Item::Continue => false,
             Item::Fault { .. } => true,
         }
     }

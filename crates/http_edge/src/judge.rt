@@ -1,16 +1,16 @@
 //! The checks of a head block.
-ghost use Rattle.std.specs.Prelude.{◌≡◌, ◌&&◌, true, length, reverse, count_by, nat_lt, nat_le, if◌then◌else◌, IfOk};
+ghost use Rattle.std.specs.Prelude.{◌≡◌, ◌&&◌, ◌||◌, ◌==◌, true, length, reverse, count_by, nat_lt, nat_le, if◌then◌else◌, IfOk};
 ghost use Rattle.std.specs.List.{list_any, list_all, find};
 ghost use Rattle.std.specs.Option.{option_copied};
 ghost use Rattle.std.specs.Char.{is_ascii_digit};
 ghost use Rattle.std.specs.Str.Parse.{digits_value};
 ghost use Rattle.httparse.specs.Grammar.{skip_ows, trim_ows};
-ghost use Rattle.http_edge.specs.Judge.{eq_ignore_case, count_named, lists_token, asks_close, is_length, length_of, body_length, with_length, checked, judged};
+ghost use Rattle.http_edge.specs.Judge.{eq_ignore_case, count_named, lists_token, asks_close, asks_continue, is_length, is_coding, length_of, most_body_bytes, body_length, counted_by, framing_one, body_framing, framing_of, with_framing, awaited_so, checked, judged};
 
 use crate::field::Field;
 use crate::head::read_head;
 use crate::item::{FramingFault, Head};
-use crate::verdict::{Awaited, Verdict};
+use crate::verdict::{Awaited, Chunked, Verdict};
 use httparse::is_space_or_tab;
 use std::alloc::{AllocError, Global};
 
@@ -114,7 +114,7 @@ fn is_number(value: &[u8]) -> bool
 /// The number that the digits write, unless it is more than a body may have.
 fn small_number(digits: &[u8]) -> Option<usize>
     requires { list_all is_ascii_digit digits.now ≡ true }
-    ensures { result ≡ (if nat_le (digits_value 10 digits.now) 4194304
+    ensures { result ≡ (if nat_le (digits_value 10 digits.now) most_body_bytes
         then Some (digits_value 10 digits.now) else None) }
 {
     let mut number: usize = 0;
@@ -152,41 +152,140 @@ fn body_length(fields: &[Field]) -> Result<usize, FramingFault>
 }
 
 /// How many bytes a body has at most.
-const MOST_BODY_BYTES: usize = 4194304;
+pub const MOST_BODY_BYTES: usize = 16_777_216;
 
-/// The first check that a head fails, or how many bytes its body has.
+/// Whether the field is an Expect field of `100-continue` (RFC 9110, section 10.1.1).
+#[tactic(auto, unfolding(crate::specs::Judge::asks_continue))]
+fn asks_continue(field: &Field) -> bool
+    ensures { result ≡ asks_continue field.now }
+{
+    is_same(field.name.as_slice(), b"expect") && is_same(field.value.as_slice(), b"100-continue")
+}
+
+fn any_asks_continue(fields: &[Field]) -> bool
+    ensures { result ≡ list_any asks_continue fields.now }
+{
+    fields.iter().any(|field| asks_continue(field))
+}
+
+/// Whether the field is a Transfer-Encoding field.
+fn is_coding(field: &Field) -> bool
+    ensures { result ≡ is_coding field.now }
+{
+    is_same(field.name.as_slice(), b"transfer-encoding")
+}
+
+fn count_codings(fields: &[Field]) -> usize
+    ensures { result ≡ count_by is_coding fields.now }
+{
+    fields.iter().filter(|field| is_coding(field)).count()
+}
+
+/// The first Transfer-Encoding field.
+fn first_coding(fields: &[Field]) -> Option<&Field>
+    ensures { option_copied result ≡ find is_coding fields.now }
+{
+    fields.iter().find(|field| is_coding(field))
+}
+
+/// How the end of a body is known (RFC 9112, section 6.3): by how many bytes it has, or by chunks, for which it is None.
+fn body_framing(minor: u8, fields: &[Field]) -> Result<Option<usize>, FramingFault>
+    ensures { framing_of result ≡ body_framing minor fields.now }
+{
+    if count_codings(fields) > 1 {
+        return Err(FramingFault::TransferCoding);
+    }
+    match first_coding(fields) {
+        None => counted(body_length(fields)),
+        Some(field) => coded(
+            is_same(field.value.as_slice(), b"chunked"),
+            forbids_chunks(minor, fields),
+        ),
+    }
+}
+
+/// The framing of a body of this length.
+fn counted(length: Result<usize, FramingFault>) -> Result<Option<usize>, FramingFault>
+    ensures { framing_of result ≡ counted_by length }
+{
+    match length {
+        Ok(length) => Ok(Some(length)),
+        Err(fault) => Err(fault),
+    }
+}
+
+/// The framing of a body in one coding: chunked or another, where chunks can come or can't.
+fn coded(is_chunked: bool, elsewhere: bool) -> Result<Option<usize>, FramingFault>
+    ensures { framing_of result ≡ framing_one is_chunked elsewhere }
+{
+    if !is_chunked {
+        return Err(FramingFault::TransferCoding);
+    }
+    if elsewhere {
+        return Err(FramingFault::BadLength);
+    }
+    Ok(None)
+}
+
+/// Whether chunks can't come: in HTTP/1.0, and beside a Content-Length field.
+fn forbids_chunks(minor: u8, fields: &[Field]) -> bool
+    ensures { result ≡ (minor == 0 || list_any is_length fields.now) }
+{
+    minor == 0 || any_length(fields)
+}
+
+fn any_length(fields: &[Field]) -> bool
+    ensures { result ≡ list_any is_length fields.now }
+{
+    fields.iter().any(|field| is_length(field))
+}
+
+/// The first check that a head fails, or how the end of its body is known.
 #[tactic(auto, unfolding(crate::specs::Judge::checked))]
-fn length_checked(head: &Head, minor: u8) -> Result<usize, FramingFault>
-    ensures { with_length head.now minor result ≡ checked head.now minor }
+fn framing_checked(head: &Head, minor: u8) -> Result<Option<usize>, FramingFault>
+    ensures { with_framing head.now minor (framing_of result) ≡ checked head.now minor }
 {
     let fields = head.fields.as_slice();
     let hosts = count_named(b"host", fields);
     if !(hosts <= 1 && (minor == 0 || hosts >= 1)) {
         return Err(FramingFault::BadHost);
     }
-    if count_named(b"transfer-encoding", fields) > 0 {
-        return Err(FramingFault::TransferCoding);
-    }
-    body_length(fields)
+    body_framing(minor, fields)
 }
 
 /// What a head comes to.
 fn checked(head: Head, minor: u8) -> Verdict
     ensures { result ≡ checked head minor }
 {
-    match length_checked(&head, minor) {
+    match framing_checked(&head, minor) {
         Err(fault) => Verdict::Refused {
             fault,
             head_only: head.method.as_slice() == b"HEAD".as_slice(),
         },
         Ok(length) => {
             let close = minor == 0 || any_asks_close(head.fields.as_slice());
-            Verdict::Taken(Awaited {
-                head,
-                close,
-                length,
-            })
+            let expects = minor != 0 && any_asks_continue(head.fields.as_slice());
+            awaited(head, close, expects, length)
         }
+    }
+}
+
+/// A request whose body is awaited, of so many bytes or in chunks.
+fn awaited(head: Head, close: bool, expects: bool, length: Option<usize>) -> Verdict
+    ensures { result ≡ awaited_so head close expects length }
+{
+    match length {
+        Some(length) => Verdict::Taken(Awaited {
+            head,
+            close,
+            expects,
+            length,
+        }),
+        None => Verdict::InChunks(Chunked {
+            head,
+            close,
+            expects,
+        }),
     }
 }
 

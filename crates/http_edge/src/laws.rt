@@ -1,5 +1,5 @@
 //! What holds of the framing, whatever the bytes.
-ghost use Rattle.std.specs.Prelude.{◌≡◌, ◌<◌, ◌≤◌, ◌^◌, ℕ, List, [], ◌∷◌, ◌++◌, length, All, Some, true, decimal, if◌then◌else◌};
+ghost use Rattle.std.specs.Prelude.{◌≡◌, ◌<◌, ◌≤◌, ◌-◌, ◌^◌, ℕ, List, [], ◌∷◌, ◌++◌, take, length, All, Some, true, decimal, codes, if◌then◌else◌};
 ghost use Rattle.std.specs.List.{list_any, list_all};
 ghost use Rattle.httparse.specs.Grammar.{LineEnd, print_end, RequestHead, IsRequestHead, print_request, ReadsRequest};
 ghost use Rattle.http_edge.specs.Block.{head_of};
@@ -9,6 +9,12 @@ ghost use Rattle.http_edge.specs.Left.{Left, part_of, body_of, is_closed, rest, 
 ghost use Rattle.http_edge.specs.declared.verdict.Awaited.{Awaited};
 ghost use Rattle.http_edge.specs.Read.{IsRead};
 ghost use Rattle.http_edge.specs.Plain.{is_line_byte};
+ghost use Rattle.http_edge.specs.Reply.{line_end};
+ghost use Rattle.http_edge.specs.Chunks.{ChunkedBody, print_body, IsChunkedBody, content_of, IsBeginning, StandsIn};
+ghost use Rattle.http_edge.specs.Places.{going, whole, broken, chunked_of};
+ghost use Rattle.http_edge.specs.declared.place.Place.{Place};
+ghost use Rattle.http_edge.specs.declared.item.FramingFault.{FramingFault};
+ghost use Rattle.http_edge.specs.declared.item.FramingFault.TheVariants.{BadChunk, TooLong};
 
 /// A second piece completes the items that it completes after what the first leaves over.
 pub fn pieces_join()
@@ -70,4 +76,31 @@ pub fn requests_are_read()
 /// The digits of a number hold no CR and no LF, so a reply's field may have them in its value.
 pub fn numbers_are_plain()
     ensures { (n : ℕ) → n < 2 ^ 64 → list_all is_line_byte (decimal n) ≡ true }
+{}
+
+/// What a chunked body reads as, on small texts.
+pub fn small_chunked_bodies()
+    ensures whole { chunked_of (codes "2" ++ line_end ++ codes "fo" ++ line_end ++ codes "1;x=y" ++ line_end ++ codes "o"
+        ++ line_end ++ codes "0" ++ line_end ++ codes "A: b" ++ line_end ++ line_end) ≡ whole (codes "foo") 28 }
+    ensures bad { chunked_of (codes "2" ++ line_end ++ codes "foo") ≡ broken BadChunk 6 }
+    ensures long { chunked_of (codes "1000001" ++ line_end) ≡ broken TooLong 9 }
+{}
+
+/// A text of the grammar of chunked bodies is read as what it brings, whatever follows it; what is read as a whole body
+/// is one of the grammar; what goes on is a beginning of one; and bytes that are refused as none are no beginning of one, while those
+/// before the last of them are.
+pub fn chunked_bodies_are_of_the_grammar()
+    ensures each { (body : ChunkedBody) (more : List ℕ) → IsChunkedBody body
+        → length (content_of body.chunks) ≤ most_body_bytes
+        → chunked_of (print_body body ++ more) ≡ whole (content_of body.chunks) (length (print_body body)) }
+    ensures long { (body : ChunkedBody) (more : List ℕ) → IsChunkedBody body
+        → most_body_bytes < length (content_of body.chunks)
+        → (n : ℕ) × (chunked_of (print_body body ++ more) ≡ broken TooLong n) }
+    ensures only { (s content : List ℕ) (n : ℕ) → chunked_of s ≡ whole content n
+        → StandsIn s content (length s - n) }
+    ensures goes { (s content : List ℕ) (place : Place) → chunked_of s ≡ going content place → IsBeginning s }
+    ensures first { (s : List ℕ) (fault : FramingFault) (n : ℕ) → chunked_of s ≡ broken fault n
+        → (chunked_of (take n s) ≡ broken fault n)
+        × ((content : List ℕ) × (place : Place) × (chunked_of (take (n - 1) s) ≡ going content place)) }
+    ensures bad { (s : List ℕ) (n : ℕ) → chunked_of s ≡ broken BadChunk n → IsBeginning s → ⊥ }
 {}

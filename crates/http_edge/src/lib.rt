@@ -16,6 +16,10 @@ mod head;
 mod judge;
 /// A connection's bytes by lines.
 mod line;
+/// Where in a chunked body the next byte stands.
+mod place;
+/// Reading a chunked body as its bytes come.
+mod chunks;
 /// What a connection goes on with.
 mod state;
 /// A connection's bytes, as they come in pieces.
@@ -30,9 +34,10 @@ mod reply;
 pub use conn::Conn;
 pub use field::{Field, Fields};
 pub use item::{FramingFault, Head, Item};
-pub use reply::{Reply, Status, render, render_into};
+pub use place::Place;
+pub use reply::{Reply, Status, continue_text, render, render_into};
 pub use reply_field::{ReplyField, ReplyFields};
-pub use verdict::Awaited;
+pub use verdict::{Awaited, Chunked};
 
 #[cfg(test)]
 mod tests;

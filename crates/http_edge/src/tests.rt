@@ -20,6 +20,7 @@ fn put_item(rt: &HostRuntime, out: &mut Vec<u8>, item: &Item) -> Result<(), Fail
             out.extend_from_slice(body.as_slice())?;
             out.extend_from_slice(if *close { b"." } else { b"+" })?;
         }
+        Item::Continue => out.extend_from_slice(b"100 ")?,
         Item::Fault { fault, head_only } => {
             let number = fault.number().to_string(rt.alloc())?;
             out.extend_from_slice(number.as_bytes())?;
@@ -108,7 +109,7 @@ fn heads_are_taken_or_refused(rt: HostRuntime) -> Result<(), Fail> {
         (b"GET / HTTP/1.0\r\nHost: a\r\n\r\n", b"GET / 1.!"),
         (b"GET / HTTP/1.0\r\nHost: a\r\nHost: a\r\n\r\n", b"20!"),
         (
-            b"HEAD / HTTP/1.1\r\nHost: g\r\nTransfer-Encoding: chunked\r\n\r\n",
+            b"HEAD / HTTP/1.1\r\nHost: g\r\nTransfer-Encoding: gzip, chunked\r\n\r\n",
             b"21h!",
         ),
         (b"GET / HTTP/1.1\r\nContent-Length: x\r\n\r\n", b"20!"),
@@ -244,6 +245,7 @@ fn a_request_has_its_parts(rt: HostRuntime) -> Result<(), Fail> {
 #[test]
 fn faults_have_their_numbers_and_words(rt: HostRuntime) -> Result<(), Fail> {
     let table = [
+        (FramingFault::BadChunk, 25, "bad chunk"),
         (FramingFault::BadHead, 19, "bad request head"),
         (FramingFault::BadHost, 20, "bad Host field"),
         (
@@ -279,8 +281,8 @@ fn lengths_are_decimal_numbers(rt: HostRuntime) -> Result<(), Fail> {
         (b"Content-Length: 00000000000000000004\r\n", b"P / 2a b +"),
         (b"Content-Length: 99999999999999999999\r\n", b"23!"),
         (b"Content-Length: 18446744073709551617\r\n", b"23!"),
-        (b"Content-Length: 4194305\r\n", b"23!"),
-        (b"Content-Length: 4194304\r\n", b""),
+        (b"Content-Length: 16777217\r\n", b"23!"),
+        (b"Content-Length: 16777216\r\n", b""),
         (b"Content-Length:\r\n", b"22!"),
         (b"Content-Length: +1\r\n", b"22!"),
         (b"Content-Length: -1\r\n", b"22!"),
@@ -292,7 +294,7 @@ fn lengths_are_decimal_numbers(rt: HostRuntime) -> Result<(), Fail> {
         (b"Content-Length: 9999999\r\ncontent-length: x\r\n", b"22!"),
         (
             b"Transfer-Encoding: chunked\r\nContent-Length: x\r\n",
-            b"21!",
+            b"22!",
         ),
         (b"A: Content-Length: 4\r\n", b"P / 2+19!"),
     ];
@@ -328,7 +330,7 @@ fn a_fault_of_a_head_request_has_no_body(rt: HostRuntime) -> Result<(), Fail> {
             b"22h!",
         ),
         (
-            b"HEAD / HTTP/1.1\r\nHost: g\r\nContent-Length: 4194305\r\n\r\n",
+            b"HEAD / HTTP/1.1\r\nHost: g\r\nContent-Length: 16777217\r\n\r\n",
             b"23h!",
         ),
         (
@@ -370,14 +372,14 @@ fn body_of(rt: &HostRuntime, text: &[u8], step: usize) -> Result<Bytes, Fail> {
 }
 
 #[test]
-fn a_body_has_4194304_bytes_at_most(rt: HostRuntime) -> Result<(), Fail> {
-    let text = put_of(&rt, 4194304)?;
-    for step in [100, 65536, 5000000] {
+fn a_body_has_16777216_bytes_at_most(rt: HostRuntime) -> Result<(), Fail> {
+    let text = put_of(&rt, 16777216)?;
+    for step in [100, 65536, 20000000] {
         let body = body_of(&rt, &text, step)?;
-        assert_eq!(rt; body.len(), 4194304, "step {step}");
+        assert_eq!(rt; body.len(), 16777216, "step {step}");
         assert!(rt; text.ends_with(body.as_slice()), "step {step}");
     }
-    let longer = put_of(&rt, 4194305)?;
+    let longer = put_of(&rt, 16777217)?;
     assert_eq!(rt; framed(&rt, &longer, 65536)?.as_slice(), b"23!".as_slice());
     Ok(())
 }
@@ -465,6 +467,224 @@ fn each_status_has_its_phrase(rt: HostRuntime) -> Result<(), Fail> {
         assert_eq!(rt;
             render(rt.alloc(), &reply, false, false)?.as_slice(),
             want.as_slice()
+        );
+    }
+    Ok(())
+}
+
+/// A PUT in chunks with these bytes after its head.
+fn in_chunks(rt: &HostRuntime, body: &[u8]) -> Result<Vec<u8>, Fail> {
+    let mut text = Vec::new(rt.alloc());
+    text.extend_from_slice(b"PUT /uri HTTP/1.1\r\nHost: g\r\nTransfer-Encoding: chunked\r\n\r\n")?;
+    text.extend_from_slice(body)?;
+    Ok(text)
+}
+
+#[test]
+fn chunked_bodies_are_taken_or_refused(rt: HostRuntime) -> Result<(), Fail> {
+    let table: [(&[u8], &[u8]); 25] = [
+        (
+            b"2\r\nfo\r\n1;x=y\r\no\r\n0\r\nA: b\r\n\r\n",
+            b"PUT /uri 2foo+",
+        ),
+        (b"0\r\n\r\n", b"PUT /uri 2+"),
+        (
+            b"000000000000000A \t\r\n0123456789\r\n0\t;\x00\r\n\r\nGET",
+            b"PUT /uri 20123456789+",
+        ),
+        (b"2\r\nfo", b""),
+        (b"2\r\nfoo", b"25!"),
+        (b"2\r\nfo\r", b""),
+        (b"2\r\nfo\n", b"25!"),
+        (b"2\r\nfo\r\r", b"25!"),
+        (b"\r", b"25!"),
+        (b";", b"25!"),
+        (b" ", b"25!"),
+        (b"g", b"25!"),
+        (b"2\n", b"25!"),
+        (b"2 2", b"25!"),
+        (b"2;\n", b"25!"),
+        (b"2;\r2", b"25!"),
+        (b"0000000000000000", b""),
+        (b"00000000000000000", b"25!"),
+        (b"1000001\r", b""),
+        (b"1000001\r\n", b"23!"),
+        (b"ffffffffffffffff\r\n", b"23!"),
+        (b"1\r\na\r\n1000000\r\n", b"23!"),
+        (b"1000000\r\n", b""),
+        (b"0\r\n\n", b"25!"),
+        (b"0\r\nA\r\n\r\r", b"25!"),
+    ];
+    for (body, want) in table {
+        let text = in_chunks(&rt, body)?;
+        assert_eq!(rt; framed(&rt, &text, 1000)?.as_slice(), want, "{body:?}");
+        assert_eq!(rt;
+            framed(&rt, &text, 1)?.as_slice(),
+            want,
+            "{body:?} by bytes"
+        );
+    }
+    Ok(())
+}
+
+#[test]
+fn a_chunked_body_is_the_same_however_it_is_cut(rt: HostRuntime) -> Result<(), Fail> {
+    let text = in_chunks(
+        &rt,
+        b"2\r\nfo\r\n1;x=y\r\no\r\n0\r\nA: b\r\n\r\n\r\nGET /b HTTP/1.1\r\nHost: g\r\n\r\n",
+    )?;
+    assert_eq!(rt; other_cut(&rt, &text, b"PUT /uri 2foo+GET /b 1+")?, None);
+    Ok(())
+}
+
+/// So many bytes of one kind between two texts.
+fn filled(
+    rt: &HostRuntime,
+    front: &[u8],
+    b: u8,
+    count: usize,
+    back: &[u8],
+) -> Result<Vec<u8>, Fail> {
+    let mut text = Vec::new(rt.alloc());
+    text.extend_from_slice(front)?;
+    for _ in 0..count {
+        text.extend_from_slice(&[b])?;
+    }
+    text.extend_from_slice(back)?;
+    Ok(text)
+}
+
+#[test]
+fn chunk_lines_and_trailers_keep_room_for_their_ends(rt: HostRuntime) -> Result<(), Fail> {
+    let table: [(&[u8], u8, usize, &[u8], &[u8]); 9] = [
+        (b"0;", b'a', 1020, b"\r\n\r\n", b"PUT /uri 2+"),
+        (b"0;", b'a', 1020, b"", b""),
+        (b"0;", b'a', 1021, b"", b"25!"),
+        (b"0", b' ', 1021, b"\r\n\r\n", b"PUT /uri 2+"),
+        (b"0", b' ', 1022, b"", b"25!"),
+        (b"0\r\n", b'a', 16380, b"\r\n\r\n", b"PUT /uri 2+"),
+        (b"0\r\n", b'a', 16380, b"", b""),
+        (b"0\r\n", b'a', 16381, b"", b"25!"),
+        (b"0\r\na\r\n", b'a', 16378, b"", b"25!"),
+    ];
+    for (front, b, count, back, want) in table {
+        let text = in_chunks(&rt, &filled(&rt, front, b, count, back)?)?;
+        assert_eq!(rt;
+            framed(&rt, &text, 1000)?.as_slice(),
+            want,
+            "{front:?} {count}"
+        );
+        assert_eq!(rt;
+            framed(&rt, &text, 1)?.as_slice(),
+            want,
+            "{front:?} {count} by bytes"
+        );
+    }
+    Ok(())
+}
+
+#[test]
+fn codings_are_chunked_alone_and_in_http_1_1(rt: HostRuntime) -> Result<(), Fail> {
+    let table: [(&[u8], &[u8]); 8] = [
+        (
+            b"PUT / HTTP/1.1\r\nHost: g\r\nTransfer-Encoding: \tCHUNKED \r\n\r\n0\r\n\r\n",
+            b"PUT / 2+",
+        ),
+        (
+            b"PUT / HTTP/1.1\r\nHost: g\r\nTransfer-Encoding: gzip, chunked\r\n\r\n",
+            b"21!",
+        ),
+        (
+            b"PUT / HTTP/1.1\r\nHost: g\r\nTransfer-Encoding: chunked\r\nTransfer-Encoding: chunked\r\n\r\n",
+            b"21!",
+        ),
+        (
+            b"PUT / HTTP/1.1\r\nHost: g\r\nTransfer-Encoding: chunked\r\nContent-Length: 1\r\n\r\n",
+            b"22!",
+        ),
+        (
+            b"PUT / HTTP/1.0\r\nTransfer-Encoding: chunked\r\n\r\n",
+            b"22!",
+        ),
+        (b"PUT / HTTP/1.0\r\nTransfer-Encoding: gzip\r\n\r\n", b"21!"),
+        (
+            b"HEAD / HTTP/1.1\r\nHost: g\r\nTransfer-Encoding: chunked\r\n\r\nx",
+            b"25h!",
+        ),
+        (
+            b"PUT / HTTP/1.1\r\nHost: g\r\nConnection: close\r\nTransfer-Encoding: chunked\r\n\r\n0\r\n\r\nG",
+            b"PUT / 3.!",
+        ),
+    ];
+    for (text, want) in table {
+        assert_eq!(rt; framed(&rt, text, 1000)?.as_slice(), want, "{text:?}");
+        assert_eq!(rt; framed(&rt, text, 1)?.as_slice(), want, "{text:?} by bytes");
+    }
+    Ok(())
+}
+
+#[test]
+fn continue_comes_as_the_head_ends(rt: HostRuntime) -> Result<(), Fail> {
+    let table: [(&[u8], &[u8]); 9] = [
+        (
+            b"PUT / HTTP/1.1\r\nHost: g\r\nExpect: 100-continue\r\nContent-Length: 3\r\n\r\n",
+            b"100 ",
+        ),
+        (
+            b"PUT / HTTP/1.1\r\nHost: g\r\nExpect: 100-continue\r\nContent-Length: 3\r\n\r\nfoo",
+            b"100 PUT / 3foo+",
+        ),
+        (
+            b"PUT / HTTP/1.1\r\nHost: g\r\nExpect: \t100-CONTINUE\r\nTransfer-Encoding: chunked\r\n\r\n0\r\n\r\n",
+            b"100 PUT / 3+",
+        ),
+        (
+            b"PUT / HTTP/1.1\r\nHost: g\r\nExpect: x\r\nExpect: 100-continue\r\nTransfer-Encoding: chunked\r\n\r\nx",
+            b"100 25!",
+        ),
+        (
+            b"PUT / HTTP/1.1\r\nHost: g\r\nExpect: 100-continue\r\nContent-Length: 0\r\n\r\n",
+            b"PUT / 3+",
+        ),
+        (
+            b"PUT / HTTP/1.1\r\nHost: g\r\nExpect: 100-continue\r\n\r\n",
+            b"PUT / 2+",
+        ),
+        (
+            b"PUT / HTTP/1.1\r\nHost: g\r\nExpect: 100-continue, x\r\nContent-Length: 1\r\n\r\nf",
+            b"PUT / 3f+",
+        ),
+        (
+            b"PUT / HTTP/1.0\r\nExpect: 100-continue\r\nContent-Length: 1\r\n\r\nf",
+            b"PUT / 2f.!",
+        ),
+        (
+            b"PUT / HTTP/1.1\r\nHost: g\r\nExpect: 100-continue\r\nContent-Length: 16777217\r\n\r\n",
+            b"23!",
+        ),
+    ];
+    for (text, want) in table {
+        assert_eq!(rt; framed(&rt, text, 1000)?.as_slice(), want, "{text:?}");
+        assert_eq!(rt; framed(&rt, text, 1)?.as_slice(), want, "{text:?} by bytes");
+    }
+    Ok(())
+}
+
+#[test]
+fn a_long_body_may_come_in_chunks(rt: HostRuntime) -> Result<(), Fail> {
+    let want = counted_bytes(rt.alloc(), 200000)?;
+    let mut body = Vec::new(rt.alloc());
+    for chunk in want.as_slice().chunks(5000) {
+        body.extend_from_slice(b"1388;a=b\r\n")?;
+        body.extend_from_slice(chunk)?;
+        body.extend_from_slice(b"\r\n")?;
+    }
+    body.extend_from_slice(b"0\r\n\r\n")?;
+    let text = in_chunks(&rt, &body)?;
+    for step in [1, 999, 5000, 1000000] {
+        assert!(rt;
+            body_of(&rt, &text, step)?.as_slice() == want.as_slice(),
+            "step {step}"
         );
     }
     Ok(())

@@ -196,7 +196,7 @@ fn a_body_over_the_limit_is_refused(rt: HostRuntime) -> Result<(), AllocError> {
         &[
             Step::Sends(
                 "1",
-                b"PUT /uri HTTP/1.1\r\nHost: g\r\nContent-Length: 4194305\r\n\r\n",
+                b"PUT /uri HTTP/1.1\r\nHost: g\r\nContent-Length: 16777217\r\n\r\n",
             ),
             Step::Gives(
                 "1",
@@ -251,6 +251,64 @@ fn the_grid_is_lost_from_spoiled_and_imaged(rt: HostRuntime) -> Result<(), Alloc
             ),
         ],
     )
+}
+
+/// The cap of the 56 letters under the secret `my secret`.
+const SECRET: &str =
+    "URI:CHK:473yf745w2oqknfhruyvbs2ige:hxoqjsty2fr5psr6vjrd6gwsu5xezezqrwnypmdlucnwsy65uyyq:3:10:56";
+
+#[test]
+fn callers_have_secrets_of_their_own(rt: HostRuntime) -> Result<(), AllocError> {
+    holds(
+        &rt,
+        &[
+            Step::Line("grid 3 10 1 1000000 nv4sa43fmnzgk5a", "ok"),
+            Step::Line("open 1 -", "ok"),
+            Step::Line("open 2", "ok"),
+            Step::Line("open 3 nv4sa43fmnzgk5a", "ok"),
+            Step::Line("open 3 -", "fault 1 Known"),
+            Step::Puts("1", "56", A56),
+            Step::GivesCap("1", "95", SMALL),
+            Step::Puts("2", "56", A56),
+            Step::GivesCap("2", "95", SECRET),
+            Step::Puts("3", "56", A56),
+            Step::GivesCap("3", "95", SECRET),
+            Step::Gets("1", SECRET),
+            Step::GivesFile("1", "56", A56),
+            Step::Gets("2", SMALL),
+            Step::GivesFile("2", "56", A56),
+        ],
+    )
+}
+
+#[test]
+fn a_secret_that_is_no_base32_is_a_bad_line(rt: HostRuntime) -> Result<(), AllocError> {
+    for line in [
+        b"open 1 MY".as_slice(),
+        b"open 1 ",
+        b"open 1 my my",
+        b"open 1 my ",
+        b"open 1 mz",
+    ] {
+        let script = joined(rt.alloc(), &[GRID, line, b"\n"])?;
+        let (answers, fault) = ran(rt.alloc(), &script);
+        assert_eq!(rt; answers.as_slice(), b"ok\n".as_slice());
+        assert_eq!(rt; fault, Some(ScriptFault::BadLine(2)));
+    }
+    Ok(())
+}
+
+#[test]
+fn a_secret_that_is_too_long_is_refused(rt: HostRuntime) -> Result<(), AllocError> {
+    let word = [b'a'; 412];
+    let script = joined(rt.alloc(), &[GRID, b"open 1 ", &word, b"\nopen 1\n"])?;
+    let (answers, fault) = ran(rt.alloc(), &script);
+    assert_eq!(rt;
+        answers.as_slice(),
+        b"ok\nfault 5 BadParameters\nok\n".as_slice()
+    );
+    assert_eq!(rt; fault, None);
+    Ok(())
 }
 
 #[test]

@@ -1,0 +1,48 @@
+#!/usr/bin/env bash
+# What a change of these crates asks for: their proofs, tests and edits, and the proofs of the crates above them.
+# usage: bench/check.sh NAME..
+set -euo pipefail
+cd "$(dirname "${BASH_SOURCE[0]}")/.."
+test $# -gt 0 || {
+    echo 'usage: bench/check.sh NAME..' >&2
+    exit 2
+}
+for name in "$@"; do
+    grep -q "^$name:" crates.txt || {
+        echo "check.sh: no crate $name" >&2
+        exit 2
+    }
+done
+
+# The crates that stand on these, lowest first: crates.txt lists each after those below it.
+above=" $* "
+while IFS=: read -r name below; do
+    for low in $below; do
+        case $above in
+        *" $name "*) ;;
+        *" $low "*) above="$above$name " ;;
+        esac
+    done
+done < crates.txt
+
+timed() {
+    local began=$SECONDS
+    "$@" > "$log" 2>&1 || {
+        cat "$log"
+        echo "check.sh: failed: $*" >&2
+        exit 1
+    }
+    echo "$((SECONDS - began)) seconds: ${PWD##*/}: $*"
+}
+log=$(mktemp)
+trap 'rm -f "$log"' EXIT
+for name in "$@"; do
+    (cd "crates/$name" && timed rt check && timed rt test)
+done
+for name in $above; do
+    case " $* " in
+    *" $name "*) ;;
+    *) (cd "crates/$name" && timed rt check) ;;
+    esac
+done
+timed bench/edits.sh "$@"
