@@ -20,6 +20,8 @@ mod pairs;
 mod premises;
 /// Callers with secrets of their own.
 mod secrets;
+/// Images of both versions.
+mod images;
 
 /// A file of 56 bytes, the request that puts it, and its cap.
 const LETTERS: &[u8] = &[b'a'; 56];
@@ -528,8 +530,8 @@ const MODELLED: &[Modelled] = &[
         secret: b"",
         size: 200_000,
         cap: b"URI:CHK:cpgmyfu7y4nqyhvkcqfcsmnqvq:cvffjve3vt7bw5r2bn4fpzm22wnb5vsv7pduk635eeclhal7bo5q:3:10:200000",
-        length: 671_146,
-        digest: "f180571a72e7571f5b6aff51ee7d2a0e88c395a3a283cc7c58188aca782b6aac",
+        length: 671_190,
+        digest: "ab9776aa598eedd81c06de8ee7011c5036237d462ab1c039bd44074bff58213b",
     },
     Modelled {
         k: 2,
@@ -537,8 +539,8 @@ const MODELLED: &[Modelled] = &[
         secret: b"",
         size: 131_072,
         cap: b"URI:CHK:auell3t4pryl253e3crbkmgyy4:twubx3e2fsnfxgkltkm5drbypet25vwlsvyp5kpuoljg6zg7dolq:2:3:131072",
-        length: 197_668,
-        digest: "321d622d2cd5e370ed6d0d4cb6cec2befe8f43773fbe844e3797ced4f0ac96f9",
+        length: 197_684,
+        digest: "48c94bab119eac142c9372fbc458d4014e55d11a2dd2ec5d6e76452c20e0c5b2",
     },
     Modelled {
         k: 5,
@@ -546,8 +548,8 @@ const MODELLED: &[Modelled] = &[
         secret: b"",
         size: 131_073,
         cap: b"URI:CHK:ouzpavphkuf4inb65zbhmbkgqe:en4ef4l7kl43jtlrdo2dgqdiavtbejxtendczaq6cdsg2v7zrapa:5:7:131073",
-        length: 186_181,
-        digest: "c65d33476defda1fd78d8fca518365c85afa7b0ec4b061633ea27675e783cd30",
+        length: 186_213,
+        digest: "d8b798706c71ad3ecbf41e6a9cc56951b7e47913ff1705f467664fa3e03cc104",
     },
     Modelled {
         k: 16,
@@ -555,8 +557,8 @@ const MODELLED: &[Modelled] = &[
         secret: &[b'x'; 256],
         size: 1_000,
         cap: b"URI:CHK:ihadm6ksrqypulcatualjjislu:25hkuovfgh7qj5gg2qdsbvku654xkhpedtfmmmlmal36xgellmpq:16:40:1000",
-        length: 21_446,
-        digest: "8a7349fee8625785ec2533cae7e01d853daa2d3e0b4c42aaad6985ccb1c2c759",
+        length: 21_610,
+        digest: "489998e37695480e03d2502cfdec42fa2d58384a049703f0f346c56ca2116efb",
     },
     Modelled {
         k: 256,
@@ -564,8 +566,8 @@ const MODELLED: &[Modelled] = &[
         secret: b"",
         size: 300,
         cap: b"URI:CHK:5lu7bozjl6xcmydqjy5fylcvzi:ctu4zlqu777mn7jepxmlv6s5ai6dvljsqvgucm2wiwc6mwua4j5a:256:256:300",
-        length: 137_890,
-        digest: "9f5a8656e45e0b7de9c3f866d667e124992cbc6a3070a6b5fb0faf23bebac909",
+        length: 138_918,
+        digest: "59a238688aad9af0da0e1a03074a5cc867f4de2d6c8fb09e4e8126e68e088646",
     },
 ];
 

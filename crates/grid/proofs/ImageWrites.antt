@@ -86,8 +86,8 @@ passed_cause (Ok x) error cause same is = absurd same
 passed_cause (Err e) error cause same is = let named : e ≡ cause = cc in sym same ∙ named
 
 -- where the shares are few enough
-pub place_in_fields : (rows : List Row) (place : Option ℕ) → length rows < 2 ^ 32 → refused_field 16 rows ≡ place → refused_place rows ≡ place
-place_in_fields rows place few is = let tested : nat_lt (length rows) (2 ^ 32) ≡ true = lt-ltb (length rows) (2 ^ 32) few in ap (λ t. if t then refused_field 16 rows else Some 12) tested ∙ is
+pub place_in_fields : (rows : List Row) (place : Option ℕ) → length rows < 2 ^ 64 → refused_field 20 rows ≡ place → refused_place rows ≡ place
+place_in_fields rows place few is = let tested : nat_lt (length rows) (2 ^ 64) ≡ true = lt-ltb (length rows) (2 ^ 64) few in ap (λ t. if t then refused_field 20 rows else Some 12) tested ∙ is
 
 -- what holds of each element so far, and of the next, holds of one more
 pub one_more : {A : Type 0} (P : A → Type 0) (xs : List A) (i : ℕ) (x : A) → slice_get xs i ≡ Some x → ((k : ℕ) (d : A) → k < i → P (get_or xs k d)) → P x → (k : ℕ) (d : A) → k < i + 1 → P (get_or xs k d)
@@ -97,10 +97,10 @@ one_more P xs i x at before here k d lt = by_case (grind arith)
     by_case (inl less) = before k d less
     by_case (inr same) = subst P (sym (ap (λ j. get_or xs j d) same ∙ get_or_from_slice_get xs i x d at)) here
 
--- what follows from two facts of a call that was not refused
-pub ok_both : {T E : Type 0} (result : Result T E) (P Q R : Type 0) → OnOk result P → OnOk result Q → (P → Q → R) → OnOk result R
-ok_both (Ok x) P Q R p q f = f p q
-ok_both (Err e) P Q R p q f = tt
+-- what follows from three facts of a call that was not refused
+pub ok_all : {T E : Type 0} (result : Result T E) (P Q R S : Type 0) → OnOk result P → OnOk result Q → OnOk result R → (P → Q → R → S) → OnOk result S
+ok_all (Ok x) P Q R S p q r f = f p q r
+ok_all (Err e) P Q R S p q r f = tt
 
 -- what follows of an answer's clause
 pub ok_then : {T E : Type 0} (r : Result T E) (P Q : Type 0) → (P → Q) → OnOk r P → OnOk r Q

@@ -8,6 +8,7 @@ pub mod ImageReads
 pub mod ImageRuns
 pub mod ImageSteps
 pub mod ImageWrites
+pub mod Layouts
 pub mod Missing
 pub mod Puts
 pub mod ReadBack

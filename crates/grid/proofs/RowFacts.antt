@@ -1,5 +1,5 @@
 -- What holds of the rows of maps.
-use Rattle.std.proofs.Common.{◌≡◌, ◌⊎◌, inl, inr, ◌<◌, ◌≤◌, ◌+◌, ◌^◌, ℕ, zero, suc, List, [], ◌∷◌, ◌++◌, length, map, All, Option, Some, None, Bool, true, false, ◌&&◌, ◌==◌, nat_lt, if◌then◌else◌, slice_get, refl, sym, ap, subst, ◌∙◌, arith, append-nil}
+use Rattle.std.proofs.Common.{◌≡◌, ◌⊎◌, inl, inr, ◌<◌, ◌≤◌, ◌+◌, ◌^◌, ℕ, zero, suc, List, [], ◌∷◌, ◌++◌, length, map, All, Option, Some, None, Bool, true, false, ◌&&◌, ◌==◌, if◌then◌else◌, slice_get, refl, sym, ap, subst, ◌∙◌, arith, append-nil}
 use Rattle.std.proofs.lemmas.Bool.{lt-ltb, le-ltb}
 use Rattle.std.proofs.lemmas.Bool.Decides.{nat_tests}
 use Rattle.std.specs.Option.{option_map_or}
@@ -14,7 +14,9 @@ use Rattle.grid.specs.Found.{entries_at}
 use Rattle.grid.specs.Rows.{Row, rows_below, rows_of}
 use Rattle.grid.specs.RowOrder.{RowKey, row_key, comes_after, in_order}
 use Rattle.grid.specs.ImageLaws.{IsInRange, CanBeWritten}
+use Rattle.grid.specs.Layout.{front, row_front}
 use Rattle.grid.specs.Image.{refused_field, refused_place}
+use Rattle.grid.specs.declared.image_layout.Layout.TheVariants.{VersionTwo}
 use Rattle.grid.proofs.Entries.{left, right, is_true}
 
 -- ---- in order
@@ -129,49 +131,39 @@ below_all_rows P maps (suc n) each =
     (rows_impl (λ row. (row.0 < n) × P row.1) (λ row. (row.0 < suc n) × P row.1) (rows_below maps n) (λ row h. (omega (arith, h.0), h.1)) (below_all_rows P maps n each))
     (here_below P n (entries_at maps n) (each n))
 
--- the fields of rows none of which passes its range
-fields_fit : (place : ℕ) (rows : List Row) → refused_field place rows ≡ None → AllRows (λ row. (row.1.0.1 < 256) × (length row.1.1 < 2 ^ 32)) rows
-fields_fit place [] none = tt
-fields_fit place (row ∷ rows) none = by_case (grind arith) (grind arith) (fields_fit (place + 28 + length row.1.1) rows)
+-- the numbers of rows none of which passes its range
+numbers_fit : (place : ℕ) (rows : List Row) → refused_field place rows ≡ None → AllRows (λ row. row.1.0.1 < 256) rows
+numbers_fit place [] none = tt
+numbers_fit place (row ∷ rows) none = by_case (grind arith) (numbers_fit (place + row_front VersionTwo + length row.1.1) rows)
   where
-    by_case : (row.1.0.1 < 256) ⊎ (256 ≤ row.1.0.1) → (length row.1.1 < 2 ^ 32) ⊎ (2 ^ 32 ≤ length row.1.1)
-        → (refused_field (place + 28 + length row.1.1) rows ≡ None → AllRows (λ r. (r.1.0.1 < 256) × (length r.1.1 < 2 ^ 32)) rows) → AllRows (λ r. (r.1.0.1 < 256) × (length r.1.1 < 2 ^ 32)) (row ∷ rows)
-    by_case (inl a) (inl b) rest =
-        let here : (if nat_lt row.1.0.1 256 then (if nat_lt (length row.1.1) (2 ^ 32) then refused_field (place + 28 + length row.1.1) rows else Some (place + 24)) else Some (place + 20)) ≡ refused_field (place + 28 + length row.1.1) rows =
-        rw (lt-ltb row.1.0.1 256 a, lt-ltb (length row.1.1) (2 ^ 32) b) refl in
-        ((a, b), rest (sym here ∙ none))
-    by_case (inl a) (inr b) rest =
-        let here : (if nat_lt row.1.0.1 256 then (if nat_lt (length row.1.1) (2 ^ 32) then refused_field (place + 28 + length row.1.1) rows else Some (place + 24)) else Some (place + 20)) ≡ Some (place + 24) =
-        rw (lt-ltb row.1.0.1 256 a, le-ltb (length row.1.1) (2 ^ 32) b) refl in
-        let no = sym here ∙ none in cc
-    by_case (inr a) b rest =
-        let here : (if nat_lt row.1.0.1 256 then (if nat_lt (length row.1.1) (2 ^ 32) then refused_field (place + 28 + length row.1.1) rows else Some (place + 24)) else Some (place + 20)) ≡ Some (place + 20) =
-        rw (le-ltb row.1.0.1 256 a) refl in
-        let no = sym here ∙ none in cc
+    by_case : (row.1.0.1 < 256) ⊎ (256 ≤ row.1.0.1) → (refused_field (place + row_front VersionTwo + length row.1.1) rows ≡ None → AllRows (λ r. r.1.0.1 < 256) rows) → AllRows (λ r. r.1.0.1 < 256) (row ∷ rows)
+    by_case (inl a) rest = (a, rest (sym (ap (λ b. if b then refused_field (place + row_front VersionTwo + length row.1.1) rows else Some (place + 20)) (lt-ltb row.1.0.1 256 a)) ∙ none))
+    by_case (inr a) rest = let no = sym (ap (λ b. if b then refused_field (place + row_front VersionTwo + length row.1.1) rows else Some (place + 20)) (le-ltb row.1.0.1 256 a)) ∙ none in cc
 
-count_fits : (rows : List Row) → refused_place rows ≡ None → (length rows < 2 ^ 32) × (refused_field 16 rows ≡ None)
+count_fits : (rows : List Row) → refused_place rows ≡ None → (length rows < 2 ^ 64) × (refused_field (front VersionTwo) rows ≡ None)
 count_fits rows none = by_case (grind arith)
   where
-    by_case : (length rows < 2 ^ 32) ⊎ (2 ^ 32 ≤ length rows) → (length rows < 2 ^ 32) × (refused_field 16 rows ≡ None)
-    by_case (inl few) = (few, sym (ap (λ b. if b then refused_field 16 rows else Some 12) (lt-ltb (length rows) (2 ^ 32) few)) ∙ none)
-    by_case (inr many) = let no = sym (ap (λ b. if b then refused_field 16 rows else Some 12) (le-ltb (length rows) (2 ^ 32) many)) ∙ none in cc
+    by_case : (length rows < 2 ^ 64) ⊎ (2 ^ 64 ≤ length rows) → (length rows < 2 ^ 64) × (refused_field (front VersionTwo) rows ≡ None)
+    by_case (inl few) = (few, sym (ap (λ b. if b then refused_field (front VersionTwo) rows else Some 12) (lt-ltb (length rows) (2 ^ 64) few)) ∙ none)
+    by_case (inr many) = let no = sym (ap (λ b. if b then refused_field (front VersionTwo) rows else Some 12) (le-ltb (length rows) (2 ^ 64) many)) ∙ none in cc
 
-joined_facts : (servers : ℕ) (rows : List Row) → AllRows (λ row. (row.0 < servers) × (0 < length row.1.1)) rows → AllRows (λ row. (row.1.0.1 < 256) × (length row.1.1 < 2 ^ 32)) rows
-    → AllRows (λ row. length row.1.0.0 ≡ 16) rows → AllRows (IsInRange servers) rows
-joined_facts servers [] a b c = tt
-joined_facts servers (row ∷ rows) a b c = (record { server = a.0.0; index = c.0; number = b.0.0; some = a.0.1; short = b.0.1 }, joined_facts servers rows a.1 b.1 c.1)
+joined_facts : (servers : ℕ) (rows : List Row) → AllRows (λ row. (row.0 < servers) × (0 < length row.1.1)) rows → AllRows (λ row. row.1.0.1 < 256) rows → AllRows (λ row. length row.1.0.0 ≡ 16) rows
+    → AllRows (λ row. length row.1.1 < 2 ^ 64) rows → AllRows (IsInRange VersionTwo servers) rows
+joined_facts servers [] a b c d = tt
+joined_facts servers (row ∷ rows) a b c d = (record { server = a.0.0; index = c.0; number = b.0; some = a.0.1; short = d.0 }, joined_facts servers rows a.1 b.1 c.1 d.1)
 
 -- the rows of maps none of which passes a range
 pub can_be_written : (maps : List Shares) (servers : ℕ) → length maps ≡ servers → servers < 2 ^ 32 → refused_place (rows_of maps) ≡ None → All (λ row. length row.1.0.0 ≡ 16) (rows_of maps)
-    → ((s : ℕ) → All (λ e. 0 < length e.1) (entries_at maps s)) → CanBeWritten servers (rows_of maps)
-can_be_written maps servers same fits none sized some =
+    → All (λ row. length row.1.1 < 2 ^ 64) (rows_of maps) → ((s : ℕ) → All (λ e. 0 < length e.1) (entries_at maps s)) → CanBeWritten VersionTwo servers (rows_of maps)
+can_be_written maps servers same fits none sized short some =
     let counted = count_fits (rows_of maps) none in
     let placed = subst (λ n. AllRows (λ row. (row.0 < n) × (0 < length row.1.1)) (rows_of maps)) same (below_all_rows (λ e. 0 < length e.1) maps (length maps) some) in
     record {
       servers_fit = fits;
       few = counted.0;
-      in_range = all_from (IsInRange servers) (rows_of maps)
-          (joined_facts servers (rows_of maps) placed (fields_fit 16 (rows_of maps) counted.1) (rows_from (λ row. length row.1.0.0 ≡ 16) (rows_of maps) sized));
+      in_range = all_from (IsInRange VersionTwo servers) (rows_of maps)
+          (joined_facts servers (rows_of maps) placed (numbers_fit (front VersionTwo) (rows_of maps) counted.1) (rows_from (λ row. length row.1.0.0 ≡ 16) (rows_of maps) sized)
+          (rows_from (λ row. length row.1.1 < 2 ^ 64) (rows_of maps) short));
       ordered = rows_ordered maps;
     }
 

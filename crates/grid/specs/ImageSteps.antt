@@ -3,17 +3,19 @@ use Rattle.std.specs.Prelude.{◌≡◌, ◌<◌, ℕ, suc, ◌+◌, List, [], �
 use Rattle.std.specs.Io.KnownBytes.{IsAtEnd}
 use Rattle.grid.specs.Rows.{Row}
 use Rattle.grid.specs.RowOrder.{RowKey}
+use Rattle.grid.specs.Layout.{row_front}
 use Rattle.grid.specs.ImageHeads.{head_key}
 use Rattle.grid.specs.ImageReading.{Reading, rows_said, preceded, said_row}
 use Rattle.grid.specs.declared.fault.GridFault.{GridFault}
 use Rattle.grid.specs.declared.fault.GridFault.TheVariants.{Full, BadImage}
 use Rattle.grid.specs.declared.image_fields.RowHead.{RowHead}
+use Rattle.grid.specs.declared.image_layout.Layout.{Layout}
 
 -- the bytes say this row first, and the reader has those after it
-pub record SaysRow (servers : ℕ) (last : Option RowKey) (place : ℕ) (bytes : List ℕ) (after : Option (List ℕ)) (head : RowHead) (own : List ℕ) : Type 0 where
+pub record SaysRow (layout : Layout) (servers : ℕ) (last : Option RowKey) (place : ℕ) (bytes : List ℕ) (after : Option (List ℕ)) (head : RowHead) (own : List ℕ) : Type 0 where
   pub rest : List ℕ
   pub told : after ≡ Some rest
-  pub says : (n : ℕ) → rows_said (suc n) servers last place bytes ≡ preceded (said_row head own ∷ []) (rows_said n servers (Some (head_key head)) (place + 28 + head.length) rest)
+  pub says : (n : ℕ) → rows_said layout (suc n) servers last place bytes ≡ preceded (said_row head own ∷ []) (rows_said layout n servers (Some (head_key head)) (place + row_front layout + head.length) rest)
 
 -- A row was refused: it is of this server, its share is longer than this room, and where the stores were empty and
 -- honest (`good`) the rows before it are held.

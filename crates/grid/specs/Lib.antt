@@ -10,6 +10,7 @@ pub mod ImageHeads
 pub mod ImageLaws
 pub mod ImageReading
 pub mod ImageSteps
+pub mod Layout
 pub mod Leaves
 pub mod NewBytes
 pub mod OneStore

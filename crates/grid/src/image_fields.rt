@@ -1,8 +1,10 @@
 //! The fields of an image.
-ghost use Rattle.std.specs.Prelude.{◌≡◌, ◌<◌, ◌≤◌, ◌+◌, length, take, drop, true, IfOk, IfErr};
+ghost use Rattle.std.specs.Prelude.{◌≡◌, ◌<◌, ◌≤◌, length, take, drop, true, IfOk, IfErr};
 ghost use Rattle.std.specs.Option.{option_map};
-ghost use Rattle.grid.specs.ImageHeads.{number_at as number_said, head_key, shares_said, head_said};
+ghost use Rattle.grid.specs.ImageHeads.{head_key, shares_said, head_said};
 ghost use Rattle.grid.specs.RowOrder.{comes_after as is_after};
+
+use crate::image_layout::{Layout, number_at};
 
 /// What stands before a share's bytes.
 #[derive(Clone, Copy)]
@@ -14,30 +16,32 @@ pub struct RowHead {
     /// The share's number.
     pub number: u16,
     /// How many bytes the share has.
-    pub length: u32,
+    pub length: u64,
 }
 
-/// How many shares an image says that it has, or the place of its first fault, where these are its first 16 bytes or
-/// all that there are.
-pub fn shares_in(bytes: &[u8], servers: usize) -> Result<u32, u64>
-    ensures { result ≡ shares_said servers bytes.now }
+/// How many shares an image says that it has, or the place of its first fault, where these are the bytes between its
+/// name and its shares or all that there are.
+pub fn shares_in(layout: Layout, bytes: &[u8], servers: usize) -> Result<u64, u64>
+    ensures { result ≡ shares_said layout servers bytes.now }
 {
-    if !bytes.starts_with(b"TGRIDIM1") {
-        return Err(0);
-    }
-    if bytes.len() < 12 || number_at(bytes, 8) as usize != servers {
+    if bytes.len() < 4 || number_at(bytes, 0) as usize != servers {
         return Err(8);
     }
-    if bytes.len() < 16 {
+    if bytes.len() < 4 + layout.wide() {
         return Err(12);
     }
-    Ok(number_at(bytes, 12))
+    Ok(layout.count_at(bytes, 4))
 }
 
-/// What stands before a share's bytes, or the place there of the first fault, where these are its 28 bytes or all that
-/// there are, after the row that is given.
-pub fn head_in(bytes: &[u8], servers: usize, last: &Option<RowHead>) -> Result<RowHead, u64>
-    ensures said { result ≡ head_said servers (option_map head_key last.now) bytes.now }
+/// What stands before a share's bytes, or the place there of the first fault, where these are the bytes before its own
+/// or all that there are, after the row that is given.
+pub fn head_in(
+    layout: Layout,
+    bytes: &[u8],
+    servers: usize,
+    last: &Option<RowHead>,
+) -> Result<RowHead, u64>
+    ensures said { result ≡ head_said layout servers (option_map head_key last.now) bytes.now }
     ensures offset { IfErr result (λ offset. offset ≤ 24) }
     ensures server { IfOk result (λ head. head.server < servers) }
     ensures after { IfOk result (λ head.
@@ -65,10 +69,10 @@ pub fn head_in(bytes: &[u8], servers: usize, last: &Option<RowHead>) -> Result<R
     if number > 255 {
         return Err(20);
     }
-    if bytes.len() < 28 {
+    if bytes.len() < 24 + layout.wide() {
         return Err(24);
     }
-    let length = number_at(bytes, 24);
+    let length = layout.count_at(bytes, 24);
     if length == 0 {
         return Err(24);
     }
@@ -102,14 +106,4 @@ fn index_in(bytes: &[u8]) -> [u8; 16]
     let mut index = [0; 16];
     index.copy_from_slice(&bytes[4..20]);
     index
-}
-
-/// The number in the four bytes at a place.
-fn number_at(bytes: &[u8], at: usize) -> u32
-    requires { at + 4 ≤ length bytes.now }
-    ensures { result ≡ number_said bytes.now at }
-{
-    let mut four = [0; 4];
-    four.copy_from_slice(&bytes[at..at + 4]);
-    u32::from_be_bytes(four)
 }

@@ -10,10 +10,12 @@ ghost use Rattle.grid.specs.Rows.{rows_of};
 ghost use Rattle.grid.specs.Refusals.{IsReaderRefusal, IsPartRefusal, IsPutRefusal, IsReadRefusal};
 ghost use Rattle.grid.specs.RowOrder.{comes_after, AllBefore};
 ghost use Rattle.grid.specs.ImageHeads.{head_key};
-ghost use Rattle.grid.specs.ImageReading.{image_said, rows_said, said_row, stopped};
+ghost use Rattle.grid.specs.Layout.{front as front_size, row_front as row_front_size};
+ghost use Rattle.grid.specs.ImageReading.{image_said, said_in, rows_said, said_row, stopped};
 ghost use Rattle.grid.specs.ImageSteps.{SaysRow, Reads, RefusesRow, AreFirst};
 
 use crate::image_fields::{RowHead, head_in, shares_in};
+use crate::image_layout::Layout;
 use crate::image_writer::CALL_LIMIT;
 use crate::{Grid, GridFault};
 use share_store::Store;
@@ -26,14 +28,15 @@ const PIECE: usize = 65_536;
 
 impl<S: Store> Grid<S> {
     /// A grid of these stores, 1 to 256 that hold nothing, with the shares of an image, which is read up to the end of
-    /// the reader's bytes. An image is what [`Grid::write_image`] writes; its number of servers has to be that of the
-    /// stores, and its shares stand in strictly rising order of server, storage index and number.
+    /// the reader's bytes. An image is what [`Grid::write_image`] writes, which is version 2, or the same in version 1: with
+    /// `TGRIDIM1` in front, and four bytes for the number of shares and for each length. Its number of servers has to be
+    /// that of the stores, and its shares stand in strictly rising order of server, storage index and number.
     ///
     /// A share is put once it was wholly read, and memory is asked for as its bytes come. Refused, where there is no
     /// grid and the stores are handed back with the shares that were put:
     /// - [`GridFault::BadImage`] at the image's first fault, with its place in bytes from 0: that of the first field
     ///   that is cut off, out of its range or out of order (for a share that is, of its server), or of the first byte
-    ///   too many;
+    ///   too many; 0 where its first 8 bytes name neither version;
     /// - [`GridFault::Full`] where a share is longer than the room of its server's store;
     /// - [`GridFault::Down`] exactly when that server's store failed;
     /// - [`GridFault::ReadFailed`] where the reader failed, or after 2^40 calls of it, or where the image has more bytes
@@ -108,10 +111,36 @@ impl<S: Store> Grid<S> {
             (rows_of (maps_of self.new)) (R.remaining reader.new)) }
     {
         let mut calls = CALL_LIMIT;
-        let mut front = [0; 16];
-        let came = fill(reader, &mut calls, &mut front)?;
-        match shares_in(&front[..came], self.servers()) {
-            Ok(count) => self.take_rows(alloc, reader, &mut calls, count),
+        let mut name = [0; 8];
+        let came = fill(reader, &mut calls, &mut name)?;
+        match Layout::named(&name[..came]) {
+            Some(layout) => self.take_shares(alloc, reader, &mut calls, layout),
+            None => Err(GridFault::BadImage(0)),
+        }
+    }
+
+    /// Takes the shares of an image whose name was read into its stores, which are empty.
+    fn take_shares<R: Read>(
+        &mut self,
+        alloc: Global,
+        reader: &mut R,
+        calls: &mut u64,
+        layout: Layout,
+    ) -> Result<(), GridFault>
+        ensures leaves { Leaves self.old self.new }
+        ensures down { TellsDown self.old self.new result }
+        ensures refusals { IfErr result IsReadRefusal }
+        ensures reads { IfSome (R.remaining reader.old) (λ bytes.
+            Reads (said_in layout (length_of self.old) bytes) result
+            (room_at self.new)
+            (IsHonest self.old × (rows_of (maps_of self.old) ≡ []))
+            (rows_of (maps_of self.new)) (R.remaining reader.new)) }
+    {
+        let mut buffer = [0; 12];
+        let front = &mut buffer[..4 + layout.wide()];
+        let came = fill(reader, calls, front)?;
+        match shares_in(layout, &front[..came], self.servers()) {
+            Ok(count) => self.take_rows(alloc, reader, calls, layout, count),
             Err(place) => Err(GridFault::BadImage(place)),
         }
     }
@@ -122,22 +151,23 @@ impl<S: Store> Grid<S> {
         alloc: Global,
         reader: &mut R,
         calls: &mut u64,
-        count: u32,
+        layout: Layout,
+        count: u64,
     ) -> Result<(), GridFault>
         ensures leaves { Leaves self.old self.new }
         ensures down { TellsDown self.old self.new result }
         ensures refusals { IfErr result IsReadRefusal }
         ensures reads { IfSome (R.remaining reader.old) (λ bytes.
-            Reads (rows_said count (length_of self.old) None 16 bytes) result
+            Reads (rows_said layout count (length_of self.old) None (front_size layout) bytes) result
             (room_at self.new)
             (IsHonest self.old × (rows_of (maps_of self.old) ≡ []))
             (rows_of (maps_of self.new)) (R.remaining reader.new)) }
     {
         let servers = self.servers();
-        let mut place = 16;
+        let mut place = 12 + layout.wide() as u64;
         let mut last = None;
         for done in 0..count {
-            let row = read_row(alloc, reader, calls, servers, &last, place)?;
+            let row = read_row(alloc, reader, calls, layout, servers, &last, place)?;
             place = row.next;
             last = Some(row.head);
             let _put = self.put_row(row.head, row.bytes)?;
@@ -179,6 +209,7 @@ fn read_row<R: Read>(
     alloc: Global,
     reader: &mut R,
     calls: &mut u64,
+    layout: Layout,
     servers: usize,
     last: &Option<RowHead>,
     place: u64,
@@ -189,28 +220,32 @@ fn read_row<R: Read>(
         comes_after (option_map head_key last.now) (head_key row.head) ≡ true) }
     ensures length { IfOk result (λ row. length_of (rc_slice_items row.bytes) ≡ row.head.length) }
     ensures some { IfOk result (λ row. 0 < row.head.length) }
-    ensures next { IfOk result (λ row. row.next ≡ place + 28 + row.head.length) }
+    ensures next { IfOk result (λ row. row.next ≡ place + row_front_size layout + row.head.length) }
     ensures told { IfOk result (λ row. IfSome (R.remaining reader.old)
-        (λ left. SaysRow servers (option_map head_key last.now) place left
+        (λ left. SaysRow layout servers (option_map head_key last.now) place left
         (R.remaining reader.new) row.head (rc_slice_items row.bytes))) }
     ensures bad_image { (p : ℕ) → IsErrOf result (GridFault.BadImage p) →
         IfSome (R.remaining reader.old) (λ left. (n : ℕ) →
-        rows_said (suc n) servers (option_map head_key last.now) place left ≡ stopped p) }
+        rows_said layout (suc n) servers (option_map head_key last.now) place left
+        ≡ stopped p) }
 {
-    let Some(own_place) = place.checked_add(28) else {
+    let size = 24 + layout.wide();
+    let Some(own_place) = place.checked_add(size as u64) else {
         return Err(GridFault::ReadFailed);
     };
-    let mut front = [0; 28];
-    let came = fill(reader, calls, &mut front)?;
-    let head = match head_in(&front[..came], servers, last) {
+    let mut buffer = [0; 32];
+    let front = &mut buffer[..size];
+    let came = fill(reader, calls, front)?;
+    let head = match head_in(layout, &front[..came], servers, last) {
         Ok(head) => head,
         Err(offset) => return Err(GridFault::BadImage(place + offset)),
     };
-    let Some(next) = own_place.checked_add(u64::from(head.length)) else {
-        return Err(GridFault::ReadFailed);
-    };
+    // A length whose bytes end before is a fault, also where 64 bits don't count the place behind them.
     let Some(bytes) = read_bytes(alloc, reader, calls, head.length as usize)? else {
         return Err(GridFault::BadImage(own_place));
+    };
+    let Some(next) = own_place.checked_add(head.length) else {
+        return Err(GridFault::ReadFailed);
     };
     let bytes = RcSlice::from_vec(bytes)?;
     Ok(ShareRow { head, bytes, next })

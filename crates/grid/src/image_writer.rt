@@ -11,9 +11,11 @@ ghost use Rattle.grid.specs.GridState.{states, maps_of, room_at, failures_at, Is
 ghost use Rattle.grid.specs.Leaves.{Leaves, TellsDown, IsUnchanged};
 ghost use Rattle.grid.specs.Rows.{Row, rows_of};
 ghost use Rattle.grid.specs.RowsKept.{row_of};
-ghost use Rattle.grid.specs.Image.{be32, image, image_head, row_head, row_bytes, refused_field, refused_place};
+ghost use Rattle.grid.specs.Layout.{be32, be64};
+ghost use Rattle.grid.specs.Image.{image, image_head, row_head, row_bytes, refused_field, refused_place};
 ghost use Rattle.grid.specs.ImageLaws.{CanBeWritten};
 ghost use Rattle.grid.specs.Written.{WritesBeginning};
+ghost use Rattle.grid.specs.declared.image_layout.Layout.TheVariants.{VersionTwo};
 
 use crate::{Grid, GridFault};
 use octets::write_whole;
@@ -25,14 +27,14 @@ use std::io::Write;
 pub const CALL_LIMIT: u64 = 1_099_511_627_776;
 
 impl<S: Store> Grid<S> {
-    /// Writes the grid's image: `TGRIDIM1`, the number of servers and of shares, and then each share with its server,
-    /// its storage index, its number and its length, server by server and in the order of each store. Numbers have four
-    /// bytes, the highest first. Over honest stores what was written is the image of what stands, and nothing changes.
+    /// Writes the grid's image, in version 2: `TGRIDIM2`, the number of servers and of shares, and then each share with
+    /// its server, its storage index, its number, its length and its bytes, server by server and in the order of each
+    /// store. The number of shares and lengths have eight bytes and other numbers four, the highest first. Over honest
+    /// stores what was written is the image of what stands, and nothing changes.
     ///
     /// Refused, where a beginning of the image may have been written:
     /// - [`GridFault::Down`] exactly when that server's store failed; nothing is written then;
-    /// - [`GridFault::BadImage`] where a number of the image would pass its range, with the place of that field, in bytes
-    ///   from 0: for more than 2^32 - 1 shares, a share's number above 255, or a share of 2^32 bytes or more;
+    /// - [`GridFault::BadImage`] for a share's number above 255, with the place of that field, in bytes from 0;
     /// - [`GridFault::WriteFailed`] where the writer failed or took no byte, or after 2^40 calls of it, or where the image
     ///   has more bytes than 64 bits count;
     /// - [`GridFault::NoMemory`].
@@ -48,7 +50,7 @@ impl<S: Store> Grid<S> {
             OnOk result (Appends (W.contents writer.old) (W.contents writer.new)
             (image (length_of self.old) (rows_of (maps_of self.old)))) }
         ensures rows { IsHonest self.old →
-            OnOk result (CanBeWritten (length_of self.old) (rows_of (maps_of self.old))) }
+            OnOk result (CanBeWritten VersionTwo (length_of self.old) (rows_of (maps_of self.old))) }
         ensures bad_image { IsHonest self.old → (place : ℕ) →
             IsErrOf result (GridFault.BadImage place) →
             refused_place (rows_of (maps_of self.old)) ≡ Some place }
@@ -135,18 +137,16 @@ fn write_rows<W: Write>(
         (image servers (map row_of rows.now))) }
     ensures fits { OnOk result (refused_place (map row_of rows.now) ≡ None) }
     ensures sized { OnOk result (All (λ row. length_of row.1.0.0 ≡ 16) (map row_of rows.now)) }
+    ensures short { OnOk result (All (λ row. length_of row.1.1 < 2 ^ 64) (map row_of rows.now)) }
     ensures bad_image { (place : ℕ) → IsErrOf result (GridFault.BadImage place) →
         refused_place (map row_of rows.now) ≡ Some place }
     ensures err { OnErr result (WritesBeginning (image servers (map row_of rows.now))
         (W.contents writer.old) (W.contents writer.new)) }
 {
-    let Ok(count) = u32::try_from(rows.len()) else {
-        return Err(GridFault::BadImage(12));
-    };
     let mut calls = CALL_LIMIT;
-    put_image_head(head, servers, count)?;
+    put_image_head(head, servers, rows.len() as u64)?;
     write_whole(writer, head, &mut calls)?;
-    let mut place = 16;
+    let mut place = 20;
     for (server, share) in rows {
         place = write_row(writer, &mut calls, head, *server, share, place)?;
     }
@@ -165,25 +165,24 @@ fn write_row<W: Write>(
     ensures refusals { IfErr result IsWriteRefusal }
     ensures not_down { (s : ℕ) → IsErrOf result (GridFault.Down s) → ⊥ }
     ensures ok { OnOk result (Appends (W.contents writer.old) (W.contents writer.new)
-        (row_bytes (row_of (server, share.now)))) }
+        (row_bytes VersionTwo (row_of (server, share.now)))) }
     ensures sized { OnOk result (length_of share.now.index ≡ 16) }
+    ensures short { length_of (rc_slice_items share.now.bytes) < 2 ^ 64 }
     ensures next { IfOk result (λ next. (rows : List Row) →
         refused_field place (row_of (server, share.now) ∷ rows) ≡ refused_field next rows) }
     ensures bad_image { (p : ℕ) → IsErrOf result (GridFault.BadImage p) →
         (rows : List Row) → refused_field place (row_of (server, share.now) ∷ rows) ≡ Some p }
-    ensures err { OnErr result (WritesBeginning (row_bytes (row_of (server, share.now)))
+    ensures err { OnErr result (WritesBeginning (row_bytes VersionTwo (row_of (server, share.now)))
         (W.contents writer.old) (W.contents writer.new)) }
 {
-    let Some(bytes_place) = place.checked_add(28) else {
+    let length = share.bytes.len() as u64;
+    let Some(bytes_place) = place.checked_add(32) else {
         return Err(GridFault::WriteFailed);
     };
     if share.number > 255 {
         return Err(GridFault::BadImage(place + 20));
     }
-    let Ok(length) = u32::try_from(share.bytes.len()) else {
-        return Err(GridFault::BadImage(place + 24));
-    };
-    let Some(next) = bytes_place.checked_add(u64::from(length)) else {
+    let Some(next) = bytes_place.checked_add(length) else {
         return Err(GridFault::WriteFailed);
     };
     put_row_head(head, server, share, length)?;
@@ -193,13 +192,13 @@ fn write_row<W: Write>(
 }
 
 /// Makes the bytes at the front of an image.
-fn put_image_head(head: &mut Vec<u8>, servers: u32, count: u32) -> Result<(), AllocError>
-    ensures { OnOk result (head.new.items ≡ image_head servers count) }
+fn put_image_head(head: &mut Vec<u8>, servers: u32, count: u64) -> Result<(), AllocError>
+    ensures { OnOk result (head.new.items ≡ image_head VersionTwo servers count) }
 {
     head.clear();
-    head.extend_from_slice(b"TGRIDIM1")?;
+    head.extend_from_slice(b"TGRIDIM2")?;
     head.extend_from_slice(&four_bytes(servers))?;
-    head.extend_from_slice(&four_bytes(count))
+    head.extend_from_slice(&eight_bytes(count))
 }
 
 /// Makes the bytes before a share's own.
@@ -207,22 +206,29 @@ fn put_row_head(
     head: &mut Vec<u8>,
     server: u32,
     share: &Share,
-    length: u32,
+    length: u64,
 ) -> Result<(), AllocError>
     requires { length ≡ length_of (rc_slice_items share.now.bytes) }
-    ensures items { OnOk result (head.new.items ≡ row_head (row_of (server, share.now))) }
+    ensures items { OnOk result (head.new.items ≡ row_head VersionTwo (row_of (server, share.now))) }
     ensures sized { OnOk result (length_of share.now.index ≡ 16) }
 {
     head.clear();
     head.extend_from_slice(&four_bytes(server))?;
     head.extend_from_slice(&share.index)?;
     head.extend_from_slice(&four_bytes(u32::from(share.number)))?;
-    head.extend_from_slice(&four_bytes(length))
+    head.extend_from_slice(&eight_bytes(length))
 }
 
-/// A number's bytes, the highest first.
+/// A number in four bytes, the highest first.
 fn four_bytes(number: u32) -> [u8; 4]
     ensures { result ≡ be32 number }
+{
+    number.to_be_bytes()
+}
+
+/// A number in eight bytes, the highest first.
+fn eight_bytes(number: u64) -> [u8; 8]
+    ensures { result ≡ be64 number }
 {
     number.to_be_bytes()
 }

@@ -22,14 +22,14 @@ pub fn found_laws()
     ensures { FoundLaws }
 {}
 
-/// The image of rows that it can hold is read as those rows, bytes that are read without a fault are the image of what
-/// was read, and as many stores with the same rows hold the same shares.
+/// In each layout the image of rows that it can hold is read as those rows. Bytes that are read without a fault are the
+/// image of what was read, in the layout that they name. As many stores with the same rows hold the same shares.
 pub fn image_laws()
     ensures { ImageLaws }
 {}
 
-/// Where an image is read with a fault, the field there is cut off, out of its range or out of order, or the image ends
-/// there, and all before it is whole and good.
+/// Where an image is read with a fault, its first bytes name no layout, or the field there is cut off, out of its range
+/// or out of order, or bytes stand there after the last share; and all before it is whole and good.
 pub fn fault_laws()
     ensures { FaultLaws }
 {}

@@ -14,6 +14,8 @@ mod image_writer;
 mod image_reader;
 // The fields of an image.
 mod image_fields;
+// The two layouts of an image.
+mod image_layout;
 #[cfg(test)]
 mod image_tests;
 // Laws of spoiling, of what is gathered, and of images.

@@ -1,28 +1,26 @@
 -- A text of the grammar of chunked bodies reads as what it brings.
-use Rattle.std.proofs.Common.{◌≡◌, ◌⊎◌, inl, inr, cond, ℕ, ◌+◌, ◌-◌, ◌*◌, ◌<◌, ◌≤◌, Bool, true, false, ◌&&◌, ◌||◌, List, [], ◌∷◌, ◌++◌, length, take, drop, min, Option, Some, None, refl, sym, subst, ap, ◌∙◌, arith, append_assoc, append-nil, length-append, length-drop, lit<, lit≤}
-use Rattle.std.specs.Prelude.{nat_le, nat_lt, not, IsTrue}
+use Rattle.std.proofs.Common.{◌≡◌, ℕ, ◌+◌, ◌*◌, ◌<◌, ◌≤◌, Bool, true, false, ◌&&◌, List, [], ◌∷◌, ◌++◌, length, min, Option, Some, None, refl, sym, subst, ap, ◌∙◌, arith, append_assoc, append-nil, length-append, lit≤}
+use Rattle.std.specs.Prelude.{nat_le, nat_lt, IsTrue}
 use Rattle.std.specs.List.{All, flat_map, list_all}
 use Rattle.std.specs.Char.{digit_value, is_digit, is_ascii_hexdigit}
-use Rattle.std.specs.Str.Parse.{digits_value, digits_value_after}
+use Rattle.std.specs.Str.Parse.{digits_value_after}
 use Rattle.std.proofs.Math.Dec.{eqb}
 use Rattle.std.proofs.lemmas.Bool.Decides.{nat_tests}
 use Rattle.std.proofs.lemmas.List.Elements.{All-head, All-tail}
 use Rattle.httparse.specs.Grammar.{ChunkLine, IsChunkLine, IsExtension, print_extension, print_chunk_line, chunk_size, is_ows, is_extension_byte, AllPass}
 use Rattle.http_edge.specs.Judge.{most_body_bytes}
 use Rattle.http_edge.specs.Plain.{is_line_byte}
-use Rattle.http_edge.specs.Reply.{line_end}
 use Rattle.http_edge.specs.Chunks.{most_chunk_line_bytes, most_trailer_bytes, Chunk, print_chunk, IsChunk, print_trailer, IsTrailer, ChunkedBody, print_trailers, print_body, IsChunkedBody, content_of, IsBeginning}
-use Rattle.http_edge.specs.Places.{with_digit, within, must_be, after_size, in_size, in_extension, sized, in_trailer, after_data, step, with_byte, Reading, going, whole, broken, read, resume, line_start, chunked_of}
-use Rattle.http_edge.specs.declared.item.FramingFault.{FramingFault}
+use Rattle.http_edge.specs.Places.{with_digit, within, after_size, in_size, in_extension, sized, in_trailer, after_data, step, with_byte, Reading, whole, broken, read, resume, line_start, chunked_of}
 use Rattle.http_edge.specs.declared.item.FramingFault.TheVariants.{BadChunk, TooLong}
 use Rattle.http_edge.specs.declared.place.Place.{Place}
 use Rattle.http_edge.specs.declared.place.Place.TheVariants.{Size, AfterSize, Extension, LineFeed, Data, DataReturn, DataLineFeed, Trailers, Trailer, TrailerLineFeed, LastLineFeed}
 use Rattle.http_edge.specs.declared.place.Step.{Step}
-use Rattle.http_edge.specs.declared.place.Step.TheVariants.{Next, Ended, Broken}
+use Rattle.http_edge.specs.declared.place.Step.TheVariants.{Next, Broken}
 use Rattle.http_edge.proofs.ReadingLemmas.{read_byte, read_data, then_read, read-append}
 
 -- sizes above the limit are all alike
-abbrev capped : ℕ → ℕ
+abbrev pub capped : ℕ → ℕ
 capped n = min n (most_body_bytes + 1)
 
 capped_digit : (n b : ℕ) → with_digit (capped n) b ≡ capped (n * 16 + digit_value b)
@@ -176,7 +174,7 @@ line_length : (a b c d : List ℕ) → length (a ++ b ++ c ++ d) ≡ length a + 
 line_length a b c d = omega (arith, length-append (a ++ b ++ c) d, length-append (a ++ b) c, length-append a b)
 
 -- a whole chunk line
-read_line : (n : ℕ) (content : List ℕ) (line : ChunkLine) (rest : List ℕ) → IsChunkLine line → length (print_chunk_line line) ≤ most_chunk_line_bytes
+pub read_line : (n : ℕ) (content : List ℕ) (line : ChunkLine) (rest : List ℕ) → IsChunkLine line → length (print_chunk_line line) ≤ most_chunk_line_bytes
     → read n content line_start (print_chunk_line line ++ rest)
     ≡ resume (n + length (print_chunk_line line)) (sized (length content) (capped (chunk_size line))) content rest
 unfolding print_chunk_line step
@@ -211,7 +209,7 @@ sized_data count size some fits =
     not_zero n h = grind (arith, nat_tests)
 
 -- one that doesn't
-sized_long : (count size : ℕ) → 0 < size → most_body_bytes < count + size → sized count (capped size) ≡ Broken TooLong
+pub sized_long : (count size : ℕ) → 0 < size → most_body_bytes < count + size → sized count (capped size) ≡ Broken TooLong
 sized_long count size some long =
     let none : eqb (capped size) 0 ≡ false = not_zero (capped size) (omega arith) in
     let far : nat_le (count + capped size) most_body_bytes ≡ false = no_le (count + capped size) most_body_bytes (omega arith) in
@@ -226,7 +224,7 @@ read_crlf n content rest =
     goes n content DataReturn DataLineFeed 13 (10 ∷ rest) refl refl ∙ goes (n + 1) content DataLineFeed line_start 10 rest refl refl
     ∙ ap (λ (k : ℕ). read k content line_start rest) (omega arith)
 
-read_chunk : (n : ℕ) (content : List ℕ) (chunk : Chunk) (rest : List ℕ) → IsChunk chunk → length content + length chunk.bytes ≤ most_body_bytes
+pub read_chunk : (n : ℕ) (content : List ℕ) (chunk : Chunk) (rest : List ℕ) → IsChunk chunk → length content + length chunk.bytes ≤ most_body_bytes
     → read n content line_start (print_chunk chunk ++ rest) ≡ read (n + length (print_chunk chunk)) (content ++ chunk.bytes) line_start rest
 read_chunk n content chunk rest is fits =
     let line = print_chunk_line chunk.line in

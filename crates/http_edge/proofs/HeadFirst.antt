@@ -1,6 +1,6 @@
 -- A request head of the grammar, at the front of a connection's bytes, is one head block of them.
 use Rattle.std.proofs.Common.{◌≡◌, ℕ, ◌+◌, ◌<◌, ◌≤◌, ◌&&◌, true, false, cond, List, [], ◌∷◌, ◌++◌, length, Some, refl, sym, ap, ◌∙◌, arith, append_assoc, append-nil, length-append}
-use Rattle.std.proofs.Math.Seq.{drop-length, take-length}
+use Rattle.std.proofs.Math.Seq.{drop-length, take-length, drop-append_seam}
 use Rattle.std.specs.Prelude.{nat_lt}
 use Rattle.std.specs.List.{All, flat_map}
 use Rattle.std.specs.Option.{option_map}
@@ -8,11 +8,19 @@ use Rattle.std.proofs.Math.Dec.{eqb}
 use Rattle.std.proofs.lemmas.Bool.Decides.{nat_tests}
 use Rattle.std.proofs.lemmas.List.Elements.{All-head, All-tail}
 use Rattle.httparse.specs.Grammar.{LineEnd, crlf, lf, print_end, Field, print_field, IsField, print_section, RequestHead, IsRequestHead, print_request}
-use Rattle.http_edge.specs.Judge.{within_limit, verdict_of, judged, request}
+use Rattle.http_edge.specs.Judge.{within_limit, verdict_of, judged, request, request_of, is_head_only, most_body_bytes}
 use Rattle.http_edge.specs.Frame.{empty_line_length, block_length, most_head_bytes, frame}
-use Rattle.http_edge.specs.Left.{body_of, frame_from, frame_after}
+use Rattle.http_edge.specs.Chunks.{ChunkedBody, print_body, IsChunkedBody, content_of}
+use Rattle.http_edge.specs.Limit.{PassesLimit}
+use Rattle.http_edge.specs.Places.{whole, line_start}
+use Rattle.http_edge.specs.Left.{body_of, chunks_of, frame_from, frame_read, frame_after}
+use Rattle.http_edge.specs.declared.item.FramingFault.TheVariants.{TooLong}
+use Rattle.http_edge.specs.declared.item.Item.TheVariants.{Fault}
 use Rattle.http_edge.specs.declared.verdict.Awaited.{Awaited}
+use Rattle.http_edge.specs.declared.verdict.Chunked.{Chunked}
 use Rattle.http_edge.proofs.BlockLemmas.{IsNot, field_text, field_line, text_no, start_text, start_no, regrouped, lf_no_token, cr_no_token, head_of_finds}
+use Rattle.http_edge.proofs.ChunkLemmas.{body_is_read}
+use Rattle.http_edge.proofs.LimitLemmas.{passing_is_refused}
 use Rattle.http_edge.proofs.FrameLemmas.{line_begins, ends_block, not_ends, skip_lf, skip_crlf, frame_skips, whole_items}
 use Rattle.http_edge.proofs.LineLemmas.{IsBlock, whole_block}
 
@@ -131,3 +139,18 @@ blank_first crlf more = frame_skips (13 ∷ 10 ∷ more) more (skip_crlf more)
 pub body_first : (a : Awaited) (body more : List ℕ) → length body ≡ a.length
     → frame_from (body_of a []) (body ++ more) ≡ request a body ∷ cond a.close [] (frame more)
 body_first a body more size = whole_items a body more (omega arith) ∙ rw (sym size, take-length body, drop-length body) refl
+
+-- a chunked body of the grammar
+after_whole : (a : Chunked) (t content more : List ℕ)
+    → frame_read a (t ++ more) (whole content (length t)) ≡ request_of a content ∷ cond a.close [] (frame more)
+after_whole a t content more = rw (drop-append_seam t more) refl
+
+pub chunks_first : (a : Chunked) (body : ChunkedBody) (more : List ℕ) → IsChunkedBody body → length (content_of body.chunks) ≤ most_body_bytes
+    → frame_from (chunks_of a [] line_start) (print_body body ++ more) ≡ request_of a (content_of body.chunks) ∷ cond a.close [] (frame more)
+chunks_first a body more is fits =
+    ap (frame_read a (print_body body ++ more)) (body_is_read body more is fits) ∙ after_whole a (print_body body) (content_of body.chunks) more
+
+-- one that passes the limit
+pub limit_first : (a : Chunked) (text more : List ℕ) → PassesLimit text
+    → frame_from (chunks_of a [] line_start) (text ++ more) ≡ Fault TooLong (is_head_only a.head) ∷ []
+limit_first a text more h = ap (frame_read a (text ++ more)) (passing_is_refused text more h)

@@ -1,8 +1,8 @@
 -- What a head block is that comes to a request.
-use Rattle.std.proofs.Common.{◌≡◌, cond, ℕ, ◌+◌, ◌<◌, ◌≤◌, Bool, true, false, ◌&&◌, List, [], ◌∷◌, length, Option, Some, None, Result, Ok, Err, refl, sym, ap, ◌∙◌, arith}
+use Rattle.std.proofs.Common.{◌≡◌, cond, ℕ, ◌<◌, ◌≤◌, Bool, true, false, ◌&&◌, List, [], ◌∷◌, length, Option, Some, None, Result, Ok, Err, refl, sym, ap, ◌∙◌, arith}
 use Rattle.std.specs.Prelude.{nat_le, nat_lt, not, codes, ◌||◌}
 use Rattle.std.proofs.Math.Dec.{eqb}
-use Rattle.std.proofs.Common.{◌⊎◌, inl, inr}
+use Rattle.std.proofs.Common.{inl, inr}
 use Rattle.std.specs.List.{list_all, list_any, filter, find, count_by}
 use Rattle.std.specs.Char.{is_ascii_digit}
 use Rattle.std.specs.Str.Parse.{digits_value}
@@ -19,7 +19,7 @@ use Rattle.http_edge.specs.declared.verdict.Verdict.{Verdict}
 use Rattle.http_edge.specs.declared.verdict.Verdict.TheVariants.{Taken, InChunks, Refused}
 use Rattle.http_edge.specs.declared.verdict.Chunked.{Chunked}
 use Rattle.http_edge.specs.Block.{head_of}
-use Rattle.http_edge.specs.Judge.{field_of, head_parts, eq_ignore_case, has_good_hosts, count_named, is_head_only, is_length, is_coding, most_body_bytes, length_of, length_by, body_length, Framing, counted, chunked, counted_by, framing_one, framing_by, body_framing, awaited_by, closes_after, expects_continue, with_framing, checked, verdict_of, within_limit, judged, request, request_of}
+use Rattle.http_edge.specs.Judge.{field_of, head_parts, eq_ignore_case, has_good_hosts, count_named, is_head_only, is_length, is_coding, most_body_bytes, length_of, length_by, body_length, Framing, counted, chunked, counted_by, framing_one, framing_by, body_framing, with_framing, checked, verdict_of, within_limit, judged, request, request_of}
 use Rattle.http_edge.specs.Read.{IsRead}
 use Rattle.http_edge.proofs.BlockLemmas.{head_of_reads}
 

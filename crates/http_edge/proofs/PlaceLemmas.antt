@@ -1,7 +1,7 @@
 -- What is read as a chunked body is one of the grammar.
-use Rattle.std.proofs.Common.{◌≡◌, cond, ℕ, zero, suc, ◌+◌, ◌-◌, ◌*◌, ◌<◌, ◌≤◌, Bool, true, false, ◌&&◌, List, [], ◌∷◌, ◌++◌, length, min, Option, Some, None, refl, sym, subst, ap, ◌∙◌, arith, append_assoc, append-nil, length-append, lit<, lit≤}
+use Rattle.std.proofs.Common.{◌≡◌, cond, ℕ, zero, suc, ◌+◌, ◌-◌, ◌*◌, ◌<◌, ◌≤◌, Bool, true, false, ◌&&◌, List, [], ◌∷◌, ◌++◌, length, min, Some, None, refl, sym, subst, ap, ◌∙◌, arith, append_assoc, append-nil, length-append, lit<, lit≤}
 use Rattle.std.specs.Prelude.{nat_le, nat_lt, IsTrue}
-use Rattle.std.specs.List.{All, flat_map, list_all}
+use Rattle.std.specs.List.{All, flat_map}
 use Rattle.std.specs.Char.{digit_value, is_digit, is_ascii_hexdigit}
 use Rattle.std.specs.Str.Parse.{digits_value}
 use Rattle.std.proofs.Math.Dec.{eqb}
@@ -9,24 +9,21 @@ use Rattle.std.proofs.lemmas.Bool.Decides.{nat_tests, Decides-eqb}
 use Rattle.std.proofs.lemmas.Int.Digits.{digits_value_push}
 use Rattle.std.proofs.lemmas.List.Elements.{All-nil, All-cons, All-append}
 use Rattle.std.proofs.lemmas.List.Folds.{list_all-append}
-use Rattle.httparse.specs.Grammar.{ChunkLine, IsChunkLine, IsExtension, print_extension, print_chunk_line, chunk_size, is_ows, is_extension_byte, AllPass}
+use Rattle.httparse.specs.Grammar.{ChunkLine, IsChunkLine, print_chunk_line, chunk_size, is_ows, is_extension_byte, AllPass}
 use Rattle.http_edge.specs.Judge.{most_body_bytes}
 use Rattle.http_edge.specs.Plain.{is_line_byte}
 use Rattle.http_edge.specs.Chunks.{most_chunk_line_bytes, most_trailer_bytes, Chunk, print_chunk, IsChunk, print_trailer, IsTrailer, ChunkedBody, print_trailers, print_body, IsChunkedBody, content_of, IsBeginning, StandsIn}
 use Rattle.http_edge.specs.Places.{with_digit, within, must_be, after_size, in_size, in_extension, sized, in_trailer, after_data, step, with_byte, Reading, going, whole, broken, read, resume, line_start, chunked_of}
-use Rattle.http_edge.specs.declared.item.FramingFault.{FramingFault}
-use Rattle.http_edge.specs.declared.item.FramingFault.TheVariants.{BadChunk, TooLong}
+use Rattle.http_edge.specs.declared.item.FramingFault.TheVariants.{BadChunk}
 use Rattle.http_edge.specs.declared.place.Place.{Place}
 use Rattle.http_edge.specs.declared.place.Place.TheVariants.{Size, AfterSize, Extension, LineFeed, Data, DataReturn, DataLineFeed, Trailers, Trailer, TrailerLineFeed, LastLineFeed}
 use Rattle.http_edge.specs.declared.place.Step.{Step}
 use Rattle.http_edge.specs.declared.place.Step.TheVariants.{Next, Ended, Broken}
 use Rattle.http_edge.proofs.ReadingLemmas.{read_byte, read_none}
-
-abbrev capped : ℕ → ℕ
-capped n = min n (most_body_bytes + 1)
+use Rattle.http_edge.proofs.ChunkLemmas.{capped}
 
 -- where a step goes on, and where it ends
-abbrev OnStep : (Place → Type 0) → Type 0 → Step → Type 0
+abbrev pub OnStep : (Place → Type 0) → Type 0 → Step → Type 0
 OnStep P Q (Next place) = P place
 OnStep P Q Ended = Q
 OnStep P Q (Broken fault) = Unit {0}
@@ -47,20 +44,20 @@ snoc_all p s b all h = All-append (λ x. IsTrue (p x)) s (b ∷ []) all (All-con
 -- ---- what stands of a chunk, of the last one, or of the trailers
 
 -- digits that write a size
-record Sized (d : List ℕ) (size : ℕ) : Type 0 where
+pub record Sized (d : List ℕ) (size : ℕ) : Type 0 where
   some : 0 < length d
   few : length d ≤ 16
   digits : AllPass is_ascii_hexdigit d
   size_is : size ≡ capped (digits_value 16 d)
 
-record AtSize (done content part : List ℕ) (size digits : ℕ) : Type 0 where
+pub record AtSize (done content part : List ℕ) (size digits : ℕ) : Type 0 where
   content_is : content ≡ done
   count : length part ≡ digits
   few : digits ≤ 16
   digits_are : AllPass is_ascii_hexdigit part
   size_is : size ≡ capped (digits_value 16 part)
 
-record AtAfter (done content part : List ℕ) (size taken : ℕ) : Type 0 where
+pub record AtAfter (done content part : List ℕ) (size taken : ℕ) : Type 0 where
   content_is : content ≡ done
   d : List ℕ
   p : List ℕ
@@ -70,7 +67,7 @@ record AtAfter (done content part : List ℕ) (size taken : ℕ) : Type 0 where
   count : length part ≡ taken
   room : taken + 2 ≤ most_chunk_line_bytes
 
-record AtExtension (done content part : List ℕ) (size taken : ℕ) : Type 0 where
+pub record AtExtension (done content part : List ℕ) (size taken : ℕ) : Type 0 where
   content_is : content ≡ done
   d : List ℕ
   p : List ℕ
@@ -82,15 +79,15 @@ record AtExtension (done content part : List ℕ) (size taken : ℕ) : Type 0 wh
   count : length part ≡ taken
   room : taken + 2 ≤ most_chunk_line_bytes
 
-record AtLineFeed (done content part : List ℕ) (size : ℕ) : Type 0 where
-  content_is : content ≡ done
-  line : ChunkLine
-  is : IsChunkLine line
-  size_is : size ≡ capped (chunk_size line)
-  part_is : part ++ 10 ∷ [] ≡ print_chunk_line line
-  room : length (print_chunk_line line) ≤ most_chunk_line_bytes
+pub record AtLineFeed (done content part : List ℕ) (size : ℕ) : Type 0 where
+  pub content_is : content ≡ done
+  pub line : ChunkLine
+  pub is : IsChunkLine line
+  pub size_is : size ≡ capped (chunk_size line)
+  pub part_is : part ++ 10 ∷ [] ≡ print_chunk_line line
+  pub room : length (print_chunk_line line) ≤ most_chunk_line_bytes
 
-record InChunk (done content part : List ℕ) (missing : ℕ) (behind : List ℕ) : Type 0 where
+pub record InChunk (done content part : List ℕ) (missing : ℕ) (behind : List ℕ) : Type 0 where
   line : ChunkLine
   d : List ℕ
   is : IsChunkLine line
@@ -100,7 +97,7 @@ record InChunk (done content part : List ℕ) (missing : ℕ) (behind : List ℕ
   count : length d + missing ≡ chunk_size line
   some : 0 < chunk_size line
 
-record InTrailers (done content part : List ℕ) (lines : List (List ℕ)) (behind : List ℕ) : Type 0 where
+pub record InTrailers (done content part : List ℕ) (lines : List (List ℕ)) (behind : List ℕ) : Type 0 where
   content_is : content ≡ done
   line : ChunkLine
   is : IsChunkLine line
@@ -110,7 +107,7 @@ record InTrailers (done content part : List ℕ) (lines : List (List ℕ)) (behi
   part_is : part ≡ print_chunk_line line ++ (flat_map print_trailer lines ++ behind)
 
 -- what stands after the chunks before
-abbrev PartAt : List ℕ → List ℕ → List ℕ → Place → Type 0
+abbrev pub PartAt : List ℕ → List ℕ → List ℕ → Place → Type 0
 PartAt done content part (Size size digits) = AtSize done content part size digits
 PartAt done content part (AfterSize size taken) = AtAfter done content part size taken
 PartAt done content part (Extension size taken) = AtExtension done content part size taken
@@ -129,15 +126,15 @@ PartAt done content part (TrailerLineFeed taken) =
 PartAt done content part LastLineFeed =
     (lines : List (List ℕ)) × InTrailers done content part lines (13 ∷ []) × (length (flat_map print_trailer lines) + 2 ≤ most_trailer_bytes)
 
-record Begun (text content : List ℕ) (place : Place) : Type 0 where
-  chunks : List Chunk
-  all : All IsChunk chunks
-  part : List ℕ
-  text_is : text ≡ flat_map print_chunk chunks ++ part
-  at : PartAt (content_of chunks) content part place
+pub record Begun (text content : List ℕ) (place : Place) : Type 0 where
+  pub chunks : List Chunk
+  pub all : All IsChunk chunks
+  pub part : List ℕ
+  pub text_is : text ≡ flat_map print_chunk chunks ++ part
+  pub at : PartAt (content_of chunks) content part place
 
 -- a body of the grammar that stands in the text, with this content
-record Found (text content : List ℕ) : Type 0 where
+pub record Found (text content : List ℕ) : Type 0 where
   body : ChunkedBody
   is : IsChunkedBody body
   text_is : print_body body ≡ text
@@ -525,7 +522,7 @@ body_found text content h =
 
 -- ---- one byte, and all of them
 
-step_begun : (text content : List ℕ) (place : Place) (b : ℕ) → Begun text content place
+pub step_begun : (text content : List ℕ) (place : Place) (b : ℕ) → Begun text content place
     → OnStep (λ next. Begun (text ++ b ∷ []) (with_byte place content b) next) (Found (text ++ b ∷ []) (with_byte place content b)) (step (length content) place b)
 unfolding step
 step_begun text content (Size size digits) b h = size_begun text content size digits b h
@@ -590,7 +587,7 @@ read_begun n text content place (b ∷ s) h =
     )
     go (Broken fault) k later = tt
 
-start_begun : Begun [] [] line_start
+pub start_begun : Begun [] [] line_start
 start_begun = record {
   chunks = [];
   all = All-nil IsChunk;

@@ -11,11 +11,13 @@ use crate::place::{Place, Step};
 use httparse::is_space_or_tab;
 use std::alloc::AllocError;
 
-/// How many bytes a chunk line has at most, and how many the trailers, each with its CRLF.
+/// How many bytes a chunk line has at most, with its CRLF.
 const MOST_CHUNK_LINE_BYTES: usize = 1024;
 
+/// How many bytes the trailers have at most, with the empty line.
 const MOST_TRAILER_BYTES: usize = 16384;
 
+/// The step of a byte with which the bytes begin no chunked body.
 const BAD: Step = Step::Broken(FramingFault::BadChunk);
 
 /// The value of a hexadecimal digit.
@@ -122,7 +124,8 @@ fn in_extension(size: usize, taken: usize, b: u8) -> Step
     )
 }
 
-/// What follows a whole chunk line.
+/// What follows a whole chunk line, where the content has so many bytes: with a size that takes it over the limit the
+/// body is too long, before a byte of the chunk comes.
 fn sized(count: usize, size: usize) -> Step
     requires count { count ≤ most_body_bytes }
     requires size { size ≤ most_body_bytes + 1 }

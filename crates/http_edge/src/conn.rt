@@ -44,8 +44,8 @@ impl Conn {
     }
 
     /// Takes the next piece, and gives the items that it completes, in order: with those before it they are the items
-    /// of all pieces joined, however these were cut. A head block or a body that isn't whole is kept; after an item
-    /// that closes all bytes are ignored.
+    /// of all pieces joined, however these were cut. A head block or a body that isn't whole is kept; `Continue` comes
+    /// as the head block ends that asks for it. After an item that closes all bytes are ignored.
     ///
     /// Without memory the connection is closed, and items that the piece had completed before are dropped. An empty
     /// piece, and any piece on a closed connection, takes none.

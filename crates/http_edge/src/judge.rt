@@ -162,6 +162,7 @@ fn asks_continue(field: &Field) -> bool
     is_same(field.name.as_slice(), b"expect") && is_same(field.value.as_slice(), b"100-continue")
 }
 
+/// Whether an interim answer is asked for.
 fn any_asks_continue(fields: &[Field]) -> bool
     ensures { result ≡ list_any asks_continue fields.now }
 {
@@ -175,6 +176,7 @@ fn is_coding(field: &Field) -> bool
     is_same(field.name.as_slice(), b"transfer-encoding")
 }
 
+/// How many Transfer-Encoding fields there are.
 fn count_codings(fields: &[Field]) -> usize
     ensures { result ≡ count_by is_coding fields.now }
 {
@@ -188,7 +190,8 @@ fn first_coding(fields: &[Field]) -> Option<&Field>
     fields.iter().find(|field| is_coding(field))
 }
 
-/// How the end of a body is known (RFC 9112, section 6.3): by how many bytes it has, or by chunks, for which it is None.
+/// How the end of a body is known (RFC 9112, section 6.3): by how many bytes it has, or by chunks, for which it is
+/// None.
 fn body_framing(minor: u8, fields: &[Field]) -> Result<Option<usize>, FramingFault>
     ensures { framing_of result ≡ body_framing minor fields.now }
 {
@@ -234,6 +237,7 @@ fn forbids_chunks(minor: u8, fields: &[Field]) -> bool
     minor == 0 || any_length(fields)
 }
 
+/// Whether there is a Content-Length field.
 fn any_length(fields: &[Field]) -> bool
     ensures { result ≡ list_any is_length fields.now }
 {

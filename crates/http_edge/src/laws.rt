@@ -3,15 +3,18 @@ ghost use Rattle.std.specs.Prelude.{◌≡◌, ◌<◌, ◌≤◌, ◌-◌, ◌^
 ghost use Rattle.std.specs.List.{list_any, list_all};
 ghost use Rattle.httparse.specs.Grammar.{LineEnd, print_end, RequestHead, IsRequestHead, print_request, ReadsRequest};
 ghost use Rattle.http_edge.specs.Block.{head_of};
-ghost use Rattle.http_edge.specs.Judge.{closes, within_limit, verdict_of, judged, request, most_body_bytes};
+ghost use Rattle.http_edge.specs.Judge.{closes, within_limit, verdict_of, judged, request, request_of, is_head_only, most_body_bytes};
 ghost use Rattle.http_edge.specs.Frame.{frame, most_head_bytes};
-ghost use Rattle.http_edge.specs.Left.{Left, part_of, body_of, is_closed, rest, frame_from, rest_from, frame_after};
+ghost use Rattle.http_edge.specs.Left.{Left, part_of, body_of, chunks_of, is_closed, rest, frame_from, rest_from, frame_after};
+ghost use Rattle.http_edge.specs.declared.item.Item.TheVariants.{Fault};
 ghost use Rattle.http_edge.specs.declared.verdict.Awaited.{Awaited};
+ghost use Rattle.http_edge.specs.declared.verdict.Chunked.{Chunked};
 ghost use Rattle.http_edge.specs.Read.{IsRead};
 ghost use Rattle.http_edge.specs.Plain.{is_line_byte};
 ghost use Rattle.http_edge.specs.Reply.{line_end};
 ghost use Rattle.http_edge.specs.Chunks.{ChunkedBody, print_body, IsChunkedBody, content_of, IsBeginning, StandsIn};
-ghost use Rattle.http_edge.specs.Places.{going, whole, broken, chunked_of};
+ghost use Rattle.http_edge.specs.Limit.{PassesLimit};
+ghost use Rattle.http_edge.specs.Places.{going, whole, broken, chunked_of, line_start};
 ghost use Rattle.http_edge.specs.declared.place.Place.{Place};
 ghost use Rattle.http_edge.specs.declared.item.FramingFault.{FramingFault};
 ghost use Rattle.http_edge.specs.declared.item.FramingFault.TheVariants.{BadChunk, TooLong};
@@ -58,13 +61,21 @@ pub fn head_comes_first()
     ensures blank { (end : LineEnd) (more : List ℕ) → frame (print_end end ++ more) ≡ frame more }
 {}
 
-/// The body of a request is the next bytes after its head, as many as it says; then come the next messages.
+/// The body of a request is the next bytes after its head, as many as it says, or a chunked body, within the limit;
+/// then come the next messages. Chunks whose sizes pass the limit are a fault.
 pub fn body_comes_next()
     ensures items { (a : Awaited) (body more : List ℕ) → length body ≡ a.length
         → frame_from (body_of a []) (body ++ more)
         ≡ request a body ∷ (if a.close then [] else frame more) }
     ensures short { (a : Awaited) (body : List ℕ) → length body < a.length
         → frame_from (body_of a []) body ≡ [] }
+    ensures chunks { (a : Chunked) (body : ChunkedBody) (more : List ℕ) → IsChunkedBody body
+        → length (content_of body.chunks) ≤ most_body_bytes
+        → frame_from (chunks_of a [] line_start) (print_body body ++ more)
+        ≡ request_of a (content_of body.chunks) ∷ (if a.close then [] else frame more) }
+    ensures too_long { (a : Chunked) (text more : List ℕ) → PassesLimit text
+        → frame_from (chunks_of a [] line_start) (text ++ more)
+        ≡ Fault TooLong (is_head_only a.head) ∷ [] }
 {}
 
 /// Each request that stands in the bytes has a head of the grammar of `httparse` with at most 64 fields, and a body as
@@ -80,27 +91,40 @@ pub fn numbers_are_plain()
 
 /// What a chunked body reads as, on small texts.
 pub fn small_chunked_bodies()
-    ensures whole { chunked_of (codes "2" ++ line_end ++ codes "fo" ++ line_end ++ codes "1;x=y" ++ line_end ++ codes "o"
-        ++ line_end ++ codes "0" ++ line_end ++ codes "A: b" ++ line_end ++ line_end) ≡ whole (codes "foo") 28 }
+    ensures whole { chunked_of (codes "2" ++ line_end ++ codes "fo" ++ line_end
+        ++ codes "1;x=y" ++ line_end ++ codes "o" ++ line_end
+        ++ codes "0" ++ line_end ++ codes "A: b" ++ line_end ++ line_end) ≡ whole (codes "foo") 28 }
     ensures bad { chunked_of (codes "2" ++ line_end ++ codes "foo") ≡ broken BadChunk 6 }
     ensures long { chunked_of (codes "1000001" ++ line_end) ≡ broken TooLong 9 }
 {}
 
 /// A text of the grammar of chunked bodies is read as what it brings, whatever follows it; what is read as a whole body
-/// is one of the grammar; what goes on is a beginning of one; and bytes that are refused as none are no beginning of one, while those
-/// before the last of them are.
+/// is one of the grammar; what goes on is a beginning of one; and bytes that are refused as none are no beginning of
+/// one, while those before the last of them are.
 pub fn chunked_bodies_are_of_the_grammar()
     ensures each { (body : ChunkedBody) (more : List ℕ) → IsChunkedBody body
         → length (content_of body.chunks) ≤ most_body_bytes
-        → chunked_of (print_body body ++ more) ≡ whole (content_of body.chunks) (length (print_body body)) }
+        → chunked_of (print_body body ++ more)
+        ≡ whole (content_of body.chunks) (length (print_body body)) }
     ensures long { (body : ChunkedBody) (more : List ℕ) → IsChunkedBody body
         → most_body_bytes < length (content_of body.chunks)
         → (n : ℕ) × (chunked_of (print_body body ++ more) ≡ broken TooLong n) }
     ensures only { (s content : List ℕ) (n : ℕ) → chunked_of s ≡ whole content n
         → StandsIn s content (length s - n) }
-    ensures goes { (s content : List ℕ) (place : Place) → chunked_of s ≡ going content place → IsBeginning s }
+    ensures goes { (s content : List ℕ) (place : Place) → chunked_of s ≡ going content place
+        → IsBeginning s }
     ensures first { (s : List ℕ) (fault : FramingFault) (n : ℕ) → chunked_of s ≡ broken fault n
         → (chunked_of (take n s) ≡ broken fault n)
-        × ((content : List ℕ) × (place : Place) × (chunked_of (take (n - 1) s) ≡ going content place)) }
+        × ((content : List ℕ) × (place : Place)
+        × (chunked_of (take (n - 1) s) ≡ going content place)) }
     ensures bad { (s : List ℕ) (n : ℕ) → chunked_of s ≡ broken BadChunk n → IsBeginning s → ⊥ }
+{}
+
+/// A chunked body is too long exactly with the last byte of the chunk line with which its sizes pass the limit,
+/// whatever follows that line.
+pub fn limit_is_passed_at_a_chunk_line()
+    ensures each { (text more : List ℕ) → PassesLimit text
+        → chunked_of (text ++ more) ≡ broken TooLong (length text) }
+    ensures only { (s : List ℕ) (n : ℕ) → chunked_of s ≡ broken TooLong n
+        → PassesLimit (take n s) }
 {}

@@ -1,12 +1,12 @@
 //! One edge of a connection: its bytes as requests, and replies as bytes (RFC 9110, RFC 9112).
 //!
-//! [`Conn`] takes a connection's bytes in pieces, however they are cut, and gives the requests and framing faults
-//! that stand complete in them. [`render`] gives the bytes of a reply.
+//! [`Conn`] takes a connection's bytes in pieces, however they are cut, and gives the requests, interim answers that
+//! are asked for and framing faults that stand complete in them. [`render`] gives the bytes of a reply.
 #![tactic(auto)]
 
 /// The fields of a head.
 mod field;
-/// What a connection's bytes hold: requests and framing faults.
+/// What a connection's bytes hold: requests, interim answers that are asked for, framing faults.
 mod item;
 /// What a head block comes to.
 mod verdict;

@@ -482,7 +482,7 @@ fn in_chunks(rt: &HostRuntime, body: &[u8]) -> Result<Vec<u8>, Fail> {
 
 #[test]
 fn chunked_bodies_are_taken_or_refused(rt: HostRuntime) -> Result<(), Fail> {
-    let table: [(&[u8], &[u8]); 25] = [
+    let table: [(&[u8], &[u8]); 39] = [
         (
             b"2\r\nfo\r\n1;x=y\r\no\r\n0\r\nA: b\r\n\r\n",
             b"PUT /uri 2foo+",
@@ -514,6 +514,20 @@ fn chunked_bodies_are_taken_or_refused(rt: HostRuntime) -> Result<(), Fail> {
         (b"1000000\r\n", b""),
         (b"0\r\n\n", b"25!"),
         (b"0\r\nA\r\n\r\r", b"25!"),
+        (b"a\r\n0123456789\r\n000\r\n\r\n", b"PUT /uri 20123456789+"),
+        (b"1\r\n\n\r\n1\r\n\r\r\n0\r\n\r\n", b"PUT /uri 2\n\r+"),
+        (b"2\r\nfo\r\n\r", b"25!"),
+        (b"2\r\nfo1\r\n", b"25!"),
+        (b"2\r2", b"25!"),
+        (b"0x1", b"25!"),
+        (b"+1", b"25!"),
+        (b"-1", b"25!"),
+        (b"0\r\nA\n", b"25!"),
+        (b"0\r\nA\r\r", b"25!"),
+        (b"10000000000000000\r\n", b"25!"),
+        (b"fffffffffffffffff\r\n", b"25!"),
+        (b"8000000000000000\r\n", b"23!"),
+        (b"1\r\na\r\nffffffffffffffff\r\n", b"23!"),
     ];
     for (body, want) in table {
         let text = in_chunks(&rt, body)?;
@@ -537,6 +551,41 @@ fn a_chunked_body_is_the_same_however_it_is_cut(rt: HostRuntime) -> Result<(), F
     Ok(())
 }
 
+/// The length of the first beginning of a text that completes an item.
+fn first_whole(rt: &HostRuntime, text: &[u8]) -> Result<Option<usize>, Fail> {
+    for at in 0..=text.len() {
+        let (front, _) = text.split_at(at);
+        if !framed(rt, front, 1000)?.is_empty() {
+            return Ok(Some(at));
+        }
+    }
+    Ok(None)
+}
+
+#[test]
+fn a_chunked_body_goes_on_up_to_its_last_byte(rt: HostRuntime) -> Result<(), Fail> {
+    let text = in_chunks(&rt, b"2 \t;x\r\nfo\r\n1\r\no\r\n0;\r\nA: b\r\nC:\r\n\r\n")?;
+    assert_eq!(rt; first_whole(&rt, &text)?, Some(text.len()));
+    Ok(())
+}
+
+#[test]
+fn a_chunked_body_has_16777216_bytes_at_most(rt: HostRuntime) -> Result<(), Fail> {
+    let half = counted_bytes(rt.alloc(), 8388608)?;
+    let mut body = Vec::new(rt.alloc());
+    for _ in 0..2 {
+        body.extend_from_slice(b"800000\r\n")?;
+        body.extend_from_slice(&half)?;
+        body.extend_from_slice(b"\r\n")?;
+    }
+    let mut text = in_chunks(&rt, &body)?;
+    let longer = filled(&rt, &text, b'1', 1, b"\r\n")?;
+    text.extend_from_slice(b"0\r\n\r\n")?;
+    assert_eq!(rt; body_of(&rt, &text, 65536)?.len(), 16777216);
+    assert_eq!(rt; framed(&rt, &longer, 65536)?.as_slice(), b"23!".as_slice());
+    Ok(())
+}
+
 /// So many bytes of one kind between two texts.
 fn filled(
     rt: &HostRuntime,
@@ -556,7 +605,9 @@ fn filled(
 
 #[test]
 fn chunk_lines_and_trailers_keep_room_for_their_ends(rt: HostRuntime) -> Result<(), Fail> {
-    let table: [(&[u8], u8, usize, &[u8], &[u8]); 9] = [
+    let table: [(&[u8], u8, usize, &[u8], &[u8]); 11] = [
+        (b"1;", b'a', 1020, b"\r\nz\r\n0\r\n\r\n", b"PUT /uri 2z+"),
+        (b"1;", b'a', 1021, b"\r\n", b"25!"),
         (b"0;", b'a', 1020, b"\r\n\r\n", b"PUT /uri 2+"),
         (b"0;", b'a', 1020, b"", b""),
         (b"0;", b'a', 1021, b"", b"25!"),
@@ -585,7 +636,7 @@ fn chunk_lines_and_trailers_keep_room_for_their_ends(rt: HostRuntime) -> Result<
 
 #[test]
 fn codings_are_chunked_alone_and_in_http_1_1(rt: HostRuntime) -> Result<(), Fail> {
-    let table: [(&[u8], &[u8]); 8] = [
+    let table: [(&[u8], &[u8]); 10] = [
         (
             b"PUT / HTTP/1.1\r\nHost: g\r\nTransfer-Encoding: \tCHUNKED \r\n\r\n0\r\n\r\n",
             b"PUT / 2+",
@@ -605,6 +656,14 @@ fn codings_are_chunked_alone_and_in_http_1_1(rt: HostRuntime) -> Result<(), Fail
         (
             b"PUT / HTTP/1.0\r\nTransfer-Encoding: chunked\r\n\r\n",
             b"22!",
+        ),
+        (
+            b"PUT / HTTP/1.1\r\nHost: g\r\nContent-Length: 3\r\nTransfer-Encoding: chunked\r\n\r\n",
+            b"22!",
+        ),
+        (
+            b"HEAD / HTTP/1.1\r\nHost: g\r\nTransfer-Encoding: chunked\r\n\r\n1000001\r\n",
+            b"23h!",
         ),
         (b"PUT / HTTP/1.0\r\nTransfer-Encoding: gzip\r\n\r\n", b"21!"),
         (

@@ -247,7 +247,25 @@ fn the_grid_is_lost_from_spoiled_and_imaged(rt: HostRuntime) -> Result<(), Alloc
             Step::Line("spoil 4 aaaaaaaaaaaaaaaaaaaaaaaaaa 0 0", "no"),
             Step::Line(
                 "image",
-                "image TGRIDIM1\\x00\\x00\\x00\\x05\\x00\\x00\\x00\\x00",
+                "image TGRIDIM2\\x00\\x00\\x00\\x05\\x00\\x00\\x00\\x00\\x00\\x00\\x00\\x00",
+            ),
+        ],
+    )
+}
+
+#[test]
+fn version_1_is_written_again_as_version_2(rt: HostRuntime) -> Result<(), AllocError> {
+    holds(
+        &rt,
+        &[
+            Step::Line("grid 3 10 5 1000000 -", "ok"),
+            Step::Line(
+                "restore TGRIDIM1\\x00\\x00\\x00\\x05\\x00\\x00\\x00\\x00",
+                "ok",
+            ),
+            Step::Line(
+                "image",
+                "image TGRIDIM2\\x00\\x00\\x00\\x05\\x00\\x00\\x00\\x00\\x00\\x00\\x00\\x00",
             ),
         ],
     )

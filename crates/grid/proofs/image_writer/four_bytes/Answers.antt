@@ -1,5 +1,5 @@
 use Rattle.std.proofs.Common.{rules}
-use Rattle.grid.specs.Image.{be32}
+use Rattle.grid.specs.Layout.{be32}
 use Rattle.grid.proofs.image_writer.four_bytes.Goals as goal
 
 pub returns : goal.returns

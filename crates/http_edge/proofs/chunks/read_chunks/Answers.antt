@@ -1,5 +1,4 @@
-use Rattle.std.proofs.Common.{◌≡◌, ◌+◌, ◌≤◌, ◌<◌, length, drop, arith, refl}
-use Rattle.http_edge.specs.Places.{read, resume}
+use Rattle.std.proofs.Common.{arith}
 use Rattle.http_edge.proofs.ReadingLemmas.{read_more}
 use Rattle.http_edge.proofs.chunks.read_chunks.Goals as goal
 

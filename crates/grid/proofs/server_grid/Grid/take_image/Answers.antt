@@ -1,11 +1,10 @@
-use Rattle.std.proofs.Common.{rules, ◌≡◌, ◌∙◌, [], take, length, sym, ap}
+use Rattle.std.proofs.Common.{rules, ◌≡◌, [], take, length, sym}
 use Rattle.grid.specs.GridState.{maps_of, room_at, IsHonest}
 use Rattle.grid.specs.Rows.{rows_of}
-use Rattle.grid.specs.ImageHeads.{shares_said}
 use Rattle.grid.specs.ImageReading.{image_said}
 use Rattle.grid.specs.ImageSteps.{Reads}
 use Rattle.grid.proofs.ImageSteps.{front_of}
-use Rattle.grid.proofs.ImageRuns.{counted, bad_front, no_front, reads_passed}
+use Rattle.grid.proofs.ImageRuns.{named, not_named, bad_front, no_front, reads_passed}
 use Rattle.grid.proofs.server_grid.Grid.take_image.Goals as goal
 
 pub returns-in_err-came-clause-reads : goal.returns-in_err-came-clause-reads
@@ -16,21 +15,21 @@ returns-in_err-came-clause-reads g c =
     (no_front (g.R.Read.remaining c.args.reader.now) (g.R.Read.remaining c.fill.new.reader) (image_said (length old)) c.in_err-came.field-0.0 (room_at old) good (rows_of (maps_of old))
     (λ good. good.1) c.in_err-came.ensures.refusals)
 
-pub returns-in-Ok-clause-reads : goal.returns-in-Ok-clause-reads
-returns-in-Ok-clause-reads g c =
+pub returns-in-Some-clause-reads : goal.returns-in-Some-clause-reads
+returns-in-Some-clause-reads g c =
     let old = c.args.self.now in
     let good = IsHonest old × (rows_of (maps_of old) ≡ []) in
     let front = take c.in_ok-came.came c.fill.new.buffer in
-    let came = front_of (g.R.Read.remaining c.args.reader.now) (g.R.Read.remaining c.fill.new.reader) 16 c.in_ok-came.came c.fill.new.buffer (search rules) c.in_ok-came.ensures.told in
-    counted (g.R.Read.remaining c.args.reader.now) (g.R.Read.remaining c.fill.new.reader) (length old) front
-    (λ said. Reads said c.take_rows.result (room_at c.take_rows.new.self) good (rows_of (maps_of c.take_rows.new.self)) (g.R.Read.remaining c.take_rows.new.reader))
-    c.in-Ok.count came (ap (λ n. shares_said n front) (sym c.servers.ensures.servers) ∙ sym c.in-Ok.ensures) c.take_rows.ensures.reads
+    let came = front_of (g.R.Read.remaining c.args.reader.now) (g.R.Read.remaining c.fill.new.reader) 8 c.in_ok-came.came c.fill.new.buffer (search rules) c.in_ok-came.ensures.told in
+    named (g.R.Read.remaining c.args.reader.now) (g.R.Read.remaining c.fill.new.reader) (length old) front
+    (λ said. Reads said c.take_shares.result (room_at c.take_shares.new.self) good (rows_of (maps_of c.take_shares.new.self)) (g.R.Read.remaining c.take_shares.new.reader))
+    c.in-Some.layout came (sym c.in-Some.ensures) c.take_shares.ensures.reads
 
-pub returns-in-Err-clause-reads : goal.returns-in-Err-clause-reads
-returns-in-Err-clause-reads g c =
+pub returns-in-None-clause-reads : goal.returns-in-None-clause-reads
+returns-in-None-clause-reads g c =
     let old = c.args.self.now in
     let good = IsHonest old × (rows_of (maps_of old) ≡ []) in
     let front = take c.in_ok-came.came c.fill.new.buffer in
-    let came = front_of (g.R.Read.remaining c.args.reader.now) (g.R.Read.remaining c.fill.new.reader) 16 c.in_ok-came.came c.fill.new.buffer (search rules) c.in_ok-came.ensures.told in
-    bad_front (g.R.Read.remaining c.args.reader.now) (g.R.Read.remaining c.fill.new.reader) (g.R.Read.remaining c.fill.new.reader) (length old) front c.in-Err.place (room_at old) good
-    (rows_of (maps_of old)) (λ good. good.1) came (ap (λ n. shares_said n front) (sym c.servers.ensures.servers) ∙ sym c.in-Err.ensures)
+    let came = front_of (g.R.Read.remaining c.args.reader.now) (g.R.Read.remaining c.fill.new.reader) 8 c.in_ok-came.came c.fill.new.buffer (search rules) c.in_ok-came.ensures.told in
+    bad_front (g.R.Read.remaining c.args.reader.now) (g.R.Read.remaining c.fill.new.reader) (image_said (length old)) 0 (room_at old) good (rows_of (maps_of old)) (λ good. good.1)
+    (not_named (g.R.Read.remaining c.args.reader.now) (g.R.Read.remaining c.fill.new.reader) (length old) front came (sym c.in-None.ensures))

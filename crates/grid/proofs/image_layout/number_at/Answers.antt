@@ -1,7 +1,7 @@
 use Rattle.std.proofs.Common.{◌≡◌, ◌+◌, ◌-◌, take, drop, ap, ◌∙◌, arith}
 use Rattle.std.specs.Int.{from_be_bytes, w32}
-use Rattle.grid.specs.ImageHeads.{number_at}
-use Rattle.grid.proofs.image_fields.number_at.Goals as goal
+use Rattle.grid.specs.Layout.{number_at}
+use Rattle.grid.proofs.image_layout.number_at.Goals as goal
 
 pub returns : goal.returns
 unfolding number_at
