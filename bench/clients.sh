@@ -1,9 +1,10 @@
 #!/bin/sh
-# curl and wget against `serve`: what comes back is compared, JSON by json_replies.py beside this file. Each connection is
-# counted, so the program ends by itself. It needs curl, wget, ss (iproute2) and python3.
-# usage: bench/clients.sh PROGRAM
+# curl and wget against a gateway at 3 of 10: what comes back is compared, JSON by json_replies.py beside this file. Given
+# `gate_main`, it is started for as many connections as there are here, so it ends by itself; given the base URL of a
+# server, that one is asked. It needs curl, wget, ss (iproute2) and python3.
+# usage: bench/clients.sh PROGRAM | bench/clients.sh http://HOST:PORT
 set -eu
-program=${1:?usage: bench/clients.sh PROGRAM}
+program=${1:?usage: bench/clients.sh PROGRAM | bench/clients.sh http://HOST:PORT}
 here=$(cd "$(dirname "$0")" && pwd)
 folder=$(mktemp -d)
 server=
@@ -17,15 +18,22 @@ fail() {
     exit 1
 }
 
-port=$(python3 -c 'import socket; s = socket.socket(); s.bind(("127.0.0.1", 0)); print(s.getsockname()[1])')
-base="http://127.0.0.1:$port"
-timeout 300 "$program" serve "127.0.0.1:$port" 34 > "$folder/out" 2> "$folder/words" &
-server=$!
-# Each connection counts, so the port is looked for without one.
-for _ in $(seq 100); do
-    ss -ltn 2> /dev/null | grep -q ":$port " && break
-    sleep 0.1
-done
+# Starts the program for 34 connections.
+start() {
+    port=$(python3 -c 'import socket; s = socket.socket(); s.bind(("127.0.0.1", 0)); print(s.getsockname()[1])')
+    base="http://127.0.0.1:$port"
+    timeout 300 "$program" serve "127.0.0.1:$port" 34 > "$folder/out" 2> "$folder/words" &
+    server=$!
+    # Each connection counts, so the port is looked for without one.
+    for _ in $(seq 100); do
+        ss -ltn 2> /dev/null | grep -q ":$port " && break
+        sleep 0.1
+    done
+}
+case $program in
+http://*) base=$program ;;
+*) start ;;
+esac
 
 curl='curl --silent --show-error --max-time 30'
 head -c 1000000 /dev/urandom > "$folder/file"
@@ -161,7 +169,9 @@ refused "$base/uri/$verify" '400 not a readable cap'
 fetch -X DELETE "$base/uri"
 test "$status $(field Allow)" = '405 POST, PUT' || fail "another method is answered $status, $(field Allow)"
 
-wait "$server" || fail "the program's status is $?"
-server=
-test ! -s "$folder/words" || fail "$(cat "$folder/words")"
+if test -n "$server"; then
+    wait "$server" || fail "the program's status is $?"
+    server=
+    test ! -s "$folder/words" || fail "$(cat "$folder/words")"
+fi
 echo 'curl and wget: all replies as they are to be'

@@ -21,6 +21,9 @@ pub enum GatewayFault {
     /// A parameter of the gateway is out of its range.
     #[error("a parameter is out of its range")]
     BadParameters = 5,
+    /// The connection's end didn't come, so it isn't forgotten.
+    #[error("the connection is still open")]
+    StillOpen = 6,
 }
 
 /// Why no gateway was made of an image.

@@ -20,6 +20,8 @@ mod server;
 mod stage;
 /// One connection: what framing goes on with, and what waits to be taken.
 mod connection;
+/// A set of numbers that takes memory for its gaps.
+mod ids;
 /// The calls of a gateway.
 mod gateway;
 /// Laws of the definitions.

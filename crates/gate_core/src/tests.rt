@@ -20,6 +20,8 @@ mod pairs;
 mod premises;
 /// Callers with secrets of their own.
 mod secrets;
+/// Connections that are forgotten.
+mod forgetting;
 /// Images of both versions.
 mod images;
 

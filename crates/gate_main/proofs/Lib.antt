@@ -6,7 +6,6 @@ pub mod Asks
 pub mod LineLists
 pub mod StoreLists
 pub mod Begins
-pub mod Portions
 pub mod Turning
 pub mod Steps
 pub mod CallLemmas

@@ -1,7 +1,7 @@
 -- What a script is answered, where its commands get given replies.
 use Rattle.std.specs.Prelude.{ℕ, ◌+◌, ◌&&◌, ◌||◌, not, ◌==◌, List, [], ◌∷◌, ◌++◌, length, Bool, true, false, if◌then◌else◌, Option, Some, None, codes}
 use Rattle.gate_core.specs.declared.fault.GatewayFault.{GatewayFault}
-use Rattle.gate_core.specs.declared.fault.GatewayFault.TheVariants.{Known, NotOpen, Cut, NoMemory, BadParameters}
+use Rattle.gate_core.specs.declared.fault.GatewayFault.TheVariants.{Known, NotOpen, Cut, NoMemory, BadParameters, StillOpen}
 use Rattle.grid.specs.declared.fault.GridFault.{GridFault}
 use Rattle.grid.specs.declared.fault.GridFault.TheVariants as grid_fault
 use Rattle.gate_main.specs.Text.{escaped}
@@ -23,6 +23,7 @@ fault_text NotOpen = codes "2 NotOpen"
 fault_text Cut = codes "3 Cut"
 fault_text NoMemory = codes "4 NoMemory"
 fault_text BadParameters = codes "5 BadParameters"
+fault_text StillOpen = codes "6 StillOpen"
 
 abbrev pub grid_fault_text : GridFault → List ℕ
 grid_fault_text (grid_fault.Full server) = codes "1 Full"

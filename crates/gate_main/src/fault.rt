@@ -1,8 +1,7 @@
-//! Why a script, a connection, a listener or the program ended before its end.
+//! Why a script, a listener or the program ended before its end.
 ghost use Rattle.std.specs.Prelude.{◌≡◌};
 ghost use Rattle.gate_main.specs.declared.fault.ScriptFault.TheVariants as script;
 ghost use Rattle.gate_main.specs.declared.fault.ProgramFault.TheVariants as program;
-ghost use Rattle.gate_main.specs.declared.fault.TurnFault.TheVariants as turn;
 
 use octets::WriteFault;
 use std::alloc::{AllocError, AllocFailed};
@@ -46,37 +45,9 @@ impl From<WriteFault> for ScriptFault {
     }
 }
 
-/// Why a connection's turns ended before its end.
-#[derive(Clone, Copy, Debug, PartialEq, Eq, Error)]
-pub enum TurnFault {
-    /// The gateway did not open the connection: its id was used before.
-    #[error("the gateway refused it")]
-    Refused = 1,
-    /// What the peer sent could not be read further.
-    #[error("it could not be read")]
-    ReadFailed = 2,
-    /// What the gateway answered could not be written further.
-    #[error("it could not be written to")]
-    WriteFailed = 3,
-    /// Memory was refused.
-    #[error("out of memory")]
-    NoMemory = 4,
-}
-
-impl From<WriteFault> for TurnFault {
-    ghost from_gives = { λ _ fault. fault ≡ turn.WriteFailed };
-
-    fn from(_fault: WriteFault) -> TurnFault {
-        TurnFault::WriteFailed
-    }
-}
-
 /// Why no more connections are served.
 #[derive(Clone, Copy, Debug, PartialEq, Eq, Error)]
 pub enum ServeFault {
-    /// Memory was refused before the first connection.
-    #[error("out of memory")]
-    NoMemory = 4,
     /// The listener gave no further connection.
     #[error("no connection could be accepted")]
     AcceptFailed = 5,

@@ -35,7 +35,7 @@ mod text;
 mod turns;
 
 pub use arguments::{Service, Task, read_task};
-pub use fault::{ProgramFault, ScriptFault, ServeFault, TurnFault};
+pub use fault::{ProgramFault, ScriptFault, ServeFault};
 use gate_core::Gateway;
 use octets::Bytes;
 pub use script::run_script;

@@ -38,6 +38,7 @@ impl Reply {
             GatewayFault::NotOpen => Ok(Reply::Refused(fault)),
             GatewayFault::Cut => Ok(Reply::Refused(fault)),
             GatewayFault::BadParameters => Ok(Reply::Refused(fault)),
+            GatewayFault::StillOpen => Ok(Reply::Refused(fault)),
         }
     }
 
@@ -114,6 +115,7 @@ fn fault_name(fault: GatewayFault) -> &'static [u8]
         GatewayFault::Cut => b"3 Cut",
         GatewayFault::NoMemory => b"4 NoMemory",
         GatewayFault::BadParameters => b"5 BadParameters",
+        GatewayFault::StillOpen => b"6 StillOpen",
     }
 }
 

@@ -63,6 +63,13 @@ impl<S: Store> Grid<S> {
         self.stores.len()
     }
 
+    /// The stores, in the order of the servers, to look at the room of each, what it holds and how often it failed.
+    pub fn stores(&self) -> &[S]
+        ensures { states S.shares S.room S.held S.failures S.honest result.now ≡ self.now }
+    {
+        &self.stores
+    }
+
     /// Puts the shares of a file, at most 256 and none of them empty: share i as number i at server
     /// (last byte of `index` + i) modulo the number of servers. A share that stands is kept as it is.
     ///

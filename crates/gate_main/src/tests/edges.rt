@@ -3,6 +3,7 @@ use super::*;
 use crate::calls::MemGateway;
 use crate::stores::make_stores;
 use gate_core::Gateway;
+use gate_flow::FlowFault;
 use octets::Bytes;
 use std::alloc::{AllocError, Global};
 use std::io::{BufReader, Read, Write};
@@ -100,11 +101,6 @@ const PROGRAM_FAULTS: &[(ProgramFault, u8, &str)] = &[
         "no connection could be accepted",
     ),
     (
-        ProgramFault::Serve(ServeFault::NoMemory),
-        1,
-        "out of memory",
-    ),
-    (
         ProgramFault::Connections(2),
         1,
         "connections that had a fault: 2",
@@ -113,11 +109,11 @@ const PROGRAM_FAULTS: &[(ProgramFault, u8, &str)] = &[
 ];
 
 /// Faults that end a connection's turns, with what is told.
-const TURN_FAULTS: &[(TurnFault, &str)] = &[
-    (TurnFault::Refused, "the gateway refused it"),
-    (TurnFault::ReadFailed, "it could not be read"),
-    (TurnFault::WriteFailed, "it could not be written to"),
-    (TurnFault::NoMemory, "out of memory"),
+const TURN_FAULTS: &[(FlowFault, &str)] = &[
+    (FlowFault::Refused, "the gateway refused it"),
+    (FlowFault::ReadFailed, "it could not be read"),
+    (FlowFault::WriteFailed, "it could not be written to"),
+    (FlowFault::NoMemory, "out of memory"),
 ];
 
 #[test]
@@ -148,7 +144,7 @@ fn serves<R: Read, W: Write>(
     id: u64,
     reader: &mut R,
     writer: &mut W,
-    wanted: Result<(), TurnFault>,
+    wanted: Result<(), FlowFault>,
 ) {
     let outcome = turns(rt.alloc(), gateway, id, reader, writer);
     assert_eq!(rt; outcome, wanted, "on connection {id}");
@@ -176,7 +172,7 @@ fn turns_answer_what_they_read(rt: HostRuntime) -> Result<(), Fail> {
         1,
         &mut reader,
         &mut written,
-        Err(TurnFault::Refused),
+        Err(FlowFault::Refused),
     );
     assert_eq!(rt; written.len(), REPLIES.len());
     Ok(())
@@ -209,7 +205,7 @@ fn turns_end_where_a_peer_fails(rt: HostRuntime) -> Result<(), Fail> {
             id,
             &mut reader,
             &mut written,
-            Err(TurnFault::ReadFailed),
+            Err(FlowFault::ReadFailed),
         );
         assert!(rt; REPLIES.starts_with(&written));
     }
@@ -223,7 +219,7 @@ fn turns_end_where_a_peer_fails(rt: HostRuntime) -> Result<(), Fail> {
             id,
             &mut reader,
             &mut writer,
-            Err(TurnFault::WriteFailed),
+            Err(FlowFault::WriteFailed),
         );
         assert_eq!(rt; writer.held.as_slice(), &REPLIES[..room]);
     }

@@ -1,43 +1,28 @@
-use Rattle.std.proofs.lemmas.Result.{MatchResult-from_err}
-use Rattle.gate_main.specs.Turns.{IsServedPartly}
-use Rattle.gate_main.proofs.Turning.{served_none, served_read, served_turn, served_part, unbrought, none_read}
+use Rattle.std.proofs.lemmas.Result.{err_from_is_err_and}
+use Rattle.gate_main.proofs.Turning.{read_rests}
 use Rattle.gate_main.proofs.turns.take_turns.Goals as goal
 
-pub loop-init : goal.loop-init
-loop-init g c = served_none _ _ _ _ c.requires
+pub reads-init : goal.reads-init
+reads-init g c = record { runs = λ id secret first read before was. was; rests = c.requires.rests; quiet = c.requires.quiet }
 
-pub returns-in-Ok-eq0-clause-ok : goal.returns-in-Ok-eq0-clause-ok
-returns-in-Ok-eq0-clause-ok g c =
-    served_read c.args.id c.args.gateway.now c.loop.gateway (g.R.Read.remaining c.args.reader.now) (g.R.Read.remaining c.loop.reader) (g.W.Write.contents c.args.writer.now) (g.W.Write.contents c.loop.writer) c.loop.invariant
-    (g.R.Read.remaining c.read.new.self) (none_read _ _ c.read.result c.in-Ok-eq0.field-0 c.read.new.buf c.in-Ok-eq0.is c.in-Ok-eq0.field-0-test c.read.ensures.bytes)
+pub returns-in_err-read_once-clause-err : goal.returns-in_err-read_once-clause-err
+returns-in_err-read_once-clause-err g c =
+    let p = err_from_is_err_and c.from_residual.result c.from_residual.ensures.1 in
+    rw (p.1, p.2) (λ id secret first read before was.
+    ((c.flows_run.ensures.read id secret first c.reads.gateway c.reads.flow c.read_once.new.flow read (g.R.Read.remaining c.reads.reader) before (g.W.Write.contents c.reads.writer) (g.R.Read.remaining c.read_once.new.reader) (c.reads.invariant.runs id secret first read before was) c.in_err-read_once.ensures.read).run, c.in_err-read_once.ensures.stops c.reads.gateway c.reads.invariant.rests))
 
-pub returns-in_err-bring-clause-err : goal.returns-in_err-bring-clause-err
-returns-in_err-bring-clause-err g c =
-    let read = g.R.Read.remaining c.args.reader.now in
-    let left = g.R.Read.remaining c.read.new.self in
-    let before = g.W.Write.contents c.args.writer.now in
-    let now = g.W.Write.contents c.loop.writer in
-    MatchResult-from_err c.from_residual.result (λ _. Unit {0}) (λ _. IsServedPartly c.args.id c.args.gateway.now c.bring.new.gateway read left before now) c.from_residual.ensures.0 (λ _.
-    unbrought c.args.id c.args.gateway.now c.loop.gateway read (g.R.Read.remaining c.loop.reader) before now c.loop.invariant c.bring.new.gateway left _ c.in-Ok.ensures.bytes.0 c.in_err-bring.ensures.err)
+pub settle-requires : goal.settle-requires
+settle-requires g c = read_rests c.reads.flow c.read_once.new.flow c.reads.gateway c.in_ok-read_once.ensures.next c.reads.invariant.rests
 
-pub returns-in_err-write_waiting-clause-err : goal.returns-in_err-write_waiting-clause-err
-returns-in_err-write_waiting-clause-err g c =
-    let read = g.R.Read.remaining c.args.reader.now in
-    let left = g.R.Read.remaining c.read.new.self in
-    let before = g.W.Write.contents c.args.writer.now in
-    let after = g.W.Write.contents c.write_waiting.new.writer in
-    MatchResult-from_err c.from_residual-in_err-write_waiting.result (λ _. Unit {0}) (λ _. IsServedPartly c.args.id c.args.gateway.now c.write_waiting.new.gateway read left before after) c.from_residual-in_err-write_waiting.ensures.0 (λ _.
-    served_part c.args.id c.args.gateway.now c.loop.gateway read (g.R.Read.remaining c.loop.reader) before (g.W.Write.contents c.loop.writer) c.loop.invariant
-    c.bring.new.gateway c.write_waiting.new.gateway left after _ c.in-Ok.ensures.bytes.0 c.in_ok-bring.ensures.led c.in_err-write_waiting.ensures.partly)
+pub returns-in_err-settle-clause-err : goal.returns-in_err-settle-clause-err
+returns-in_err-settle-clause-err g c =
+    let p = err_from_is_err_and c.from_residual-in_err-settle.result c.from_residual-in_err-settle.ensures.1 in
+    rw (p.1, p.2) (λ id secret first read before was.
+    c.in_err-settle.ensures.err (g.R.Read.remaining c.read_once.new.reader) id secret first read before (c.flows_run.ensures.read id secret first c.reads.gateway c.reads.flow c.read_once.new.flow read (g.R.Read.remaining c.reads.reader) before (g.W.Write.contents c.reads.writer) (g.R.Read.remaining c.read_once.new.reader) (c.reads.invariant.runs id secret first read before was) c.in_ok-read_once.ensures.read))
 
-pub returns-then-closed-clause-ok : goal.returns-then-closed-clause-ok
-returns-then-closed-clause-ok g c =
-    served_turn c.args.id c.args.gateway.now c.loop.gateway (g.R.Read.remaining c.args.reader.now) (g.R.Read.remaining c.loop.reader) (g.W.Write.contents c.args.writer.now) (g.W.Write.contents c.loop.writer) c.loop.invariant
-    c.bring.new.gateway c.write_waiting.new.gateway (g.R.Read.remaining c.read.new.self) (g.W.Write.contents c.write_waiting.new.writer) _ c.in-Ok.ensures.bytes.0 c.in_ok-bring.ensures.led
-    c.beginnings_have_room.ensures c.in_ok-bring.ensures.calm c.in_ok-write_waiting.ensures.taken c.in_ok-write_waiting.ensures.all
-
-pub loop-preserved : goal.loop-preserved
-loop-preserved g c =
-    served_turn c.args.id c.args.gateway.now c.loop.gateway (g.R.Read.remaining c.args.reader.now) (g.R.Read.remaining c.loop.reader) (g.W.Write.contents c.args.writer.now) (g.W.Write.contents c.loop.writer) c.loop.invariant
-    c.bring.new.gateway c.write_waiting.new.gateway (g.R.Read.remaining c.read.new.self) (g.W.Write.contents c.write_waiting.new.writer) _ c.in-Ok.ensures.bytes.0 c.in_ok-bring.ensures.led
-    c.beginnings_have_room.ensures c.in_ok-bring.ensures.calm c.in_ok-write_waiting.ensures.taken c.in_ok-write_waiting.ensures.all
+pub reads-preserved : goal.reads-preserved
+reads-preserved g c = record {
+  runs = λ id secret first read before was. c.in_ok-settle.ensures.ok (g.R.Read.remaining c.read_once.new.reader) id secret first read before (c.flows_run.ensures.read id secret first c.reads.gateway c.reads.flow c.read_once.new.flow read (g.R.Read.remaining c.reads.reader) before (g.W.Write.contents c.reads.writer) (g.R.Read.remaining c.read_once.new.reader) (c.reads.invariant.runs id secret first read before was) c.in_ok-read_once.ensures.read);
+  rests = c.in_ok-settle.ensures.rests;
+  quiet = c.in_ok-settle.ensures.quiet;
+}

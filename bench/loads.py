@@ -1,0 +1,211 @@
+#!/usr/bin/env python3
+"""Loads on `wozhinnam serve`, the built program, on the loopback, with times and memory; each takes a minute or two at most.
+
+usage: bench/loads.py PROGRAM [open|readers|many_readers|came|pipelined ..]
+
+open          10,000 connections, a reply on each
+readers       8 readers of 4 MiB beside small GETs; many_readers: 200 of them
+came          100,000 connections that come and go, one after the other
+pipelined     500 GETs of a file of 4 MiB on one connection, written before anything is read
+"""
+
+import re
+import resource
+import socket
+import subprocess
+import sys
+import threading
+import time
+
+SMALL = b"GET /uri/URI:LIT:mzxw6 HTTP/1.1\r\nHost: g\r\n\r\n"
+REPLY = b"HTTP/1.1 200 OK\r\nContent-Type: application/octet-stream\r\nContent-Length: 3\r\n\r\nfoo"
+LONG = 4_194_304
+SECONDS = 120
+
+
+class Server:
+    def __init__(self, program, connections):
+        self.process = subprocess.Popen(
+            [program, "serve", "--listen", "127.0.0.1:0", "--control", "127.0.0.1:0", "--connections", str(connections)],
+            stdout=subprocess.PIPE, stderr=subprocess.DEVNULL, text=True)
+        self.address = self.told("listening on")
+        self.control = self.told("control on")
+
+    def told(self, words):
+        line = self.process.stdout.readline()
+        if not line.startswith(words):
+            sys.exit("loads.py: the program said %r" % line)
+        host, port = line.split()[-1].rsplit(":", 1)
+        return host, int(port)
+
+    def connect(self):
+        stream = socket.create_connection(self.address, timeout=SECONDS)
+        stream.setsockopt(socket.IPPROTO_TCP, socket.TCP_NODELAY, 1)
+        return stream
+
+    def memory(self, field="VmRSS"):
+        with open("/proc/%d/status" % self.process.pid) as status:
+            return int(re.search(field + r":\s+(\d+) kB", status.read()).group(1)) * 1024
+
+    def stop(self):
+        with socket.create_connection(self.control, timeout=30) as stream:
+            stream.sendall(b"POST /stop HTTP/1.1\r\nHost: g\r\n\r\n")
+            stream.recv(1000)
+        status = self.process.wait(30)
+        if status != 0:
+            sys.exit("loads.py: the program ended with %d" % status)
+
+
+def taken(stream, count):
+    """So many bytes of a stream, which are dropped but for the first 300."""
+    first = b""
+    while count > 0:
+        got = stream.recv(min(count, 1 << 20))
+        if not got:
+            sys.exit("loads.py: a connection ended %d bytes too early" % count)
+        if len(first) < 300:
+            first += got[:300]
+        count -= len(got)
+    return first
+
+
+def small(stream):
+    """The time of a small GET."""
+    began = time.monotonic()
+    stream.sendall(SMALL)
+    if taken(stream, len(REPLY))[:len(REPLY)] != REPLY:
+        sys.exit("loads.py: another reply")
+    return time.monotonic() - began
+
+
+def stored(server):
+    """The request for a stored file of 4 MiB, and how long its reply is."""
+    with server.connect() as stream:
+        stream.sendall(b"PUT /uri HTTP/1.1\r\nHost: g\r\nConnection: close\r\nContent-Length: %d\r\n\r\n" % LONG)
+        stream.sendall(bytes(i % 251 for i in range(LONG)))
+        reply = b""
+        while got := stream.recv(65536):
+            reply += got
+    cap = reply.split(b"\r\n\r\n", 1)[1]
+    head = b"HTTP/1.1 200 OK\r\nContent-Type: application/octet-stream\r\nContent-Length: %d\r\n\r\n" % LONG
+    return b"GET /uri/%s HTTP/1.1\r\nHost: g\r\n\r\n" % cap, len(head) + LONG
+
+
+def times(name, taken_by):
+    ordered = sorted(taken_by)
+    at = lambda share: ordered[min(len(ordered) - 1, int(share * len(ordered)))] * 1000
+    print("%s: %d, median %.3f ms, 99 of 100 %.2f ms, longest %.1f ms" % (name, len(ordered), at(0.5), at(0.99), ordered[-1] * 1000))
+
+
+def open_ones(program):
+    count = 10_000
+    server = Server(program, count + 100)
+    small(server.connect())
+    before = server.memory()
+    began = time.monotonic()
+    streams = [server.connect() for _ in range(count)]
+    opened = time.monotonic() - began
+    began = time.monotonic()
+    for stream in streams:
+        stream.sendall(SMALL)
+    for stream in streams:
+        taken(stream, len(REPLY))
+    answered = time.monotonic() - began
+    print("%d connections: opened in %.2f s, a reply on each in %.2f s, %d bytes of memory each" % (count, opened, answered, (server.memory() - before) // count))
+    times("small GETs on one of them", [small(streams[0]) for _ in range(2000)])
+    for stream in streams:
+        stream.close()
+    server.stop()
+
+
+def readers(program, count):
+    server = Server(program, count + 100)
+    request, length = stored(server)
+    quick = server.connect()
+    times("small GETs alone", [small(quick) for _ in range(2000)])
+    over = time.monotonic() + 15
+    replies = []
+
+    def read():
+        stream = server.connect()
+        while time.monotonic() < over:
+            stream.sendall(request)
+            taken(stream, length)
+            replies.append(1)
+        stream.close()
+
+    threads = [threading.Thread(target=read) for _ in range(count)]
+    for thread in threads:
+        thread.start()
+    time.sleep(1)
+    began = time.monotonic()
+    waits = []
+    while time.monotonic() < over - 1:
+        waits.append(small(quick))
+        time.sleep(0.001)
+    times("small GETs beside %d readers of 4 MiB" % count, waits)
+    for thread in threads:
+        thread.join(SECONDS)
+    print("replies of 4 MiB a second: %.1f; memory at most %d MB" % (len(replies) / (time.monotonic() - began + 1), server.memory("VmHWM") >> 20))
+    server.stop()
+
+
+def came(program):
+    server = Server(program, 1000)
+    marks = []
+    began = time.monotonic()
+    for at in range(100_000):
+        if at % 25_000 == 0:
+            marks.append(server.memory())
+        with server.connect() as stream:
+            small(stream)
+        if time.monotonic() - began > SECONDS:
+            break
+    marks.append(server.memory())
+    print("%d connections one after the other: %.0f µs each; memory that stays: %d bytes each, at 0, 25,000 ..: %s KiB" % (
+        at + 1, (time.monotonic() - began) / (at + 1) * 1e6, (marks[-1] - marks[1]) // max(1, at - 25_000), [m >> 10 for m in marks]))
+    server.stop()
+
+
+def pipelined(program):
+    server = Server(program, 100)
+    request, length = stored(server)
+    before = server.memory("VmHWM")
+    stream = server.connect()
+    count = 500
+    sender = threading.Thread(target=lambda: stream.sendall(request * count))
+    sender.start()
+    time.sleep(1)
+    held = server.memory("VmHWM") - before
+    began = time.monotonic()
+    for at in range(count):
+        taken(stream, length)
+        if time.monotonic() - began > SECONDS:
+            break
+    print("%d of %d pipelined GETs of 4 MiB: %.1f a second; memory beside: %.1f MB before any was read, %.1f MB at most" % (
+        at + 1, count, (at + 1) / (time.monotonic() - began), held / 1e6, (server.memory("VmHWM") - before) / 1e6))
+    stream.close()
+    sender.join(10)
+    server.stop()
+
+
+LOADS = {
+    "open": open_ones,
+    "readers": lambda program: readers(program, 8),
+    "many_readers": lambda program: readers(program, 200),
+    "came": came,
+    "pipelined": pipelined,
+}
+
+
+def main():
+    if len(sys.argv) < 2 or any(name not in LOADS for name in sys.argv[2:]):
+        sys.exit(__doc__)
+    _, most = resource.getrlimit(resource.RLIMIT_NOFILE)
+    resource.setrlimit(resource.RLIMIT_NOFILE, (most, most))
+    for name in sys.argv[2:] or LOADS:
+        print("%s" % name, flush=True)
+        LOADS[name](sys.argv[1])
+
+
+main()

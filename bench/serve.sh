@@ -1,0 +1,101 @@
+#!/bin/sh
+# `wozhinnam serve`, the built program: each exit status that a run can have, curl and wget at once (clients.sh), chunked
+# uploads, `Expect: 100-continue`, the control requests, and a stop. It needs curl, wget and python3, and takes a minute.
+# usage: bench/serve.sh PROGRAM
+set -eu
+program=${1:?usage: bench/serve.sh PROGRAM}
+here=$(cd "$(dirname "$0")" && pwd)
+folder=$(mktemp -d)
+server=
+finish() {
+    test -z "$server" || kill "$server" 2> /dev/null || true
+    rm -rf "$folder"
+}
+trap finish EXIT
+fail() {
+    echo "serve.sh: $1" >&2
+    exit 1
+}
+curl='curl --silent --show-error --max-time 30'
+
+# the address after a word on the program's standard output
+address() {
+    sed -n "s/^$1 //p" "$folder/out"
+}
+start() {
+    timeout 300 "$program" serve --listen 127.0.0.1:0 --control 127.0.0.1:0 "$@" > "$folder/out" 2> "$folder/words" &
+    server=$!
+    for _ in $(seq 100); do
+        test -n "$(address 'control on')" && break
+        sleep 0.1
+    done
+    base="http://$(address 'listening on')"
+    control="http://$(address 'control on')"
+}
+# a run that ends by itself: its status, and a line on standard error
+ends() {
+    wanted=$1
+    shift
+    status=0
+    timeout 20 "$program" "$@" > "$folder/nothing" 2> "$folder/why" || status=$?
+    test "$status" = "$wanted" || fail "$* ends with $status and not $wanted"
+    test -s "$folder/why" || fail "$* doesn't say why"
+    test ! -s "$folder/nothing" || fail "$* prints something"
+}
+
+# statuses
+start
+ends 2 serve --shares 4,3
+ends 2 serve --servers 0
+ends 2 serve --port 80
+ends 2
+ends 3 serve --listen nobody.invalid:80
+ends 3 serve --listen 127.0.0.1
+ends 4 serve --listen "$(address 'listening on')"
+ends 7 serve --secret-file "$folder/none"
+head -c 257 /dev/zero > "$folder/long"
+ends 8 serve --secret-file "$folder/long"
+status=0
+(ulimit -n 100 && timeout 20 "$program" serve --connections 100) > "$folder/nothing" 2> "$folder/why" || status=$?
+test "$status" = 9 || fail "few handles end with $status"
+
+# curl and wget, eight runs at once
+runs=
+for at in $(seq 8); do
+    "$here/clients.sh" "$base" > "$folder/clients$at" 2>&1 &
+    runs="$runs $!"
+done
+for run in $runs; do
+    wait "$run" || fail "$(cat "$folder"/clients*)"
+done
+
+# chunked, and with `Expect`
+head -c 3000000 /dev/urandom > "$folder/file"
+cap=$($curl -T "$folder/file" "$base/uri")
+test "$($curl -T - "$base/uri" < "$folder/file")" = "$cap" || fail 'another cap for a chunked upload'
+test "$($curl -H 'Expect: 100-continue' -T "$folder/file" "$base/uri")" = "$cap" || fail 'another cap with Expect'
+$curl -o "$folder/back" "$base/uri/$cap"
+cmp "$folder/file" "$folder/back" || fail 'other bytes'
+
+# what was asked on the wrong port
+test "$($curl -o "$folder/back" -w '%{http_code}' -X POST "$base/stop")" != 200 || fail 'a stop on the port of the gateway'
+test "$($curl -o "$folder/back" -w '%{http_code}' "$control/uri/URI:LIT:mzxw6")" = 404 || fail 'a file on the control port'
+
+# control
+$curl "$control/status" | python3 -c '
+import json, sys
+status = json.load(sys.stdin)
+connections = status["connections"]
+assert connections["opened"] >= 8 * 34, connections
+assert connections["failed"] == connections["late"] == 0, connections
+assert status["received"] > 8 * 1000000 and status["sent"] > 8 * 1000000, status
+' || fail 'the status'
+$curl "$control/metrics" | grep -q '^wozhinnam_connections_opened_total [1-9]' || fail 'the metrics'
+test "$($curl -o "$folder/back" -w '%{http_code}' "$control/stop")" = 405 || fail 'a stop by GET'
+test "$($curl -X POST "$control/stop")" = stopping || fail 'the stop'
+status=0
+wait "$server" || status=$?
+server=
+test "$status" = 0 || fail "the program's status is $status"
+grep -q 'URI:' "$folder/words" && fail 'a cap in the log'
+echo 'serve: all as it is to be'

@@ -1,0 +1,77 @@
+-- What a flow is after the gateway was called for it.
+use Rattle.std.proofs.Common.{◌≡◌, ◌≢◌, ℕ, suc, ◌≤◌, ◌⊎◌, List, [], ◌∷◌, ◌++◌, length, take, Bool, true, false, refl, sym, ap, subst, ◌∙◌, arith, ⊎_elim, inl, inr}
+use Rattle.std.specs.Prelude.{IsTrue, ◌↔◌, MatchBool, min}
+use Rattle.std.proofs.lemmas.List.{length-take}
+use Rattle.gate_core.specs.Events.{Event, End, Take}
+use Rattle.gate_core.specs.Held.{State, waiting, held_at, is_closed_in, bytes_refusal}
+use Rattle.gate_core.specs.Came.{GoesOn}
+use Rattle.gate_flow.specs.declared.want.Want.{Want}
+use Rattle.gate_flow.specs.declared.want.Want.TheVariants.{Read, Advance, Write, Nothing}
+use Rattle.gate_flow.specs.State.{FlowState, IsSound, Stands}
+use Rattle.gate_flow.specs.Led.{IsLed, IsLedCalmly, IsMoved, IsMovedCalmly}
+use Rattle.gate_flow.specs.Steps.{Advances, AdvancesCalmly, Rests}
+use Rattle.gate_flow.proofs.Leading.{Beginnings, led_none}
+use Rattle.gate_flow.proofs.Moving.{moved_none, moved_more, moved_then, moved_take, moved_behind, moved_calmly_behind}
+
+some_taken : (n : ℕ) (waits : List ℕ) → waits ≢ [] → take (suc n) waits ≢ []
+some_taken n [] some = absurd (some refl)
+some_taken n (x ∷ waits) some = λ none. cc
+
+-- a test of whether bytes wait
+pub waits_so : (b : Bool) (waits : List ℕ) → IsTrue b ↔ (waits ≢ []) → MatchBool b (waits ≢ []) (waits ≡ [])
+waits_so true waits says = says.0 refl
+waits_so false [] says = refl
+waits_so false (x ∷ waits) says = let some : IsTrue false = says.1 (λ e. cc) in cc
+
+module _ (old : FlowState) (id : ℕ) (piece portion : List ℕ) (ended : Bool) (want : Want) where
+  abbrev before : FlowState
+  before = record { id = id; piece = piece; portion = portion; ended = ended; want = want }
+
+  abbrev after : List ℕ → List ℕ → Want → FlowState
+  after left more next = record { id = id; piece = left; portion = more; ended = ended; want = next }
+
+  module _ (is : before ≡ old) (g m : State) (left : List ℕ) where
+    pub failing : IsMoved id g m piece left [] [] → Advances old (after left portion want) g m
+    failing moved = subst (λ o. Advances o (after left portion want) g m) is record { id = refl; moved = moved_behind id g m piece left portion moved }
+
+    -- a further call was refused and changed nothing
+    pub failing_then : (h : State) → IsMovedCalmly id g m piece left [] [] → h ≡ m → Advances old (after left portion want) g h
+    failing_then h moved same = subst (λ s. Advances old (after left portion want) g s) (sym same) (failing moved.moved)
+
+    pub staying : (next : Want) → IsMovedCalmly id g m piece left [] [] → AdvancesCalmly old (after left portion next) g m
+    staying next moved = subst (λ o. AdvancesCalmly o (after left portion next) g m) is record { id = refl; moved = moved_calmly_behind id g m piece left portion moved }
+
+    pub writing : Beginnings → (h : State) (given items : List ℕ) → given ≡ items → portion ≡ [] → IsMovedCalmly id g m piece left [] [] → bytes_refusal (held_at h id) ≡ bytes_refusal (held_at m id) → IsLed id (Take id items ∷ []) m h → GoesOn m h (Take id items) → AdvancesCalmly old (after left given Write) g h
+    writing begins h given items same none moved stays led on = subst (λ o. AdvancesCalmly o (after left given Write) g h) is record {
+      id = refl;
+      moved = moved_more id g m h piece left left portion portion given begins (moved_calmly_behind id g m piece left portion moved) (subst (IsMovedCalmly id m h left left portion) (sym same) (moved_take id m h left portion items stays led on none));
+    }
+
+  -- ---- it is sound
+
+  module _ (is : before ≡ old) (advancing : old.want ≡ Advance) (sound : IsSound before) where
+    was : want ≡ Advance
+    was = ap (λ (f : FlowState). f.want) is ∙ advancing
+
+    pub no_portion : portion ≡ []
+    no_portion = subst (λ w. Stands w before) was sound.stands
+
+    module _ (left : List ℕ) (less : length left ≤ length piece) where
+      fits : length left ≤ 65536
+      fits = omega (arith, less, sound.piece)
+
+      pub sound_failing : IsSound (after left portion want)
+      sound_failing = record { piece = fits; portion = sound.portion; stands = subst (λ w. Stands w (after left portion want)) (sym was) no_portion }
+
+      pub sound_writing : (waits given : List ℕ) → waits ≢ [] → given ≡ take 65536 waits → IsSound (after left given Write)
+      sound_writing waits given some is_given = record {
+        piece = fits;
+        portion = omega (arith, ap length is_given, length-take 65536 waits);
+        stands = λ none. some_taken 65535 waits some (sym is_given ∙ none);
+      }
+
+      pub sound_ending : IsSound (after left portion Nothing)
+      sound_ending = record { piece = fits; portion = sound.portion; stands = no_portion }
+
+      pub sound_reading : left ≡ [] → ended ≡ false → IsSound (after left portion Read)
+      sound_reading none goes_on = record { piece = fits; portion = sound.portion; stands = (none, no_portion, goes_on) }

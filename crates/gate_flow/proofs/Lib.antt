@@ -1,0 +1,5 @@
+pub mod Leading
+pub mod Moving
+pub mod Standing
+pub mod Advancing
+pub mod Running

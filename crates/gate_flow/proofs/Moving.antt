@@ -1,0 +1,218 @@
+-- Pieces that are brought and portions that are taken, one after the other.
+use Rattle.std.proofs.Common.{◌≡◌, ◌≢◌, ℕ, ◌≤◌, ◌<◌, ◌^◌, ◌-◌, ◌⊎◌, List, [], ◌∷◌, ◌++◌, length, take, drop, Bool, true, false, cond, eqb, refl, sym, ap, subst, ◌∙◌, append_assoc, arith, length-append, take-append-drop, Option, Some, None, inl, inr}
+use Rattle.std.specs.Prelude.{All, IsTrue, ◌↔◌, ◌||◌, Result, Ok, Err, OnOk, OnErr, IfOk}
+use Rattle.gate_flow.specs.declared.fault.FlowFault.{FlowFault}
+use Rattle.std.proofs.lemmas.List.{append-nil}
+use Rattle.std.proofs.lemmas.List.Elements.{All-append, All-nil, All-cons}
+use Rattle.gate_core.specs.Events.{Event, Open, Bytes, End, Take, caller_of, piece_of, given_by, is_end, is_of, calls_of, joined, handed, has_ended}
+use Rattle.std.specs.List.{list_any}
+use Rattle.std.proofs.lemmas.List.Elements.{filter-append}
+use Rattle.std.proofs.lemmas.List.Folds.{list_any-append}
+use Rattle.gate_core.specs.Held.{State, held_at, waiting, bytes_refusal, is_closed_in}
+use Rattle.gate_core.specs.Came.{GoesOn}
+use Rattle.gate_core.specs.Faithful.{Faithful}
+use Rattle.gate_flow.specs.Led.{AreOf, TakesBytes, IsTimely, AreTimely, IsLed, IsLedCalmly, IsMoved, IsMovedCalmly, IsGivenUp}
+use Rattle.gate_flow.proofs.Leading.{Beginnings, led_none, led_more, calm_none, calm_more, calm_on, joined_more, handed_more, joined_one, handed_one, calls_of_one, unclosed}
+
+own_none : (id : ℕ) → AreOf id []
+own_none id = All-nil (λ (e : Event). caller_of e ≡ Some id)
+
+pub own_one : (id : ℕ) (e : Event) → caller_of e ≡ Some id → AreOf id (e ∷ [])
+own_one id e mine = All-cons (λ (x : Event). caller_of x ≡ Some id) e [] mine (own_none id)
+
+pub own_more : (id : ℕ) (a b : List Event) → AreOf id a → AreOf id b → AreOf id (a ++ b)
+own_more id a b first second = All-append (λ (e : Event). caller_of e ≡ Some id) a b first second
+
+or_no : (b : Bool) → b ≡ false → (b || false) ≡ false
+or_no true none = none
+or_no false none = refl
+
+going_one : (id : ℕ) (e : Event) → caller_of e ≡ Some id → is_end e ≡ false → has_ended id (e ∷ []) ≡ false
+going_one id e mine none = ap (list_any is_end) (calls_of_one id e mine) ∙ or_no (is_end e) none
+
+going_more : (id : ℕ) (a b : List Event) → has_ended id a ≡ false → has_ended id b ≡ false → has_ended id (a ++ b) ≡ false
+going_more id a b first second =
+    ap (list_any is_end) (filter-append (is_of id) a b) ∙ list_any-append is_end (calls_of id a) (calls_of id b) ∙ ap (λ r. r || has_ended id b) first ∙ second
+
+-- bytes of calls come while no item closed, and so do those of others after them
+pub timely_more : (id : ℕ) (before a b : List Event) → AreTimely id before a → AreTimely id (before ++ a) b → AreTimely id before (a ++ b)
+timely_more id before [] b first second = subst (λ es. AreTimely id es b) (append-nil before) second
+timely_more id before (e ∷ a) b first second =
+    (first.0, timely_more id (before ++ e ∷ []) a b first.1 (subst (λ es. AreTimely id es b) (sym (append_assoc before (e ∷ []) a)) second))
+
+-- nothing was called
+pub moved_none : (id : ℕ) (g h : State) (piece left portion more : List ℕ) → h ≡ g → left ≡ piece → more ≡ portion → IsMovedCalmly id g h piece left portion more
+moved_none id g h piece left portion more same still kept = record {
+  moved = record {
+    calls = [];
+    own = own_none id;
+    going = refl;
+    timely = λ events told. tt;
+    led = subst (IsLed id [] g) (sym same) (led_none id g);
+    brought = sym still;
+    handed_out = kept ∙ sym (append-nil portion);
+  };
+  calm = subst (IsLedCalmly [] g) (sym same) (calm_none g);
+  takes = λ takes. subst (λ (s : State). TakesBytes (held_at s id)) (sym same) takes;
+}
+
+-- a call that was refused after it changed this connection, or nothing at all
+pub moved_still : (id : ℕ) (g h : State) (piece left portion more : List ℕ) → IsLed id [] g h → left ≡ piece → more ≡ portion → IsMoved id g h piece left portion more
+moved_still id g h piece left portion more led still kept = record {
+  calls = [];
+  own = own_none id;
+  going = refl;
+  timely = λ events told. tt;
+  led = led;
+  brought = sym still;
+  handed_out = kept ∙ sym (append-nil portion);
+}
+
+-- one call
+moved_one : (id : ℕ) (e : Event) (g h : State) (piece left portion more : List ℕ) → caller_of e ≡ Some id → is_end e ≡ false
+    → ((events : List Event) → Faithful g events → IsTimely id events e) → (TakesBytes (held_at g id) → TakesBytes (held_at h id)) → IsLed id (e ∷ []) g h → IsLedCalmly (e ∷ []) g h
+    → piece ≡ piece_of e ++ left → more ≡ portion ++ given_by e → IsMovedCalmly id g h piece left portion more
+moved_one id e g h piece left portion more mine none timely takes led calm brought given = record {
+  moved = record {
+    calls = e ∷ [];
+    own = own_one id e mine;
+    going = going_one id e mine none;
+    timely = λ events told. (timely events told, tt);
+    led = led;
+    brought = brought ∙ ap (λ r. r ++ left) (sym (joined_one id e mine));
+    handed_out = given ∙ ap (λ r. portion ++ r) (sym (handed_one id e mine));
+  };
+  calm = calm;
+  takes = takes;
+}
+
+-- the first bytes of a piece were brought
+pub moved_bytes : (id n : ℕ) (g h : State) (piece left part : List ℕ) → part ≡ take n piece → left ≡ drop n piece
+    → is_closed_in (held_at g id) ≡ false → TakesBytes (held_at h id) → IsLed id (Bytes id part ∷ []) g h → IsLedCalmly (Bytes id part ∷ []) g h → IsMovedCalmly id g h piece left [] []
+moved_bytes id n g h piece left part first rest none takes led calm =
+    moved_one id (Bytes id part) g h piece left [] [] refl refl (λ events told. unclosed g id events none told) (λ was. takes) led calm
+    (sym (take-append-drop n piece) ∙ ap (λ r. r ++ drop n piece) (sym first) ∙ ap (λ r. part ++ r) (sym rest)) refl
+
+pub moved_take : (id : ℕ) (g h : State) (piece portion given : List ℕ) → bytes_refusal (held_at h id) ≡ bytes_refusal (held_at g id) → IsLed id (Take id given ∷ []) g h → GoesOn g h (Take id given) → portion ≡ [] → IsMovedCalmly id g h piece piece portion given
+moved_take id g h piece portion given stays led on none =
+    moved_one id (Take id given) g h piece piece portion given refl refl (λ events told. tt) (λ takes. stays ∙ takes) led (calm_on g h (Take id given) on) refl (ap (λ r. r ++ given) (sym none))
+
+module _ (id : ℕ) (g h k : State) (a b c p q r : List ℕ) where
+  -- calls, and then others
+  pub moved_then : IsMoved id g h a b p q → IsMoved id h k b c q r → IsMoved id g k a c p r
+  moved_then first second = record {
+    calls = first.calls ++ second.calls;
+    own = own_more id first.calls second.calls first.own second.own;
+    going = going_more id first.calls second.calls first.going second.going;
+    timely = λ events told. timely_more id events first.calls second.calls (first.timely events told) (second.timely (events ++ first.calls) (first.led.told events told));
+    led = led_more id first.calls second.calls g h k first.led second.led;
+    brought = first.brought ∙ ap (λ s. joined id first.calls ++ s) second.brought ∙ sym (append_assoc (joined id first.calls) (joined id second.calls) c)
+        ∙ ap (λ s. s ++ c) (sym (joined_more id first.calls second.calls));
+    handed_out = second.handed_out ∙ ap (λ s. s ++ handed id second.calls) first.handed_out ∙ append_assoc p (handed id first.calls) (handed id second.calls)
+        ∙ ap (λ s. p ++ s) (sym (handed_more id first.calls second.calls));
+  }
+
+  pub moved_more : Beginnings → IsMovedCalmly id g h a b p q → IsMovedCalmly id h k b c q r → IsMovedCalmly id g k a c p r
+  unfolding moved_then
+  moved_more begins first second = record {
+    moved = moved_then first.moved second.moved;
+    calm = calm_more begins id first.moved.calls second.moved.calls g h k first.moved.led second.moved.led first.calm second.calm;
+    takes = λ takes. second.takes (first.takes takes);
+  }
+
+-- the portion in front of what was handed out
+pub moved_behind : (id : ℕ) (g h : State) (a b p : List ℕ) → IsMoved id g h a b [] [] → IsMoved id g h a b p p
+moved_behind id g h a b p was = record {
+  calls = was.calls;
+  own = was.own;
+  going = was.going;
+  timely = was.timely;
+  led = was.led;
+  brought = was.brought;
+  handed_out = sym (append-nil p) ∙ ap (λ r. p ++ r) was.handed_out;
+}
+
+pub moved_calmly_behind : (id : ℕ) (g h : State) (a b p : List ℕ) → IsMovedCalmly id g h a b [] [] → IsMovedCalmly id g h a b p p
+unfolding moved_behind
+moved_calmly_behind id g h a b p was = record { moved = moved_behind id g h a b p was.moved; calm = was.calm; takes = was.takes }
+
+-- ---- a connection is given up
+
+-- its end came, or was refused
+pub record IsEnding (id : ℕ) (g h : State) : Type 0 where
+  pub calls : List Event
+  pub own : AreOf id calls
+  pub timely : (events : List Event) → AreTimely id events calls
+  pub led : IsLed id calls g h
+  pub calm : IsLedCalmly calls g h
+  pub brings : joined id calls ≡ []
+  pub dropped : waiting g id ≡ handed id calls ++ waiting h id
+  pub ends : TakesBytes (held_at g id) → has_ended id calls ≡ true
+
+nothing_called : (id : ℕ) (g h : State) → h ≡ g → bytes_refusal (held_at g id) ≢ None → IsEnding id g h
+nothing_called id g h same over = record {
+  calls = [];
+  own = own_none id;
+  timely = λ events. tt;
+  led = subst (IsLed id [] g) (sym same) (led_none id g);
+  calm = subst (IsLedCalmly [] g) (sym same) (calm_none g);
+  brings = refl;
+  dropped = ap (λ (s : State). waiting s id) (sym same);
+  ends = λ takes. absurd (over takes);
+}
+
+end_called : (id : ℕ) (g h : State) → waiting h id ≡ waiting g id → IsLed id (End id ∷ []) g h → IsLedCalmly (End id ∷ []) g h → IsEnding id g h
+end_called id g h same led calm = record {
+  calls = End id ∷ [];
+  own = own_one id (End id) refl;
+  timely = λ events. (tt, tt);
+  led = led;
+  calm = calm;
+  brings = joined_one id (End id) refl;
+  dropped = sym same ∙ ap (λ r. r ++ waiting h id) (sym (handed_one id (End id) refl));
+  ends = λ takes. ap (list_any is_end) (calls_of_one id (End id) refl);
+}
+
+pub end_gives : (id : ℕ) (g m : State) (r : Result (Unit {0}) FlowFault) → OnOk r (IsLed id (End id ∷ []) g m) → OnOk r (IsLedCalmly (End id ∷ []) g m) → OnErr r (m ≡ g) → waiting m id ≡ waiting g id
+    → OnErr r (bytes_refusal (held_at g id) ≢ None) → IsEnding id g m
+end_gives id g m (Ok u) led calm same waits over = end_called id g m waits led calm
+end_gives id g m (Err e) led calm same waits over = nothing_called id g m same over
+
+given_up_here : (id : ℕ) (g m h : State) → IsEnding id g m → bytes_refusal (held_at m id) ≢ None → h ≡ m → IsGivenUp id g h
+given_up_here id g m h ending over same = subst (IsGivenUp id g) (sym same) record {
+  calls = ending.calls;
+  own = ending.own;
+  timely = ending.timely;
+  led = ending.led;
+  calm = ending.calm;
+  brings = ending.brings;
+  dropped = ending.dropped;
+  ends = ending.ends;
+  over = over;
+}
+
+ended_more : (id : ℕ) (a b : List Event) → has_ended id a ≡ true → has_ended id (a ++ b) ≡ true
+ended_more id a b ended =
+    ap (list_any is_end) (filter-append (is_of id) a b) ∙ list_any-append is_end (calls_of id a) (calls_of id b) ∙ ap (λ r. r || has_ended id b) ended
+
+given_up_then : Beginnings → (id : ℕ) (g m h : State) (given : List ℕ) → IsEnding id g m → bytes_refusal (held_at m id) ≢ None → IsLed id (Take id given ∷ []) m h → GoesOn m h (Take id given)
+    → waiting m id ≡ given ++ waiting h id → bytes_refusal (held_at h id) ≡ bytes_refusal (held_at m id) → IsGivenUp id g h
+given_up_then begins id g m h given ending over led on splits stays = record {
+  calls = ending.calls ++ Take id given ∷ [];
+  own = own_more id ending.calls (Take id given ∷ []) ending.own (own_one id (Take id given) refl);
+  timely = λ events. timely_more id events ending.calls (Take id given ∷ []) (ending.timely events) (tt, tt);
+  led = led_more id ending.calls (Take id given ∷ []) g m h ending.led led;
+  calm = calm_more begins id ending.calls (Take id given ∷ []) g m h ending.led led ending.calm (calm_on m h (Take id given) on);
+  brings = joined_more id ending.calls (Take id given ∷ []) ∙ ap (λ r. r ++ joined id (Take id given ∷ [])) ending.brings ∙ joined_one id (Take id given) refl;
+  dropped = ending.dropped ∙ ap (λ r. handed id ending.calls ++ r) splits ∙ sym (append_assoc (handed id ending.calls) given (waiting h id))
+      ∙ ap (λ r. r ++ waiting h id) (ap (λ r. handed id ending.calls ++ r) (sym (handed_one id (Take id given) refl)) ∙ sym (handed_more id ending.calls (Take id given ∷ [])));
+  ends = λ takes. ended_more id ending.calls (Take id given ∷ []) (ending.ends takes);
+  over = λ takes. over (sym stays ∙ takes);
+}
+
+-- bytes that waited were taken, or not
+pub take_gives : Beginnings → {V : Type 0} (id : ℕ) (g m h : State) (t : Result V FlowFault) (items : V → List ℕ) → IsEnding id g m → bytes_refusal (held_at m id) ≢ None
+    → IfOk t (λ v. IsLed id (Take id (items v) ∷ []) m h) → IfOk t (λ v. GoesOn m h (Take id (items v))) → IfOk t (λ v. waiting m id ≡ items v ++ waiting h id)
+    → OnOk t (bytes_refusal (held_at h id) ≡ bytes_refusal (held_at m id)) → OnErr t (h ≡ m) → IsGivenUp id g h
+take_gives begins id g m h (Ok v) items ending over led on splits stays same = given_up_then begins id g m h (items v) ending over led on splits stays
+take_gives begins id g m h (Err e) items ending over led on splits stays same = given_up_here id g m h ending over same

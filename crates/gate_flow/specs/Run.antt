@@ -1,0 +1,34 @@
+-- What a flow's calls came to since it was opened.
+use Rattle.std.specs.Prelude.{◌≡◌, ℕ, List, [], ◌∷◌, ◌++◌, Option}
+use Rattle.std.specs.Io.KnownBytes.{Consumes, Appends}
+use Rattle.gate_core.specs.Events.{Event, Open, joined, handed}
+use Rattle.gate_core.specs.Held.{State, held_at}
+use Rattle.gate_core.specs.Faithful.{Faithful}
+use Rattle.gate_flow.specs.State.{FlowState}
+use Rattle.gate_flow.specs.Led.{AreOf, TakesBytes, AreTimely, IsLed, IsLedCalmly}
+use Rattle.gate_flow.specs.Flowed.{Flowed}
+
+-- these calls begin with the one that opened a connection, with this secret
+abbrev pub Opens : ℕ → List ℕ → List Event → Type 0
+Opens id secret calls = (more : List Event) × (calls ≡ Open id secret ∷ more)
+
+-- A flow was opened in one state of a gateway and called for until another, while a reader and a writer went from what they
+-- had to what they have: the calls are of its own id, and the flow stands where it does after them.
+pub record HasRun (id : ℕ) (secret : List ℕ) (g h : State) (f : FlowState) (read left before after : Option (List ℕ)) : Type 0 where
+  pub same : f.id ≡ id
+  pub calls : List Event
+  pub opens : Opens id secret calls
+  pub own : AreOf id calls
+  pub timely : (events : List Event) → Faithful g events → AreTimely id events calls
+  pub led : IsLed id calls g h
+  pub bytes : List ℕ
+  pub out : List ℕ
+  pub flowed : Flowed f calls bytes out
+  pub taken : Consumes read left bytes
+  pub put : Appends before after out
+
+-- No call was refused: each reply is the written answer too, and the gateway takes bytes of the connection still.
+pub record HasRunCalmly (id : ℕ) (secret : List ℕ) (g h : State) (f : FlowState) (read left before after : Option (List ℕ)) : Type 0 where
+  pub run : HasRun id secret g h f read left before after
+  pub calm : IsLedCalmly run.calls g h
+  pub takes : TakesBytes (held_at h id)

@@ -1,0 +1,346 @@
+//! The connections of a control listener.
+use crate::counts::Counts;
+use gate_core::Gateway;
+use http_edge::{Conn, Head, Item, Reply, ReplyField, ReplyFields, Status, continue_text, render};
+use mio::net::TcpStream;
+use octets::Bytes;
+use share_store::Store;
+use std::alloc::{AllocError, Global};
+use std::collections::BTreeMap;
+use std::io::{Error, ErrorKind, Read, Write};
+use std::net::Shutdown;
+use std::time::{Duration, Instant};
+
+/// How many control connections may be open.
+const MOST: usize = 16;
+
+/// How many bytes one may send.
+const REQUEST: usize = 16_384;
+
+/// For how many seconds one may be open.
+const SECONDS: u64 = 10;
+
+/// How many bytes are read at a time.
+const SCRATCH: usize = 4096;
+
+/// How often a socket is called in one turn: one that sends more than it may is closed before.
+const CALLS: u32 = 32;
+
+/// What a control request is answered, and whether serving is to stop.
+#[derive(Drop)]
+pub struct Answer {
+    pub reply: Reply,
+    pub stops: bool,
+}
+
+/// What answers the requests of a control listener.
+pub trait Control<S: Store> {
+    /// Answers a request. Its connection is closed after that.
+    fn answer(
+        &mut self,
+        alloc: Global,
+        head: &Head,
+        counts: &Counts,
+        gateway: &Gateway<S>,
+    ) -> Result<Answer, AllocError>;
+}
+
+/// Answers each request that there is nothing, for a loop without a control listener.
+#[derive(Clone, Copy, Debug, PartialEq, Eq)]
+pub struct NoControl;
+
+impl<S: Store> Control<S> for NoControl {
+    fn answer(
+        &mut self,
+        alloc: Global,
+        _head: &Head,
+        _counts: &Counts,
+        _gateway: &Gateway<S>,
+    ) -> Result<Answer, AllocError> {
+        Ok(Answer {
+            reply: text_reply(alloc, Status::NotFound, b"not found\n")?,
+            stops: false,
+        })
+    }
+}
+
+/// A reply with a line of text.
+pub fn text_reply(alloc: Global, status: Status, words: &[u8]) -> Result<Reply, AllocError> {
+    let mut fields = ReplyFields::new(alloc);
+    fields.push(ReplyField::constant(b"Content-Type", b"text/plain; charset=utf-8"))?;
+    Ok(Reply {
+        status,
+        fields,
+        body: Bytes::from_slice(alloc, words)?,
+    })
+}
+
+/// What a control connection does.
+#[derive(Clone, Copy, Debug, PartialEq, Eq)]
+enum Phase {
+    /// It sends its request.
+    Asks,
+    /// It takes its reply.
+    Told,
+    /// It has its reply, and what it still sends is dropped.
+    Leaves,
+}
+
+/// Whether a control connection goes on.
+#[derive(Clone, Copy, Debug, PartialEq, Eq)]
+enum Goes {
+    /// It has more to do at once.
+    On,
+    /// It waits for its socket.
+    Waits,
+    /// It is over.
+    Over,
+}
+
+/// A control connection.
+#[derive(Drop)]
+struct Caller {
+    alloc: Global,
+    stream: TcpStream,
+    conn: Conn,
+    phase: Phase,
+    /// How many bytes it sent.
+    taken: usize,
+    /// What is said to it, and how much of that was written.
+    said: Vec<u8>,
+    written: usize,
+    opened: Instant,
+}
+
+/// The control connections by their ids, and those that are ready.
+#[derive(Drop)]
+pub struct Desk {
+    alloc: Global,
+    callers: BTreeMap<u64, Caller>,
+    ready: Vec<u64>,
+    scratch: Vec<u8>,
+    /// Whether a request asked that serving stop.
+    pub stops: bool,
+}
+
+impl Caller {
+    /// Goes on as far as its socket lets it.
+    fn turn<S: Store, C: Control<S>>(
+        &mut self,
+        scratch: &mut [u8],
+        control: &mut C,
+        counts: &Counts,
+        gateway: &Gateway<S>,
+        stops: &mut bool,
+    ) -> Goes {
+        for _ in 0..CALLS {
+            let goes = match self.phase {
+                Phase::Asks => self.ask(scratch, control, counts, gateway, stops),
+                Phase::Told => self.tell(),
+                Phase::Leaves => self.drop_rest(scratch),
+            };
+            if goes != Goes::On {
+                return goes;
+            }
+        }
+        Goes::Over
+    }
+
+    /// Reads once, and answers the request that stands complete.
+    fn ask<S: Store, C: Control<S>>(
+        &mut self,
+        scratch: &mut [u8],
+        control: &mut C,
+        counts: &Counts,
+        gateway: &Gateway<S>,
+        stops: &mut bool,
+    ) -> Goes {
+        let count = match (&self.stream).read(scratch) {
+            Ok(0) => return Goes::Over,
+            Ok(count) => count,
+            Err(error) => return after(&error),
+        };
+        self.taken = self.taken.saturating_add(count);
+        if self.taken > REQUEST {
+            return Goes::Over;
+        }
+        match self.hear(&scratch[..count], control, counts, gateway) {
+            Ok(asked) => {
+                *stops = *stops || asked;
+                Goes::On
+            }
+            Err(_) => Goes::Over,
+        }
+    }
+
+    /// Takes bytes of a request, and says whether it asked that serving stop.
+    fn hear<S: Store, C: Control<S>>(
+        &mut self,
+        piece: &[u8],
+        control: &mut C,
+        counts: &Counts,
+        gateway: &Gateway<S>,
+    ) -> Result<bool, AllocError> {
+        for item in self.conn.feed(piece)? {
+            match item {
+                Item::Request { head, .. } => {
+                    let answer = control.answer(self.alloc, &head, counts, gateway)?;
+                    self.say(&answer.reply)?;
+                    return Ok(answer.stops);
+                }
+                Item::Continue => self.said.extend_from_slice(continue_text())?,
+                Item::Fault { .. } => {
+                    let reply = text_reply(self.alloc, Status::BadRequest, b"bad request\n")?;
+                    self.say(&reply)?;
+                    return Ok(false);
+                }
+            }
+        }
+        Ok(false)
+    }
+
+    /// Says a reply, and nothing after it.
+    fn say(&mut self, reply: &Reply) -> Result<(), AllocError> {
+        let bytes = render(self.alloc, reply, false, true)?;
+        self.said.extend_from_slice(&bytes)?;
+        self.phase = Phase::Told;
+        Ok(())
+    }
+
+    /// Writes once.
+    fn tell(&mut self) -> Goes {
+        let rest = self.said.get(self.written..).unwrap_or(&[]);
+        if rest.is_empty() {
+            self.phase = Phase::Leaves;
+            return match self.stream.shutdown(Shutdown::Write) {
+                Ok(()) => Goes::On,
+                Err(_) => Goes::Over,
+            };
+        }
+        match (&self.stream).write(rest) {
+            Ok(0) => Goes::Over,
+            Ok(count) => {
+                self.written = self.written.saturating_add(count);
+                Goes::On
+            }
+            Err(error) => after(&error),
+        }
+    }
+
+    /// Reads once, and drops what came.
+    fn drop_rest(&mut self, scratch: &mut [u8]) -> Goes {
+        match (&self.stream).read(scratch) {
+            Ok(0) => Goes::Over,
+            Ok(_) => Goes::On,
+            Err(error) => after(&error),
+        }
+    }
+}
+
+/// What an error of a socket means.
+fn after(error: &Error) -> Goes {
+    match error.kind() {
+        ErrorKind::WouldBlock => Goes::Waits,
+        ErrorKind::Interrupted => Goes::On,
+        _ => Goes::Over,
+    }
+}
+
+impl Desk {
+    /// No control connections.
+    pub fn new(alloc: Global) -> Result<Desk, AllocError> {
+        Ok(Desk {
+            alloc,
+            callers: BTreeMap::new(alloc),
+            ready: Vec::new(alloc),
+            scratch: vec![in alloc; 0u8; SCRATCH]?,
+            stops: false,
+        })
+    }
+
+    /// Whether there is room for one more.
+    pub fn has_room(&self) -> bool {
+        self.callers.len() < MOST
+    }
+
+    /// Whether none is open.
+    pub fn is_empty(&self) -> bool {
+        self.callers.is_empty()
+    }
+
+    /// Takes a socket in. Without memory it is dropped.
+    pub fn take_in(&mut self, id: u64, stream: TcpStream, now: Instant) {
+        let caller = Caller {
+            alloc: self.alloc,
+            stream,
+            conn: Conn::new(self.alloc),
+            phase: Phase::Asks,
+            taken: 0,
+            said: Vec::new(self.alloc),
+            written: 0,
+            opened: now,
+        };
+        if self.callers.insert(id, caller).is_ok() {
+            self.is_ready(id);
+        }
+    }
+
+    /// A socket was reported ready.
+    pub fn is_ready(&mut self, id: u64) {
+        if self.callers.contains_key(&id) {
+            let _ = self.ready.push(id);
+        }
+    }
+
+    /// Those that are ready go on.
+    pub fn round<S: Store, C: Control<S>>(
+        &mut self,
+        control: &mut C,
+        counts: &Counts,
+        gateway: &Gateway<S>,
+    ) {
+        for _ in 0..self.ready.len() {
+            if let Some(id) = self.ready.pop() {
+                self.turn(id, control, counts, gateway);
+            }
+        }
+    }
+
+    /// One goes on.
+    fn turn<S: Store, C: Control<S>>(
+        &mut self,
+        id: u64,
+        control: &mut C,
+        counts: &Counts,
+        gateway: &Gateway<S>,
+    ) {
+        let Some(caller) = self.callers.get_mut(&id) else {
+            return;
+        };
+        let scratch = &mut self.scratch;
+        if caller.turn(scratch, control, counts, gateway, &mut self.stops) == Goes::Over {
+            let _ = self.callers.remove(&id);
+        }
+    }
+
+    /// Closes those whose time is over.
+    pub fn sweep(&mut self, now: Instant) {
+        for _ in 0..MOST {
+            let Some(id) = self.late_one(now) else {
+                return;
+            };
+            let _ = self.callers.remove(&id);
+        }
+    }
+
+    /// One whose time is over.
+    fn late_one(&self, now: Instant) -> Option<u64> {
+        let time = Duration::from_secs(SECONDS);
+        for (id, caller) in self.callers.iter() {
+            if now.duration_since(caller.opened) > time {
+                return Some(*id);
+            }
+        }
+        None
+    }
+}

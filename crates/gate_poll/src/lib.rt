@@ -1,0 +1,33 @@
+//! Many connections of a gateway at once, over sockets that don't block.
+//!
+//! [`serve_on`] accepts connections and gives each its turns, within [`Limits`], until it is told to stop on a control
+//! listener, whose requests a [`Control`] answers.
+#![tactic(auto)]
+
+/// Why serving ended.
+mod fault;
+/// What is allowed to connections.
+mod limits;
+/// What happened so far.
+mod counts;
+/// The ids of connections.
+mod ids;
+/// How long a peer may take.
+mod pace;
+/// One connection with its socket.
+mod peer;
+/// The connections by their ids.
+mod table;
+/// The connections of a control listener.
+mod control;
+/// The loop.
+mod serving;
+
+pub use control::{Answer, Control, NoControl, text_reply};
+pub use counts::Counts;
+pub use fault::ServeFault;
+pub use limits::Limits;
+pub use serving::serve_on;
+
+#[cfg(test)]
+mod tests;

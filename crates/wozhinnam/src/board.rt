@@ -1,0 +1,169 @@
+//! What the control listener answers.
+use crate::figures::{StoreFigures, store_figures};
+use crate::metrics::metrics_text;
+use gate_core::Gateway;
+use gate_poll::{Answer, Control, Counts, text_reply};
+use http_edge::{Head, Reply, ReplyField, ReplyFields, Status};
+use octets::Bytes;
+use serde_json::{Value, json};
+use share_store::Store;
+use std::alloc::{AllocError, Global};
+
+/// Answers `GET /status`, `GET /metrics` and `POST /stop`.
+#[derive(Clone, Copy, Debug, PartialEq, Eq)]
+pub struct Board;
+
+/// What a control request asks for.
+#[derive(Clone, Copy, Debug, PartialEq, Eq)]
+pub enum Asked {
+    Status,
+    Metrics,
+    Stop,
+    /// Another method than the one that the target has.
+    NotWith(Method),
+    Nothing,
+}
+
+/// The method that a target has.
+#[derive(Clone, Copy, Debug, PartialEq, Eq)]
+pub enum Method {
+    Get,
+    Post,
+}
+
+impl<S: Store> Control<S> for Board {
+    fn answer(
+        &mut self,
+        alloc: Global,
+        head: &Head,
+        counts: &Counts,
+        gateway: &Gateway<S>,
+    ) -> Result<Answer, AllocError> {
+        let asked = asked_by(head.method.as_slice(), head.target.as_slice());
+        let reply = match asked {
+            Asked::Status => status_reply(alloc, counts, gateway)?,
+            Asked::Metrics => metrics_reply(alloc, counts, gateway)?,
+            Asked::Stop => text_reply(alloc, Status::Ok, b"stopping\n")?,
+            Asked::NotWith(method) => other_method(alloc, method)?,
+            Asked::Nothing => text_reply(alloc, Status::NotFound, b"not found\n")?,
+        };
+        Ok(Answer {
+            reply,
+            stops: asked == Asked::Stop,
+        })
+    }
+}
+
+/// What a method and a target ask for.
+pub fn asked_by(method: &[u8], target: &[u8]) -> Asked {
+    let (wanted, asked) = if target == b"/status".as_slice() {
+        (Method::Get, Asked::Status)
+    } else if target == b"/metrics".as_slice() {
+        (Method::Get, Asked::Metrics)
+    } else if target == b"/stop".as_slice() {
+        (Method::Post, Asked::Stop)
+    } else {
+        return Asked::Nothing;
+    };
+    if method == wanted.word() {
+        asked
+    } else {
+        Asked::NotWith(wanted)
+    }
+}
+
+impl Method {
+    fn word(self) -> &'static [u8] {
+        match self {
+            Method::Get => b"GET",
+            Method::Post => b"POST",
+        }
+    }
+}
+
+/// The figures as JSON.
+fn status_reply<S: Store>(
+    alloc: Global,
+    counts: &Counts,
+    gateway: &Gateway<S>,
+) -> Result<Reply, AllocError> {
+    let stores = store_figures(alloc, gateway)?;
+    let text = status_text(alloc, counts, &stores)?;
+    let mut fields = ReplyFields::new(alloc);
+    fields.push(ReplyField::constant(b"Content-Type", b"application/json"))?;
+    Ok(Reply {
+        status: Status::Ok,
+        fields,
+        body: Bytes::from_vec(text.into_bytes()),
+    })
+}
+
+/// The text of the figures as JSON.
+pub fn status_text(
+    alloc: Global,
+    counts: &Counts,
+    stores: &[StoreFigures],
+) -> Result<String, AllocError> {
+    let mut rows = Vec::with_capacity(alloc, stores.len())?;
+    for store in stores {
+        rows.push(json!(in alloc; {
+            "room": store.room,
+            "held": store.held,
+            "failures": store.failures
+        })?)?;
+    }
+    let connections = connections_json(alloc, counts)?;
+    let stores = Value::Array(rows);
+    json!(in alloc; {
+        "connections": &connections,
+        "received": counts.bytes_in,
+        "sent": counts.bytes_out,
+        "stores": &stores
+    })?
+    .to_string(alloc)
+}
+
+/// The figures of connections.
+fn connections_json(alloc: Global, counts: &Counts) -> Result<Value, AllocError> {
+    json!(in alloc; {
+        "open": counts.open,
+        "opened": counts.opened,
+        "over": counts.over,
+        "failed": counts.failed,
+        "late": counts.late,
+        "stopped": counts.stopped,
+        "refused": counts.refused,
+        "accept_paused": counts.starved
+    })
+}
+
+/// The figures as Prometheus reads them.
+fn metrics_reply<S: Store>(
+    alloc: Global,
+    counts: &Counts,
+    gateway: &Gateway<S>,
+) -> Result<Reply, AllocError> {
+    let stores = store_figures(alloc, gateway)?;
+    let text = metrics_text(alloc, counts, &stores)?;
+    let mut fields = ReplyFields::new(alloc);
+    fields.push(ReplyField::constant(
+        b"Content-Type",
+        b"text/plain; version=0.0.4; charset=utf-8",
+    ))?;
+    Ok(Reply {
+        status: Status::Ok,
+        fields,
+        body: Bytes::from_vec(text.into_bytes()),
+    })
+}
+
+/// Says which method a target has.
+fn other_method(alloc: Global, method: Method) -> Result<Reply, AllocError> {
+    let allow = match method {
+        Method::Get => ReplyField::constant(b"Allow", b"GET"),
+        Method::Post => ReplyField::constant(b"Allow", b"POST"),
+    };
+    let mut reply = text_reply(alloc, Status::MethodNotAllowed, b"method not allowed\n")?;
+    reply.fields.push(allow)?;
+    Ok(reply)
+}
