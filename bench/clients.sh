@@ -18,11 +18,11 @@ fail() {
     exit 1
 }
 
-# Starts the program for 34 connections.
+# Starts the program for 39 connections.
 start() {
     port=$(python3 -c 'import socket; s = socket.socket(); s.bind(("127.0.0.1", 0)); print(s.getsockname()[1])')
     base="http://127.0.0.1:$port"
-    timeout 300 "$program" serve "127.0.0.1:$port" 34 > "$folder/out" 2> "$folder/words" &
+    timeout 300 "$program" serve "127.0.0.1:$port" 39 > "$folder/out" 2> "$folder/words" &
     server=$!
     # Each connection counts, so the port is looked for without one.
     for _ in $(seq 100); do
@@ -168,6 +168,39 @@ refused "$base/uri/$verify" '400 not a readable cap'
 # 34: a method that is none of the target's
 fetch -X DELETE "$base/uri"
 test "$status $(field Allow)" = '405 POST, PUT' || fail "another method is answered $status, $(field Allow)"
+
+# 35: a file in chunks
+test "$($curl -T - "$base/uri" < "$folder/file")" = "$cap" || fail 'another cap for a file in chunks'
+
+# 36: children in chunks
+json children "down=$inner" > "$folder/children"
+test "$($curl -X POST -T - "$base/uri?t=mkdir-immutable" < "$folder/children")" = "$outer" || fail 'another cap for children in chunks'
+
+# 37: in chunks by Python's http.client, from an iterator
+chunked=$(python3 - "$base" "$folder/file" << 'END'
+import http.client, sys, urllib.parse
+connection = http.client.HTTPConnection(urllib.parse.urlsplit(sys.argv[1]).netloc, timeout=30)
+with open(sys.argv[2], "rb") as file:
+    connection.request("PUT", "/uri", iter(lambda: file.read(12345), b""), encode_chunked=True, headers={"Transfer-Encoding": "chunked"})
+print(connection.getresponse().read().decode())
+END
+)
+test "$chunked" = "$cap" || fail "another cap for chunks of an iterator: $chunked"
+
+# 38: the interim answer comes before the reply, and curl doesn't wait for it in vain
+began=$(date +%s%N)
+test "$($curl -D "$folder/head" -H 'Expect: 100-continue' -T "$folder/file" "$base/uri")" = "$cap" || fail 'another cap with Expect'
+test $((($(date +%s%N) - began) / 1000000)) -lt 900 || fail 'curl waited for the interim answer'
+head -n 1 "$folder/head" | grep -q '^HTTP/1.1 100 Continue' || fail 'no interim answer'
+
+# 39: a body that is no chunks
+test "$(printf 'PUT /uri HTTP/1.1\r\nHost: g\r\nTransfer-Encoding: chunked\r\n\r\nzz\r\n' | python3 -c '
+import socket, sys, urllib.parse
+host, port = urllib.parse.urlsplit(sys.argv[1]).netloc.split(":")
+with socket.create_connection((host, int(port)), timeout=30) as connection:
+    connection.sendall(sys.stdin.buffer.read())
+    print(connection.makefile("rb").read().split(b"\r\n")[0].decode())
+' "$base")" = 'HTTP/1.1 400 Bad Request' || fail 'a bad chunk'
 
 if test -n "$server"; then
     wait "$server" || fail "the program's status is $?"

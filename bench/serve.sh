@@ -86,7 +86,7 @@ $curl "$control/status" | python3 -c '
 import json, sys
 status = json.load(sys.stdin)
 connections = status["connections"]
-assert connections["opened"] >= 8 * 34, connections
+assert connections["opened"] >= 8 * 39, connections
 assert connections["failed"] == connections["late"] == 0, connections
 assert status["received"] > 8 * 1000000 and status["sent"] > 8 * 1000000, status
 ' || fail 'the status'

@@ -8,16 +8,41 @@ use mio::net::TcpStream;
 use share_store::Store;
 use std::io::{ErrorKind, Read};
 use std::net::Shutdown;
-use std::time::{Clock, Instant};
+use std::time::{Clock, CpuClock, Duration, Instant};
 
 /// How often a socket is called in one turn.
 const CALLS: u32 = 4;
 
-/// From how many milliseconds on a step of the gateway is long.
+/// From how many milliseconds of processor time on a step of the gateway is long.
 const LONG_MILLIS: u128 = 2;
 
 /// How many turns after a long step a connection is held to be a slow one.
-const SLOW_TURNS: u8 = 64;
+const SLOW_TURNS: u8 = 255;
+
+/// A time, and how much processor time the loop had used by then.
+#[derive(Clone, Copy, Debug)]
+pub struct Moment {
+    pub now: Instant,
+    used: Duration,
+}
+
+impl Moment {
+    /// This time.
+    pub fn at<R: CpuClock>(rt: &R, now: Instant) -> Moment {
+        Moment {
+            now,
+            used: rt.thread_cpu_time().unwrap_or(Duration::ZERO),
+        }
+    }
+
+    /// Becomes the time after a step, and says whether that step was long. Time in which the system ran others isn't
+    /// counted.
+    fn passes<R: Clock + CpuClock>(&mut self, rt: &R) -> bool {
+        let before = self.used;
+        *self = Moment::at(rt, Instant::now(rt).unwrap_or(self.now));
+        self.used.as_millis() >= before.as_millis().saturating_add(LONG_MILLIS)
+    }
+}
 
 /// What came of a turn.
 #[derive(Clone, Copy, Debug, PartialEq, Eq)]
@@ -126,14 +151,14 @@ impl Peer {
         self.flow
     }
 
-    /// Calls its socket a few times, and no more after a long step. `now` becomes the time after the last step.
-    pub fn turn<S: Store, R: Clock>(
+    /// Calls its socket a few times, and no more after a long step. `moment` becomes the time after the last step.
+    pub fn turn<S: Store, R: Clock + CpuClock>(
         &mut self,
         rt: &R,
         gateway: &mut Gateway<S>,
         limits: &Limits,
         counts: &mut Counts,
-        now: &mut Instant,
+        moment: &mut Moment,
     ) -> Turn {
         self.slow = self.slow.saturating_sub(1);
         for _ in 0..CALLS {
@@ -142,18 +167,18 @@ impl Peer {
                 Want::Read if self.readable => self.flow.read_from(&mut &self.stream),
                 Want::Write if self.writable => self.flow.write_to(&mut &self.stream),
                 Want::Advance => Ok(Step::Went(0)),
-                Want::Nothing => return self.close(*now),
+                Want::Nothing => return self.close(moment.now),
                 Want::Read | Want::Write => return Turn::Waits,
             };
             match step {
-                Ok(Step::Went(count)) => self.moves(before, count, counts, *now),
+                Ok(Step::Went(count)) => self.moves(before, count, counts, moment.now),
                 Ok(Step::Blocked) => {
-                    self.blocks(before, *now, limits);
+                    self.blocks(before, moment.now, limits);
                     return Turn::Waits;
                 }
                 Err(fault) => return Turn::Failed(fault),
             }
-            match self.advance(rt, gateway, before, now) {
+            match self.advance(rt, gateway, before, moment) {
                 Ok(false) => {}
                 Ok(true) => return Turn::Again,
                 Err(fault) => return Turn::Failed(fault),
@@ -183,30 +208,28 @@ impl Peer {
     }
 
     /// Calls the gateway, where that is what is to be done next, and says whether that took long.
-    fn advance<S: Store, R: Clock>(
+    fn advance<S: Store, R: Clock + CpuClock>(
         &mut self,
         rt: &R,
         gateway: &mut Gateway<S>,
         before: Want,
-        now: &mut Instant,
+        moment: &mut Moment,
     ) -> Result<bool, FlowFault> {
         if self.flow.want() != Want::Advance {
             return Ok(false);
         }
         self.flow.advance(gateway)?;
-        let began = *now;
-        *now = Instant::now(rt).unwrap_or(began);
+        let is_long = moment.passes(rt);
         self.fresh = self.fresh && self.flow.want() == Want::Read;
         match self.flow.want() {
-            Want::Read if before != Want::Read => self.pace.turns(*now, Way::Sends),
-            Want::Write if before != Want::Write => self.pace.turns(*now, Way::Takes),
+            Want::Read if before != Want::Read => self.pace.turns(moment.now, Way::Sends),
+            Want::Write if before != Want::Write => self.pace.turns(moment.now, Way::Takes),
             _ => {}
         }
-        if now.duration_since(began).as_millis() < LONG_MILLIS {
-            return Ok(false);
+        if is_long {
+            self.slow = SLOW_TURNS;
         }
-        self.slow = SLOW_TURNS;
-        Ok(true)
+        Ok(is_long)
     }
 
     /// Says no more, and goes on reading for a while where the peer may still send: closing a socket over bytes that

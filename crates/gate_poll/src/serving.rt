@@ -12,7 +12,7 @@ use mio::{Events, Interest, Poll, Token};
 use share_store::Store;
 use std::io::ErrorKind;
 use std::net::Net;
-use std::time::{Clock, Duration, Instant};
+use std::time::{Clock, CpuClock, Duration, Instant};
 
 /// The listener's token, which is no connection's.
 const LISTENER: Token = Token(usize::MAX);
@@ -67,7 +67,7 @@ struct Gate {
 
 /// Serves connections, all at once, until so many were served as the limits say, or a control request asked that
 /// serving stop. Each has an id of its own.
-pub fn serve_on<S: Store, R: Net + Clock + AllocGlobal + Log, C: Control<S>>(
+pub fn serve_on<S: Store, R: Net + Clock + CpuClock + AllocGlobal + Log, C: Control<S>>(
     rt: &R,
     listener: TcpListener,
     control: Option<TcpListener>,

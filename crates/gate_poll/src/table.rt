@@ -4,7 +4,7 @@ ghost use Rattle.std.specs.BTreeMap.{btree_map_len};
 
 use crate::counts::Counts;
 use crate::limits::Limits;
-use crate::peer::{Lane, Peer, Turn};
+use crate::peer::{Lane, Moment, Peer, Turn};
 use gate_core::Gateway;
 use gate_flow::{Flow, FlowFault};
 use log::{Log, warn};
@@ -12,7 +12,7 @@ use mio::net::TcpStream;
 use share_store::Store;
 use std::alloc::{AllocError, Global};
 use std::collections::{BTreeMap, VecDeque};
-use std::time::{Clock, Instant};
+use std::time::{Clock, CpuClock, Instant};
 
 /// How many bytes of a connection that was closed are dropped at a time.
 const SCRATCH: usize = 4096;
@@ -144,34 +144,34 @@ impl Table {
 
     /// Each quick connection that has a turn to come has it, then fresh ones up to the first long step, and then one of
     /// the slow ones.
-    pub fn round<S: Store, R: Clock + Log>(
+    pub fn round<S: Store, R: Clock + CpuClock + Log>(
         &mut self,
         rt: &R,
         gateway: &mut Gateway<S>,
         now: Instant,
     ) {
-        let mut now = now;
+        let mut moment = Moment::at(rt, now);
         for _ in 0..self.quick.len() {
             if let Some(id) = self.quick.pop_front() {
-                let _ = self.turn(rt, gateway, id, &mut now);
+                let _ = self.turn(rt, gateway, id, &mut moment);
             }
         }
-        self.fresh_turns(rt, gateway, &mut now);
+        self.fresh_turns(rt, gateway, &mut moment);
         if let Some(id) = self.slow.pop_front() {
-            let _ = self.turn(rt, gateway, id, &mut now);
+            let _ = self.turn(rt, gateway, id, &mut moment);
         }
     }
 
     /// Fresh connections have their turns, up to the first long step.
-    fn fresh_turns<S: Store, R: Clock + Log>(
+    fn fresh_turns<S: Store, R: Clock + CpuClock + Log>(
         &mut self,
         rt: &R,
         gateway: &mut Gateway<S>,
-        now: &mut Instant,
+        moment: &mut Moment,
     ) {
         for _ in 0..self.fresh.len() {
             if let Some(id) = self.fresh.pop_front() {
-                if self.turn(rt, gateway, id, now) {
+                if self.turn(rt, gateway, id, moment) {
                     return;
                 }
             }
@@ -179,12 +179,12 @@ impl Table {
     }
 
     /// A connection has its turn, and it is said whether that had a long step.
-    fn turn<S: Store, R: Clock + Log>(
+    fn turn<S: Store, R: Clock + CpuClock + Log>(
         &mut self,
         rt: &R,
         gateway: &mut Gateway<S>,
         id: u64,
-        now: &mut Instant,
+        moment: &mut Moment,
     ) -> bool {
         let Some(peer) = self.peers.get_mut(&id) else {
             return false;
@@ -193,7 +193,7 @@ impl Table {
         let turn = if peer.is_done() {
             peer.drain(&mut self.scratch, &self.limits, &mut self.counts)
         } else {
-            peer.turn(rt, gateway, &self.limits, &mut self.counts, now)
+            peer.turn(rt, gateway, &self.limits, &mut self.counts, moment)
         };
         let may_end = self.stopping && !peer.is_owed();
         let took_long = peer.took_long();

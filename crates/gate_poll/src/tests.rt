@@ -10,7 +10,7 @@ use std::io::{Read, Write};
 use std::net::{Net, Shutdown, SocketAddr, TcpStream};
 use std::process::Abort;
 use std::test::Fail;
-use std::time::{Clock, Duration, Instant};
+use std::time::{Clock, CpuClock, Duration, Instant};
 
 /// A gateway over one store in memory.
 fn gateway(alloc: Global) -> Result<Gateway<MemStore>, Fail> {
@@ -51,7 +51,7 @@ fn client(
 }
 
 /// Serves these clients, all of which came before, and compares what each was given.
-fn serves<R: Net<Stream = TcpStream> + Clock + AllocGlobal + Log + Abort>(
+fn serves<R: Net<Stream = TcpStream> + Clock + CpuClock + AllocGlobal + Log + Abort>(
     rt: &R,
     limits: &Limits,
     gateway: &mut Gateway<MemStore>,

@@ -33,7 +33,7 @@ use std::io::ErrorKind;
 use std::net::{Net, SocketAddr, ToSocketAddrs};
 use std::process::ExitCode;
 use std::rt::{Env, Files};
-use std::time::{Clock, Duration};
+use std::time::{Clock, CpuClock, Duration};
 use std::{env, fs};
 use stores::empty_stores;
 
@@ -54,7 +54,7 @@ fn main(rt: HostRuntime) -> ExitCode {
 }
 
 /// Does what the words ask for.
-fn run<R: Env + Print + Eprint + AllocGlobal + Files + Clock + Net + Log>(
+fn run<R: Env + Print + Eprint + AllocGlobal + Files + Clock + CpuClock + Net + Log>(
     rt: &R,
 ) -> Result<(), ProgramFault> {
     let words = read_words(rt)?;
@@ -84,7 +84,7 @@ fn read_words(rt: &(impl Env + AllocGlobal)) -> Result<Vec<String>, ProgramFault
 }
 
 /// Serves connections until a control request stops it.
-fn serve<R: Print + AllocGlobal + Files + Clock + Net + Log>(
+fn serve<R: Print + AllocGlobal + Files + Clock + CpuClock + Net + Log>(
     rt: &R,
     options: &Options<'_>,
 ) -> Result<(), ProgramFault> {
