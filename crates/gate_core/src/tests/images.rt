@@ -8,12 +8,12 @@ const OLD_DIGEST: &str = "f180571a72e7571f5b6aff51ee7d2a0e88c395a3a283cc7c58188a
 /// The image of version 1 of the shares that an image of version 2 has.
 fn as_version_one(alloc: Global, image: &[u8]) -> Result<Vec<u8>, Fail> {
     let mut old = Vec::new(alloc);
-    let (front, mut rest) = image.split_at_checked(20).ok_or("no front")?;
+    let (front, mut rest) = image.split_first_chunk::<20>().ok_or("no front")?;
     old.extend_from_slice(b"TGRIDIM1")?;
     old.extend_from_slice(&front[8..12])?;
     old.extend_from_slice(&front[16..])?;
     for _ in 0..1000u32 {
-        let Some((head, after)) = rest.split_at_checked(32) else {
+        let Some((head, after)) = rest.split_first_chunk::<32>() else {
             break;
         };
         let length = u32::from_be_bytes([head[28], head[29], head[30], head[31]]);
