@@ -89,6 +89,9 @@ awk -v body=4194304 '
         beside("put", "put", "hash_put", "0.8 or less")
         beside("get", "get", "hash_get", "0.9 or less")
         beside("get, last shares", "get_secondary", "hash_get", "0.9 or less")
+        first = least["gate_bench get_1m"]
+        again = least["gate_bench get_1m_again"]
+        if (first > 0) printf "\n1 MiB read: %.2f ms, and again: %.2f ms, %.3f of that (aim: 0.05 or less)\n", first / 1000, again / 1000, again / first
         printf "\ngather of ten shares: %.2f us among 10, %.2f us among 100,000\n", least["gate_bench gather_10"] / 1000, least["gate_bench gather_100000"] / 1000
     }
     function beside(name, part, hashing, aim,   ours, alone) {

@@ -1,17 +1,21 @@
 #!/usr/bin/env python3
 """Loads on `wozhinnam serve`, the built program, on the loopback, with times and memory; each takes a minute or two at most.
 
-usage: bench/loads.py PROGRAM [open|readers|many_readers|came|pipelined ..]
+usage: bench/loads.py PROGRAM [open|readers|many_readers|slow_readers|came|million|pipelined|cut ..]
 
 open          10,000 connections, a reply on each
-readers       8 readers of 4 MiB beside small GETs; many_readers: 200 of them
-came          100,000 connections that come and go, one after the other
+readers       8 readers of 4 MiB beside small GETs; many_readers: 200 of them; slow_readers: 200 that take 10 KB a second
+came          100,000 connections that come and go, one after the other; million: 1,000,000
 pipelined     500 GETs of a file of 4 MiB on one connection, written before anything is read
+cut           a minute of connections that send and take a part of something and are cut, some by a reset, beside small GETs
 """
 
+import os
+import random
 import re
 import resource
 import socket
+import struct
 import subprocess
 import sys
 import threading
@@ -46,6 +50,9 @@ class Server:
     def memory(self, field="VmRSS"):
         with open("/proc/%d/status" % self.process.pid) as status:
             return int(re.search(field + r":\s+(\d+) kB", status.read()).group(1)) * 1024
+
+    def handles(self):
+        return len(os.listdir("/proc/%d/fd" % self.process.pid))
 
     def stop(self):
         with socket.create_connection(self.control, timeout=30) as stream:
@@ -150,20 +157,97 @@ def readers(program, count):
     server.stop()
 
 
-def came(program):
+def slow_readers(program):
+    """200 readers of a file of 4 MiB that take 10 KB a second each."""
+    server = Server(program, 300)
+    request, _ = stored(server)
+    quick = server.connect()
+    times("small GETs alone", [small(quick) for _ in range(2000)])
+    over = time.monotonic() + 20
+
+    def read():
+        stream = socket.socket()
+        stream.setsockopt(socket.SOL_SOCKET, socket.SO_RCVBUF, 4096)
+        stream.connect(server.address)
+        stream.sendall(request)
+        while time.monotonic() < over:
+            stream.recv(1000)
+            time.sleep(0.1)
+        stream.close()
+
+    threads = [threading.Thread(target=read) for _ in range(200)]
+    for thread in threads:
+        thread.start()
+    waits = []
+    while time.monotonic() < over - 1:
+        waits.append(small(quick))
+        time.sleep(0.001)
+    times("small GETs beside 200 readers of 10 KB a second", waits)
+    for thread in threads:
+        thread.join(SECONDS)
+    print("memory at most %d MB" % (server.memory("VmHWM") >> 20))
+    server.stop()
+
+
+def cut(program):
+    """Connections that end at any place, with what waits left unread."""
+    server = Server(program, 300)
+    request, length = stored(server)
+    put = b"PUT /uri HTTP/1.1\r\nHost: g\r\nContent-Length: 100000\r\n\r\n" + bytes(100_000)
+    quick = server.connect()
+    small(quick)
+    memory, handles = server.memory(), server.handles()
+    over = time.monotonic() + 60
+    counts = []
+
+    def come(seed):
+        chance = random.Random(seed)
+        count = 0
+        while time.monotonic() < over:
+            stream = server.connect()
+            sent = chance.choice([request, put, SMALL * 50, b"GET /uri/%00 HTTP/1.1\r\n\r\n", b"\x00" * 20_000])
+            try:
+                stream.sendall(sent[:chance.randrange(1, len(sent) + 1)])
+                if chance.random() < 0.5:
+                    stream.recv(chance.randrange(1, 65_536))
+            except OSError:
+                pass
+            if chance.random() < 0.5:
+                stream.setsockopt(socket.SOL_SOCKET, socket.SO_LINGER, struct.pack("ii", 1, 0))
+            stream.close()
+            count += 1
+        counts.append(count)
+
+    threads = [threading.Thread(target=come, args=(seed,)) for seed in range(16)]
+    for thread in threads:
+        thread.start()
+    waits = []
+    while time.monotonic() < over:
+        waits.append(small(quick))
+        time.sleep(0.005)
+    for thread in threads:
+        thread.join(SECONDS)
+    times("small GETs beside %d connections that were cut" % sum(counts), waits)
+    time.sleep(15)
+    small(quick)
+    print("15 s later: %d KiB of memory more than before, %d handles more" % ((server.memory() - memory) >> 10, server.handles() - handles))
+    server.stop()
+
+
+def came(program, most, seconds):
     server = Server(program, 1000)
     marks = []
     began = time.monotonic()
-    for at in range(100_000):
-        if at % 25_000 == 0:
+    for at in range(most):
+        if at % (most // 4) == 0:
             marks.append(server.memory())
         with server.connect() as stream:
             small(stream)
-        if time.monotonic() - began > SECONDS:
+        if time.monotonic() - began > seconds:
             break
     marks.append(server.memory())
-    print("%d connections one after the other: %.0f µs each; memory that stays: %d bytes each, at 0, 25,000 ..: %s KiB" % (
-        at + 1, (time.monotonic() - began) / (at + 1) * 1e6, (marks[-1] - marks[1]) // max(1, at - 25_000), [m >> 10 for m in marks]))
+    print("%d connections one after the other: %.0f µs each; memory that stays: %d bytes each, at each quarter: %s KiB" % (
+        at + 1, (time.monotonic() - began) / (at + 1) * 1e6, (marks[-1] - marks[1]) // max(1, at - most // 4), [m >> 10 for m in marks]))
     server.stop()
 
 
@@ -193,8 +277,11 @@ LOADS = {
     "open": open_ones,
     "readers": lambda program: readers(program, 8),
     "many_readers": lambda program: readers(program, 200),
-    "came": came,
+    "slow_readers": slow_readers,
+    "came": lambda program: came(program, 100_000, SECONDS),
+    "million": lambda program: came(program, 1_000_000, 600),
     "pipelined": pipelined,
+    "cut": cut,
 }
 
 

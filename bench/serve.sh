@@ -91,6 +91,17 @@ assert connections["failed"] == connections["late"] == 0, connections
 assert status["received"] > 8 * 1000000 and status["sent"] > 8 * 1000000, status
 ' || fail 'the status'
 $curl "$control/metrics" | grep -q '^wozhinnam_connections_opened_total [1-9]' || fail 'the metrics'
+for status in 200 206 400 404; do
+    before=$($curl "$control/metrics" | sed -n "s/^wozhinnam_replies_total{status=\"$status\"} //p")
+    case $status in
+    200) $curl -o /dev/null "$base/uri/URI:LIT:my" ;;
+    206) $curl -o /dev/null -r 0-0 "$base/uri/URI:LIT:my" ;;
+    400) $curl -o /dev/null "$base/uri/URI:none" ;;
+    404) $curl -o /dev/null "$base/elsewhere" ;;
+    esac
+    after=$($curl "$control/metrics" | sed -n "s/^wozhinnam_replies_total{status=\"$status\"} //p")
+    test "$after" = "$((before + 1))" || fail "the replies of status $status: $before, then $after"
+done
 test "$($curl -o "$folder/back" -w '%{http_code}' "$control/stop")" = 405 || fail 'a stop by GET'
 test "$($curl -X POST "$control/stop")" = stopping || fail 'the stop'
 status=0

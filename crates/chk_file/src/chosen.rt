@@ -1,21 +1,23 @@
 //! Which of the shares that were gathered are read.
 ghost use Rattle.std.specs.Prelude.{◌≡◌, ◌↔◌, length, take, IfOk, IsTrue};
+ghost use Rattle.std.specs.Rc.{rc_slice_items};
 ghost use Rattle.share_codec.specs.GoodShare.{good_share};
 ghost use Rattle.chk_file.specs.Row.{first_good};
 ghost use Rattle.chk_file.specs.Gathered.{places_of, good_below};
 
-use crate::rows::Rows;
+use crate::rows::{Lent, Rows};
 use share_codec::{Params, Share, ShareFault, read_share};
 use std::alloc::{AllocError, Global};
+use std::rc::RcSlice;
 
 /// Of the good shares in the order of their numbers the first k, each from the first server that has one. What stands
 /// after these is not looked at.
-pub(crate) fn chosen<'a>(
+pub(crate) fn chosen(
     alloc: Global,
-    rows: &Rows<'a>,
+    rows: &Rows<'_>,
     params: &Params,
     ueb: &[u8; 32],
-) -> Result<Vec<Share<'a>>, AllocError>
+) -> Result<Vec<Share>, AllocError>
     requires { length rows.now ≡ params.now.n }
     ensures { IfOk result (λ shares. shares.items
         ≡ take params.now.k (good_below params.now ueb.now rows.now params.now.n)) }
@@ -33,18 +35,18 @@ pub(crate) fn chosen<'a>(
 }
 
 /// The good share of a number, from the first server that has one.
-fn first_good<'a>(
+fn first_good(
     alloc: Global,
-    places: &[(usize, &'a [u8])],
+    places: &[(usize, Lent<'_>)],
     number: u16,
     params: &Params,
     ueb: &[u8; 32],
-) -> Result<Option<Share<'a>>, AllocError>
+) -> Result<Option<Share>, AllocError>
     ensures { IfOk result (λ share. share
         ≡ first_good params.now ueb.now number (places_of places.now)) }
 {
     for (_, bytes) in places {
-        if let Some(share) = good(alloc, bytes, number, params, ueb)? {
+        if let Some(share) = good(alloc, bytes.bytes(), number, params, ueb)? {
             return Ok(Some(share));
         }
     }
@@ -52,14 +54,15 @@ fn first_good<'a>(
 }
 
 /// What a string is as the share of a number, if it is a good one.
-pub(crate) fn good<'a>(
+pub(crate) fn good(
     alloc: Global,
-    bytes: &'a [u8],
+    bytes: &RcSlice<u8>,
     number: u16,
     params: &Params,
     ueb: &[u8; 32],
-) -> Result<Option<Share<'a>>, AllocError>
-    ensures { IfOk result (λ share. share ≡ good_share bytes.now number params.now ueb.now) }
+) -> Result<Option<Share>, AllocError>
+    ensures { let good = good_share (rc_slice_items bytes.now) number params.now ueb.now in
+        IfOk result (λ share. share ≡ good) }
 {
     match read_share(alloc, bytes, number, params, ueb) {
         Ok(share) => Ok(Some(share)),

@@ -13,7 +13,7 @@ use std::alloc::{AllocError, Global};
 pub(crate) fn crypttext(
     alloc: Global,
     params: &Params,
-    shares: &[Share<'_>],
+    shares: &[Share],
 ) -> Result<Option<Vec<u8>>, AllocError>
     requires { AreTaken params.now shares.now }
     ensures { let bytes = crypttext_from params.now shares.now in IfOk result (λ found.
@@ -32,11 +32,7 @@ pub(crate) fn crypttext(
 }
 
 /// All segments, if their padding is zeros.
-fn decoded(
-    alloc: Global,
-    params: &Params,
-    shares: &[Share<'_>],
-) -> Result<Option<Vec<u8>>, AllocError>
+fn decoded(alloc: Global, params: &Params, shares: &[Share]) -> Result<Option<Vec<u8>>, AllocError>
     requires { AreTaken params.now shares.now }
     ensures { IfOk result (λ found. option_map (λ v. v.items) found
         ≡ (if has_padding params.now shares.now

@@ -10,8 +10,18 @@
 mod uploader;
 /// How bytes become a cap and shares.
 mod encode;
+/// Files that were read and are kept.
+mod cache;
 /// Reading files.
 mod reader;
+/// Downloads.
+mod download;
+/// Bytes that are held whole.
+mod whole;
+/// Files of which shares are held.
+mod pins;
+/// What the stores have of a file, verified.
+mod verify;
 /// What was gathered, number by number.
 mod rows;
 /// Which of the shares that were gathered are read.
@@ -33,8 +43,10 @@ pub mod laws;
 #[cfg(test)]
 mod tests;
 
+pub use cache::Cache;
 pub use checker::check;
+pub use download::Download;
 pub use fault::ReadFault;
 pub use health::Health;
-pub use reader::read;
+pub use reader::{begin, read};
 pub use uploader::upload;

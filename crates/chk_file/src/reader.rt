@@ -1,40 +1,233 @@
 //! Reading files.
-ghost use Rattle.std.specs.Prelude.{◌≡◌, map, IfOk, IsErrOf, Some, None};
+ghost use Rattle.std.specs.Prelude.{◌≡◌, ◌<◌, IfOk, IfSome, IsErrOf, MatchOption, Some, None};
 ghost use Rattle.std.specs.Rc.{rc_slice_items};
 ghost use Rattle.grid.specs.GridState.{stood, IsHonest, NoneFailed};
 ghost use Rattle.grid.specs.Leaves.{Leaves, IsUnchanged};
-ghost use Rattle.grid.specs.Found.{seen};
 ghost use Rattle.caps.specs.StorageIndex.{index_of};
+ghost use Rattle.share_codec.specs.Segments.{segment_size};
+ghost use Rattle.chk_file.specs.Numbers.{params_of};
 ghost use Rattle.chk_file.specs.Row.{row_of};
-ghost use Rattle.chk_file.specs.Gathered.{fit_of};
 ghost use Rattle.chk_file.specs.Fit.{fit};
 ghost use Rattle.chk_file.specs.Bound.{Bound};
+ghost use Rattle.chk_file.specs.Cached.{IsFresh, IsWithinOr};
 
-use crate::chosen::chosen;
+use crate::cache::Cache;
 use crate::cipher::crypted;
-use crate::crypttext::crypttext;
+use crate::download::Download;
 use crate::fault::ReadFault;
-use crate::rows::Rows;
-use aes_ctr::laws::{keystream_by_place, parts_agree, twice_is_unchanged};
+use crate::pins::Pins;
+use crate::verify::verify;
+use crate::whole::Whole;
 use caps::{ReadFields, storage_index};
 use grid::Grid;
-use grid::laws::found_laws;
 use share_codec::Params;
 use share_store::Store;
-use std::alloc::Global;
+use std::alloc::{AllocError, Global};
 use std::rc::RcSlice;
+
+/// The most bytes of a file that is kept.
+const MOST_KEPT: u64 = 1_048_576;
 
 /// The bytes of the file that a read cap names.
 ///
 /// They are found by verification alone: over any stores they are bound to the cap. Over honest stores that don't fail
-/// in the call they are those of `fit` in the row of the cap's storage index, and `NotEnoughShares` is answered exactly
-/// when that has none. A store that is down is passed over.
+/// in the call, with a cache that is fresh, they are those of `fit` in the row of the cap's storage index, and
+/// `NotEnoughShares` is answered exactly when that has none. A store that is down is passed over. Where the cache has
+/// the bytes of the present stamp no store is asked; what is read otherwise is kept, if it has at most 1,048,576 bytes
+/// and no store failed.
 pub fn read<S: Store>(
+    alloc: Global,
+    grid: &mut Grid<S>,
+    cache: &mut Cache,
+    fields: &ReadFields,
+) -> Result<Vec<u8>, ReadFault>
+    ensures leaves { Leaves grid.old grid.new }
+    ensures unchanged { IsHonest grid.old → IsUnchanged grid.old grid.new }
+    ensures fresh { IsFresh cache.old grid.old → IsFresh cache.new grid.new }
+    ensures bound { IfOk result (λ bytes. Bound fields.now bytes.items) }
+    ensures fit { IsFresh cache.old grid.old → IsHonest grid.old → NoneFailed grid.old grid.new →
+        IfOk result (λ bytes. fit (row_of (stood grid.old) (index_of fields.now.key)) fields.now
+        ≡ Some bytes.items) }
+    ensures missing { IsHonest grid.old → NoneFailed grid.old grid.new →
+        IsErrOf result ReadFault.NotEnoughShares →
+        fit (row_of (stood grid.old) (index_of fields.now.key)) fields.now ≡ None }
+{
+    if fields.size > MOST_KEPT {
+        return read_stores(alloc, grid, fields);
+    }
+    match fetch(alloc, grid, cache, fields) {
+        Ok(bytes) => Ok(Vec::from_slice(alloc, bytes.as_slice())?),
+        Err(fault) => Err(fault),
+    }
+}
+
+/// Begins to give the bytes of the file that a read cap names, as [`read`] does, but a segment at a time.
+///
+/// All that is checked is checked here: what is given later is of the shares that were found, which are held, or of the
+/// bytes in the cache, and no store is asked again.
+///
+/// # Errors
+/// As those of [`read`].
+pub fn begin<S: Store>(
+    alloc: Global,
+    grid: &mut Grid<S>,
+    cache: &mut Cache,
+    fields: &ReadFields,
+) -> Result<Download, ReadFault>
+    ensures leaves { Leaves grid.old grid.new }
+    ensures unchanged { IsHonest grid.old → IsUnchanged grid.old grid.new }
+    ensures fresh { IsFresh cache.old grid.old → IsFresh cache.new grid.new }
+    ensures bound { IfOk result (λ download. Bound fields.now download.left) }
+    ensures fit { IsFresh cache.old grid.old → IsHonest grid.old → NoneFailed grid.old grid.new →
+        IfOk result (λ download.
+        fit (row_of (stood grid.old) (index_of fields.now.key)) fields.now
+        ≡ Some download.left) }
+    ensures each { let p = params_of fields.now.k fields.now.n fields.now.size in
+        0 < p.size → IfOk result (λ download. download.each ≡ segment_size p) }
+    ensures missing { IsHonest grid.old → NoneFailed grid.old grid.new →
+        IsErrOf result ReadFault.NotEnoughShares →
+        fit (row_of (stood grid.old) (index_of fields.now.key)) fields.now ≡ None }
+{
+    if fields.size > MOST_KEPT {
+        return pin_stores(alloc, grid, fields);
+    }
+    match fetch(alloc, grid, cache, fields) {
+        Ok(bytes) => Ok(whole(alloc, fields, bytes)),
+        Err(fault) => Err(fault),
+    }
+}
+
+/// All bytes of a file, to be given a segment at a time. A file without bytes has none to give.
+fn whole(alloc: Global, fields: &ReadFields, bytes: RcSlice<u8>) -> Download
+    ensures left { result.left ≡ rc_slice_items bytes }
+    ensures each { let p = params_of fields.now.k fields.now.n fields.now.size in
+        0 < p.size → result.each ≡ segment_size p }
+{
+    let params = Params::new(fields.k, fields.n, fields.size);
+    Download::whole(alloc, Whole::new(bytes, params.segment_size().max(1)))
+}
+
+/// The bytes of a file that isn't long: those that are kept, or else those that the stores give, which are kept then.
+fn fetch<S: Store>(
+    alloc: Global,
+    grid: &mut Grid<S>,
+    cache: &mut Cache,
+    fields: &ReadFields,
+) -> Result<RcSlice<u8>, ReadFault>
+    ensures leaves { Leaves grid.old grid.new }
+    ensures unchanged { IsHonest grid.old → IsUnchanged grid.old grid.new }
+    ensures fresh { IsFresh cache.old grid.old → IsFresh cache.new grid.new }
+    ensures bound { IfOk result (λ bytes. Bound fields.now (rc_slice_items bytes)) }
+    ensures fit { IsFresh cache.old grid.old → IsHonest grid.old → NoneFailed grid.old grid.new →
+        IfOk result (λ bytes. fit (row_of (stood grid.old) (index_of fields.now.key)) fields.now
+        ≡ Some (rc_slice_items bytes)) }
+    ensures missing { IsHonest grid.old → NoneFailed grid.old grid.new →
+        IsErrOf result ReadFault.NotEnoughShares →
+        fit (row_of (stood grid.old) (index_of fields.now.key)) fields.now ≡ None }
+{
+    match look_up(grid, cache, fields)? {
+        Some(bytes) => Ok(bytes),
+        None => read_anew(alloc, grid, cache, fields),
+    }
+}
+
+/// The bytes that are kept of a file, where they were read at the present stamp.
+fn look_up<S: Store>(
+    grid: &Grid<S>,
+    cache: &mut Cache,
+    fields: &ReadFields,
+) -> Result<Option<RcSlice<u8>>, AllocError>
+    ensures fresh { IsFresh cache.old grid.now → IsFresh cache.new grid.now }
+    ensures bound { IfOk result (λ found. IfSome found (λ bytes.
+        Bound fields.now (rc_slice_items bytes))) }
+    ensures fit { IsFresh cache.old grid.now → IsHonest grid.now →
+        IfOk result (λ found. IfSome found (λ bytes.
+        fit (row_of (stood grid.now) (index_of fields.now.key)) fields.now
+        ≡ Some (rc_slice_items bytes))) }
+{
+    match grid.stamp(&storage_index(&fields.key)) {
+        Some(stamp) => cache.get(fields, stamp),
+        None => Ok(None),
+    }
+}
+
+/// The bytes that the stores give, which are kept where no store failed.
+fn read_anew<S: Store>(
+    alloc: Global,
+    grid: &mut Grid<S>,
+    cache: &mut Cache,
+    fields: &ReadFields,
+) -> Result<RcSlice<u8>, ReadFault>
+    ensures leaves { Leaves grid.old grid.new }
+    ensures unchanged { IsHonest grid.old → IsUnchanged grid.old grid.new }
+    ensures fresh { IsFresh cache.old grid.old → IsFresh cache.new grid.new }
+    ensures bound { IfOk result (λ bytes. Bound fields.now (rc_slice_items bytes)) }
+    ensures fit { IsHonest grid.old → NoneFailed grid.old grid.new →
+        IfOk result (λ bytes. fit (row_of (stood grid.old) (index_of fields.now.key)) fields.now
+        ≡ Some (rc_slice_items bytes)) }
+    ensures missing { IsHonest grid.old → NoneFailed grid.old grid.new →
+        IsErrOf result ReadFault.NotEnoughShares →
+        fit (row_of (stood grid.old) (index_of fields.now.key)) fields.now ≡ None }
+{
+    let stamp = grid.stamp(&storage_index(&fields.key));
+    let failures = grid.failures();
+    let bytes = match read_shared(alloc, grid, fields) {
+        Ok(bytes) => bytes,
+        Err(fault) => return Err(fault),
+    };
+    if grid.failures() != failures {
+        return Ok(bytes);
+    }
+    keep(cache, fields, stamp, &bytes);
+    Ok(bytes)
+}
+
+/// Keeps the bytes with this stamp, if there is one. They are shared, not copied.
+fn keep(cache: &mut Cache, fields: &ReadFields, stamp: Option<u64>, bytes: &RcSlice<u8>)
+    requires { Bound fields.now (rc_slice_items bytes.now) }
+    ensures { MatchOption stamp (cache.new ≡ cache.old)
+        (λ stamp. IsWithinOr cache.old cache.new (fields.now, (stamp, rc_slice_items bytes.now))) }
+{
+    let Some(stamp) = stamp else {
+        return;
+    };
+    let Ok(shared) = bytes.clone() else {
+        return;
+    };
+    cache.put(*fields, stamp, shared);
+}
+
+/// The bytes that the stores give, so that they can be shared.
+fn read_shared<S: Store>(
+    alloc: Global,
+    grid: &mut Grid<S>,
+    fields: &ReadFields,
+) -> Result<RcSlice<u8>, ReadFault>
+    ensures leaves { Leaves grid.old grid.new }
+    ensures stamps { grid.new.stamps ≡ grid.old.stamps }
+    ensures unchanged { IsHonest grid.old → IsUnchanged grid.old grid.new }
+    ensures bound { IfOk result (λ bytes. Bound fields.now (rc_slice_items bytes)) }
+    ensures fit { IsHonest grid.old → NoneFailed grid.old grid.new → IfOk result (λ bytes.
+        fit (row_of (stood grid.old) (index_of fields.now.key)) fields.now
+        ≡ Some (rc_slice_items bytes)) }
+    ensures missing { IsHonest grid.old → NoneFailed grid.old grid.new →
+        IsErrOf result ReadFault.NotEnoughShares →
+        fit (row_of (stood grid.old) (index_of fields.now.key)) fields.now ≡ None }
+{
+    match read_stores(alloc, grid, fields) {
+        Ok(bytes) => Ok(RcSlice::from_vec(bytes)?),
+        Err(fault) => Err(fault),
+    }
+}
+
+/// The bytes that the stores give.
+fn read_stores<S: Store>(
     alloc: Global,
     grid: &mut Grid<S>,
     fields: &ReadFields,
 ) -> Result<Vec<u8>, ReadFault>
     ensures leaves { Leaves grid.old grid.new }
+    ensures stamps { grid.new.stamps ≡ grid.old.stamps }
     ensures unchanged { IsHonest grid.old → IsUnchanged grid.old grid.new }
     ensures bound { IfOk result (λ bytes. Bound fields.now bytes.items) }
     ensures fit { IsHonest grid.old → NoneFailed grid.old grid.new → IfOk result (λ bytes.
@@ -43,42 +236,35 @@ pub fn read<S: Store>(
         IsErrOf result ReadFault.NotEnoughShares →
         fit (row_of (stood grid.old) (index_of fields.now.key)) fields.now ≡ None }
 {
-    share_codec::laws::good_shares_are_read();
-    share_codec::laws::segments_are_joined_again();
-    erasure::laws::decoded_blocks_are_the_given();
-    keystream_by_place();
-    twice_is_unchanged();
-    parts_agree();
-    found_laws();
-    // There are at most 256 servers: a row has no more.
-    let _ = grid.servers();
-    let found = grid.gather(storage_index(&fields.key))?;
-    match read_found(alloc, &found, fields) {
-        Ok(bytes) => Ok(bytes),
+    match verify(alloc, grid, fields) {
+        Ok((_, bytes)) => Ok(crypted(fields.key, bytes)),
         Err(fault) => Err(fault),
     }
 }
 
-/// The bytes that the shares of one storage index give, server by server.
-fn read_found(
+/// A download that holds k good shares of those that the stores have.
+fn pin_stores<S: Store>(
     alloc: Global,
-    found: &[(usize, u16, RcSlice<u8>)],
+    grid: &mut Grid<S>,
     fields: &ReadFields,
-) -> Result<Vec<u8>, ReadFault>
-    ensures fit { IfOk result (λ bytes.
-        fit_of (map (seen rc_slice_items) found.now) fields.now ≡ Some bytes.items) }
-    ensures missing { IsErrOf result ReadFault.NotEnoughShares →
-        fit_of (map (seen rc_slice_items) found.now) fields.now ≡ None }
+) -> Result<Download, ReadFault>
+    ensures leaves { Leaves grid.old grid.new }
+    ensures stamps { grid.new.stamps ≡ grid.old.stamps }
+    ensures unchanged { IsHonest grid.old → IsUnchanged grid.old grid.new }
+    ensures bound { IfOk result (λ download. Bound fields.now download.left) }
+    ensures fit { IsHonest grid.old → NoneFailed grid.old grid.new → IfOk result (λ download.
+        fit (row_of (stood grid.old) (index_of fields.now.key)) fields.now ≡ Some download.left) }
+    ensures each { IfOk result (λ download.
+        download.each ≡ segment_size (params_of fields.now.k fields.now.n fields.now.size)) }
+    ensures missing { IsHonest grid.old → NoneFailed grid.old grid.new →
+        IsErrOf result ReadFault.NotEnoughShares →
+        fit (row_of (stood grid.old) (index_of fields.now.key)) fields.now ≡ None }
 {
-    share_codec::laws::good_shares_are_read();
-    let params = Params::new(fields.k, fields.n, fields.size);
-    let rows = Rows::new(alloc, found, fields.n)?;
-    let shares = chosen(alloc, &rows, &params, &fields.ueb)?;
-    if shares.len() < params.k as usize {
-        return Err(ReadFault::NotEnoughShares);
+    match verify(alloc, grid, fields) {
+        Ok((shares, _)) => {
+            let params = Params::new(fields.k, fields.n, fields.size);
+            Ok(Download::pinned(alloc, Pins::new(params, fields.key, shares)))
+        }
+        Err(fault) => Err(fault),
     }
-    let Some(bytes) = crypttext(alloc, &params, &shares)? else {
-        return Err(ReadFault::NotEnoughShares);
-    };
-    Ok(crypted(fields.key, bytes))
 }

@@ -1,6 +1,9 @@
 //! What no clause says: uploads whose caps were made by another program, and files that are read back.
 
-use crate::{ReadFault, check, read, upload};
+/// Downloads.
+mod downloads;
+
+use crate::{Cache, ReadFault, check, read, upload};
 use caps::{Cap, ReadFields, VerifyCap, print, storage_index, weaken};
 use grid::{Grid, GridFault};
 use octets::fakes::counted_bytes;
@@ -64,26 +67,27 @@ fn fifty_five_bytes_stand_in_their_cap(rt: HostRuntime) -> Result<(), Fail> {
 #[test]
 fn a_big_file_is_read_while_three_shares_are_good(rt: HostRuntime) -> Result<(), Fail> {
     let alloc = rt.alloc();
+    let mut cache = Cache::new(alloc)?;
     let mut grid = grid_of_one(alloc)?;
     let bytes = counted_bytes(alloc, 200_000)?;
     let cap = upload(alloc, &mut grid, 3, 10, b"", counted_bytes(alloc, 200_000)?)?;
     assert_eq!(rt; print(alloc, &cap)?.as_str(), BIG_CAP);
     let fields = read_fields(&cap)?;
     let index = storage_index(&fields.key);
-    assert!(rt; read(alloc, &mut grid, &fields)? == bytes);
+    assert!(rt; read(alloc, &mut grid, &mut cache, &fields)? == bytes);
     for number in 1..8 {
         assert!(rt; grid.lose(0, index, number)?);
     }
-    assert!(rt; read(alloc, &mut grid, &fields)? == bytes);
+    assert!(rt; read(alloc, &mut grid, &mut cache, &fields)? == bytes);
     assert!(rt; grid.spoil(0, index, 9, 67_084)?);
-    assert!(rt; read(alloc, &mut grid, &fields).is_err());
+    assert!(rt; read(alloc, &mut grid, &mut cache, &fields).is_err());
     assert!(rt; grid.spoil(0, index, 9, 67_084)?);
-    assert!(rt; read(alloc, &mut grid, &fields)? == bytes);
+    assert!(rt; read(alloc, &mut grid, &mut cache, &fields)? == bytes);
     assert!(rt; grid.lose(0, index, 8)?);
-    assert!(rt; read(alloc, &mut grid, &fields).is_err());
+    assert!(rt; read(alloc, &mut grid, &mut cache, &fields).is_err());
     let again = upload(alloc, &mut grid, 3, 10, b"", counted_bytes(alloc, 200_000)?)?;
     assert_eq!(rt; print(alloc, &again)?.as_str(), BIG_CAP);
-    assert!(rt; read(alloc, &mut grid, &fields)? == bytes);
+    assert!(rt; read(alloc, &mut grid, &mut cache, &fields)? == bytes);
     Ok(())
 }
 
@@ -175,20 +179,32 @@ fn forged(fields: &ReadFields, k: u16, n: u16, size: u64) -> Result<ReadFields, 
 #[test]
 fn forged_caps_find_nothing(rt: HostRuntime) -> Result<(), Fail> {
     let alloc = rt.alloc();
+    let mut cache = Cache::new(alloc)?;
     let mut grid = grid_of_one(alloc)?;
     let cap = upload(alloc, &mut grid, 3, 10, b"", letters(alloc)?)?;
     let fields = read_fields(&cap)?;
-    assert!(rt; read(alloc, &mut grid, &forged(&fields, 2, 10, 56)?).is_err());
-    assert!(rt; read(alloc, &mut grid, &forged(&fields, 3, 9, 56)?).is_err());
-    assert!(rt; read(alloc, &mut grid, &forged(&fields, 3, 10, 55)?).is_err());
-    assert!(rt; read(alloc, &mut grid, &forged(&fields, 256, 256, u64::MAX)?).is_err());
-    assert!(rt; read(alloc, &mut grid, &forged(&fields, 3, 10, 56)?)? == letters(alloc)?);
+    assert!(rt; read(alloc, &mut grid, &mut cache, &forged(&fields, 2, 10, 56)?).is_err());
+    assert!(rt; read(alloc, &mut grid, &mut cache, &forged(&fields, 3, 9, 56)?).is_err());
+    assert!(rt; read(alloc, &mut grid, &mut cache, &forged(&fields, 3, 10, 55)?).is_err());
+    assert!(rt;
+        read(
+            alloc,
+            &mut grid,
+            &mut cache,
+            &forged(&fields, 256, 256, u64::MAX)?
+        )
+        .is_err()
+    );
+    assert!(rt;
+        read(alloc, &mut grid, &mut cache, &forged(&fields, 3, 10, 56)?)? == letters(alloc)?
+    );
     Ok(())
 }
 
 #[test]
 fn a_store_that_is_full_or_down_refuses(rt: HostRuntime) -> Result<(), Fail> {
     let alloc = rt.alloc();
+    let mut cache = Cache::new(alloc)?;
     let mut stores = Vec::new(alloc);
     stores.push(MemStore::new(alloc, 1_000))?;
     let mut small = Grid::new(stores);
@@ -206,13 +222,14 @@ fn a_store_that_is_full_or_down_refuses(rt: HostRuntime) -> Result<(), Fail> {
     );
     assert!(rt; refused);
     let cap = upload(alloc, &mut down, 3, 10, b"", letters(alloc)?)?;
-    assert!(rt; read(alloc, &mut down, &read_fields(&cap)?)? == letters(alloc)?);
+    assert!(rt; read(alloc, &mut down, &mut cache, &read_fields(&cap)?)? == letters(alloc)?);
     Ok(())
 }
 
 #[test]
 fn a_liar_gives_no_other_file(rt: HostRuntime) -> Result<(), Fail> {
     let alloc = rt.alloc();
+    let mut cache = Cache::new(alloc)?;
     let mut answers = Vec::new(alloc);
     answers.push(RcSlice::from_vec(b"1:1,1:0,".to_vec(alloc)?)?)?;
     let mut stores = Vec::new(alloc);
@@ -220,7 +237,7 @@ fn a_liar_gives_no_other_file(rt: HostRuntime) -> Result<(), Fail> {
     let mut grid = Grid::new(stores);
     let cap = upload(alloc, &mut grid, 3, 10, b"", letters(alloc)?)?;
     let gone = matches!(
-        read(alloc, &mut grid, &read_fields(&cap)?),
+        read(alloc, &mut grid, &mut cache, &read_fields(&cap)?),
         Err(ReadFault::NotEnoughShares)
     );
     assert!(rt; gone);
@@ -228,5 +245,44 @@ fn a_liar_gives_no_other_file(rt: HostRuntime) -> Result<(), Fail> {
     let judged = check(alloc, &mut grid, &verify_cap, true)?;
     assert_eq!(rt; judged.good, 0);
     assert_eq!(rt; judged.corrupt.len(), 10);
+    Ok(())
+}
+
+/// A store that fails from one of its calls on: an upload makes ten, a read eleven. What was read is read again while
+/// the store is down, unless the store failed in the first read.
+#[test]
+fn a_file_that_was_read_is_read_again_while_its_store_is_down(rt: HostRuntime) -> Result<(), Fail> {
+    let alloc = rt.alloc();
+    for (at, kept) in [(15, false), (22, true)] {
+        let mut cache = Cache::new(alloc)?;
+        let mut other = Cache::new(alloc)?;
+        let mut stores = Vec::new(alloc);
+        stores.push(FailAt::new(alloc, MemStore::new(alloc, 100_000), at, true))?;
+        let mut grid = Grid::new(stores);
+        let cap = upload(alloc, &mut grid, 3, 10, b"", letters(alloc)?)?;
+        let fields = read_fields(&cap)?;
+        assert!(rt; read(alloc, &mut grid, &mut cache, &fields)? == letters(alloc)?);
+        assert_eq!(rt; read(alloc, &mut grid, &mut cache, &fields).is_ok(), kept);
+        assert!(rt; read(alloc, &mut grid, &mut other, &fields).is_err());
+    }
+    Ok(())
+}
+
+#[test]
+fn the_first_of_seventeen_files_is_read_again(rt: HostRuntime) -> Result<(), Fail> {
+    let alloc = rt.alloc();
+    let mut cache = Cache::new(alloc)?;
+    let mut grid = grid_of_one(alloc)?;
+    let mut files = Vec::new(alloc);
+    for byte in 0..17 {
+        let cap = upload(alloc, &mut grid, 3, 10, b"", [byte; 56].to_vec(alloc)?)?;
+        files.push((byte, read_fields(&cap)?))?;
+    }
+    for _turn in 0..2 {
+        for (byte, fields) in &files {
+            let bytes = read(alloc, &mut grid, &mut cache, fields)?;
+            assert_eq!(rt; bytes.as_slice(), [*byte; 56].as_slice());
+        }
+    }
     Ok(())
 }

@@ -1,7 +1,8 @@
 //! Times the work on a body of 4 MiB. `gate_bench TURNS` prints the least microseconds that one of so many turns took
 //! of each part: `apply`, its encryption; `encode`, the seven secondary blocks of its three primary ones; `decode`, its
 //! primary blocks from the last three; `put`, `get` and `get_secondary`, through the gateway, from the first three shares
-//! and from the last three; `hash_put` and `hash_get`, the hashing in them alone; `gather_10` and `gather_100000`, a
+//! and from the last three; `get_1m` and `get_1m_again`, a file of 1 MiB read and read again; `hash_put` and `hash_get`,
+//! the hashing in the put and in the first get alone; `gather_10` and `gather_100000`, a
 //! thousand gatherings of a file's ten shares, from a grid of ten shares and from one of a hundred thousand.
 //! `gate_bench refusal BEFORE` makes so many allocations, serves three small requests and looks at what a refused
 //! allocation leaves. Without an argument it prints nothing.
@@ -67,6 +68,9 @@ fn bench(rt: &(impl Print + Clock + AllocGlobal), turns: u32) -> anyhow::Result<
     println!(rt; "put {}", files.put)?;
     println!(rt; "get {}", files.get)?;
     println!(rt; "get_secondary {}", files.get_secondary)?;
+    let (first, again) = files::least_again(rt, turns, byte)?;
+    println!(rt; "get_1m {first}")?;
+    println!(rt; "get_1m_again {again}")?;
     let (hash_put, hash_get) = hashing::least(rt, turns, byte)?;
     println!(rt; "hash_put {hash_put}")?;
     println!(rt; "hash_get {hash_get}")?;

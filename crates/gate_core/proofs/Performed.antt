@@ -53,18 +53,18 @@ takes : (a b n : ℕ) → a + n ≡ b → a ≡ b - n
 takes a b n e = omega arith
 
 Shows-put : (old new : GridState) (u : Upload) (w : World) (rooms : Rooms) → Leaves old new → ArePut (index u) (shares_of u) old new
-    → stood new ≡ shown (after_upload (length old) u w).marks → Shows old w rooms
-    → Shows new (after_upload (length old) u w) (λ s. rooms s - new_bytes (length old) (index u) (shares_of u) (shown w.marks) s)
+    → stood new ≡ shown (after_upload (length old.stores) u w).marks → Shows old w rooms
+    → Shows new (after_upload (length old.stores) u w) (λ s. rooms s - new_bytes (length old.stores) (index u) (shares_of u) (shown w.marks) s)
 Shows-put old new u w rooms leaves put stand shows = record {
   honest = leaves.honest shows.honest;
   stand = stand;
-  room = λ s. takes (room_at new s) (room_at old s) (new_bytes (length old) (index u) (shares_of u) (stood old) s) (put.rooms s)
-      ∙ ap (λ r. r - new_bytes (length old) (index u) (shares_of u) (stood old) s) (shows.room s)
-      ∙ ap (λ st. rooms s - new_bytes (length old) (index u) (shares_of u) st s) shows.stand;
+  room = λ s. takes (room_at new s) (room_at old s) (new_bytes (length old.stores) (index u) (shares_of u) (stood old) s) (put.rooms s)
+      ∙ ap (λ r. r - new_bytes (length old.stores) (index u) (shares_of u) (stood old) s) (shows.room s)
+      ∙ ap (λ st. rooms s - new_bytes (length old.stores) (index u) (shares_of u) st s) shows.stand;
 }
 
 Shows-stored : (o : Option Upload) (old new : GridState) (w : World) (rooms : Rooms) → Leaves old new → IsStoredIn o old new → Follows o old new → Shows old w rooms
-    → Shows new (after_stored (length old) o w) (λ s. rooms s - brought_by o (length old) w s)
+    → Shows new (after_stored (length old.stores) o w) (λ s. rooms s - brought_by o (length old.stores) w s)
 Shows-stored None old new w rooms leaves same follows shows = Shows-unchanged old new w rooms leaves same shows
 Shows-stored (Some u) old new w rooms leaves put follows shows = Shows-put old new u w rooms leaves put (follows w shows.stand) shows
 
@@ -72,10 +72,10 @@ fit_in : (a b c d : ℕ) → a ≡ b → b ≤ c → d ≡ c → a ≤ d
 fit_in a b c d e le f = omega arith
 
 -- room for what it brings in the world is room for it in the stores that show the world
-room_for : (o : Option Upload) (old : GridState) (w : World) (rooms : Rooms) → Shows old w rooms → ((s : ℕ) → brought_by o (length old) w s ≤ rooms s) → HasRoomFor old o
+room_for : (o : Option Upload) (old : GridState) (w : World) (rooms : Rooms) → Shows old w rooms → ((s : ℕ) → brought_by o (length old.stores) w s ≤ rooms s) → HasRoomFor old o
 room_for None old w rooms shows fits = tt
-room_for (Some u) old w rooms shows fits = λ s. fit_in (new_bytes (length old) (index u) (shares_of u) (stood old) s) (brought_by (Some u) (length old) w s) (rooms s) (room_at old s)
-    (ap (λ st. new_bytes (length old) (index u) (shares_of u) st s) shows.stand) (fits s) (shows.room s)
+room_for (Some u) old w rooms shows fits = λ s. fit_in (new_bytes (length old.stores) (index u) (shares_of u) (stood old) s) (brought_by (Some u) (length old.stores) w s) (rooms s) (room_at old s)
+    (ap (λ st. new_bytes (length old.stores) (index u) (shares_of u) st s) shows.stand) (fits s) (shows.room s)
 
 -- ---- a request is carried out
 
@@ -85,7 +85,7 @@ performed : {E : Type 0} (e : Encoding) (request : Request) (r : Result Reply E)
     → (IsHonest old → HasRoomFor old (upload_in e request) → NoneFailed old new → OnOk r (IsStoredIn (upload_in e request) old new))
     → (IsHonest old → HasRoomFor old (upload_in e request) → NoneFailed old new → OnOk r (Follows (upload_in e request) old new))
     → OnOk r (BringsBytes (upload_in e request))
-    → IfOk r (λ reply. IsCarriedOut (settings_of e (length old)) (Ok request) reply old new)
+    → IfOk r (λ reply. IsCarriedOut (settings_of e (length old.stores)) (Ok request) reply old new)
 performed e request (Ok reply) old new leaves fits written stored follows bytes = record {
   fits = fits;
   bytes = bytes;
@@ -115,10 +115,10 @@ pub carried_out : {E : Type 0} (e : Encoding) (k n : ℕ) (secret : List ℕ) (h
     → (IsHonest old → HasRoomFor old (upload_in (encoding_of k n secret) request) → NoneFailed old new → OnOk r (IsStoredIn (upload_in (encoding_of k n secret) request) old new))
     → (IsHonest old → HasRoomFor old (upload_in (encoding_of k n secret) request) → NoneFailed old new → OnOk r (Follows (upload_in (encoding_of k n secret) request) old new))
     → OnOk r (BringsBytes (upload_in (encoding_of k n secret) request))
-    → IfOk r (λ reply. IsCarriedOut (settings_of e (length old)) (asked_of head body) reply old new)
+    → IfOk r (λ reply. IsCarriedOut (settings_of e (length old.stores)) (asked_of head body) reply old new)
 carried_out e k n secret head body same request r old new is_k is_n is_secret is_head read leaves fits written stored follows bytes =
-    subst (λ asked. IfOk r (λ reply. IsCarriedOut (settings_of e (length old)) asked reply old new)) (sym (asked_as head body same (Ok request) is_head read))
-    (subst (λ f. IfOk r (λ reply. IsCarriedOut (settings_of f (length old)) (Ok request) reply old new)) (same_encoding e k n secret is_k is_n is_secret)
+    subst (λ asked. IfOk r (λ reply. IsCarriedOut (settings_of e (length old.stores)) asked reply old new)) (sym (asked_as head body same (Ok request) is_head read))
+    (subst (λ f. IfOk r (λ reply. IsCarriedOut (settings_of f (length old.stores)) (Ok request) reply old new)) (same_encoding e k n secret is_k is_n is_secret)
     (performed (encoding_of k n secret) request r old new leaves fits written stored follows bytes))
 
 no_error : {T : Type 0} (E : Type 0) (x : T) → IsErr {T = T} {E = E} (Ok x) → ⊥

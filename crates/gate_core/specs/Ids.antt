@@ -1,5 +1,5 @@
 -- Ids by the numbers at which membership turns.
-use Rattle.std.specs.Prelude.{ℕ, suc, zero, ◌^◌, Bool, true, false, Option, Some, None, unwrap_or, if◌then◌else◌}
+use Rattle.std.specs.Prelude.{ℕ, suc, zero, ◌^◌, Bool, false, Option, unwrap_or, if◌then◌else◌}
 use Rattle.std.specs.Ordering.{nat_cmp}
 use Rattle.std.specs.FinSet as set
 

@@ -20,6 +20,8 @@ mod server;
 mod stage;
 /// One connection: what framing goes on with, and what waits to be taken.
 mod connection;
+/// How many replies there were, by status.
+mod tally;
 /// A set of numbers that takes memory for its gaps.
 mod ids;
 /// The calls of a gateway.
@@ -29,6 +31,7 @@ pub mod laws;
 
 pub use fault::{GatewayFault, RestoreFault};
 pub use gateway::Gateway;
+pub use tally::Tally;
 
 #[cfg(test)]
 mod tests;

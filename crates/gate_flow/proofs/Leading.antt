@@ -8,6 +8,7 @@ use Rattle.std.proofs.lemmas.List.{append-nil}
 use Rattle.std.proofs.lemmas.List.Elements.{filter-append}
 use Rattle.std.proofs.lemmas.List.Concat.{flat_map-append}
 use Rattle.grid.specs.GridState.{GridState, room_at, held_at as held_of, failures_at, IsHonest, NoneFailed}
+use Rattle.grid.proofs.Turns.{leaves_none, leaves_both}
 use Rattle.grid.specs.Leaves.{Leaves}
 use Rattle.gate_core.specs.declared.stage.Stage.{Stage}
 use Rattle.gate_core.specs.declared.stage.Stage.TheVariants as stage
@@ -26,23 +27,6 @@ use Rattle.http_edge.specs.Left.{rest, is_closed as is_left_closed}
 use Rattle.gate_flow.specs.Led.{TakesBytes, IsLed, IsLedCalmly, IsUnclosed}
 
 -- ---- what grids leave
-
-same_or_less : (n : ℕ) → n ≤ n
-same_or_less n = omega arith
-
-at_most_trans : (a b c : ℕ) → a ≤ b → b ≤ c → a ≤ c
-at_most_trans a b c p q = omega arith
-
-Leaves-refl : (g : GridState) → Leaves g g
-Leaves-refl g = record { servers = refl; rises = λ s. same_or_less (failures_at g s); honest = λ h. h; sums = λ h s. refl }
-
-Leaves-trans : (a b c : GridState) → Leaves a b → Leaves b c → Leaves a c
-Leaves-trans a b c first second = record {
-  servers = second.servers ∙ first.servers;
-  rises = λ s. at_most_trans (failures_at a s) (failures_at b s) (failures_at c s) (first.rises s) (second.rises s);
-  honest = λ h. second.honest (first.honest h);
-  sums = λ h s. second.sums (first.honest h) s ∙ first.sums h s;
-}
 
 between : (a b c : ℕ) → a ≤ b → b ≤ c → c ≡ a → (b ≡ a) × (c ≡ b)
 between a b c p q e = (omega arith, omega arith)
@@ -72,7 +56,7 @@ handed_one id e mine = ap (flat_map given_by) (calls_of_one id e mine) ∙ appen
 pub led_none : (id : ℕ) (g : State) → IsLed id [] g g
 led_none id g = record {
   settings = refl;
-  leaves = Leaves-refl g.grid;
+  leaves = leaves_none g.grid;
   others = λ other apart. refl;
   told = λ events told. subst (Faithful g) (sym (append-nil events)) told;
 }
@@ -83,7 +67,7 @@ calm_none g opening events came roomy none = subst (Came opening g) (sym (append
 pub led_more : (id : ℕ) (a b : List Event) (g h k : State) → IsLed id a g h → IsLed id b h k → IsLed id (a ++ b) g k
 led_more id a b g h k first second = record {
   settings = second.settings ∙ first.settings;
-  leaves = Leaves-trans g.grid h.grid k.grid first.leaves second.leaves;
+  leaves = leaves_both g.grid h.grid k.grid first.leaves second.leaves;
   others = λ other apart. second.others other apart ∙ first.others other apart;
   told = λ events told. subst (Faithful k) (append_assoc events a b) (second.told (events ++ a) (first.told events told));
 }
@@ -110,7 +94,7 @@ led_held : (id : ℕ) (calls : List Event) (g h : State) (held : Held) → h ≡
     → ((events : List Event) → Faithful g events → Faithful (with_held g id held) (events ++ calls)) → IsLed id calls g h
 led_held id calls g h held is others told = record {
   settings = ap (λ (s : State). s.settings) is;
-  leaves = subst (λ (s : State). Leaves g.grid s.grid) (sym is) (Leaves-refl g.grid);
+  leaves = subst (λ (s : State). Leaves g.grid s.grid) (sym is) (leaves_none g.grid);
   others = others;
   told = λ events before. subst (λ s. Faithful s (events ++ calls)) (sym is) (told events before);
 }

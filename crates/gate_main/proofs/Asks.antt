@@ -1,7 +1,6 @@
 -- Arguments that ask for a task.
-use Rattle.std.proofs.Common.{◌≡◌, ℕ, List, [], ◌∷◌, length, true, refl, sym, ap, subst, ◌∙◌, arith, eqb-true}
+use Rattle.std.proofs.Common.{◌≡◌, ℕ, List, [], ◌∷◌, length, true, refl, sym, subst, arith, eqb-true}
 use Rattle.std.specs.Prelude.{codes, ◌==◌}
-use Rattle.std.specs.Str.{bytes_eq}
 use Rattle.gate_main.specs.Arguments.{Asks}
 use Rattle.gate_main.specs.declared.arguments.Task.TheVariants.{Replay}
 

@@ -1,9 +1,10 @@
 -- The first lines of a run.
-use Rattle.std.proofs.Common.{◌≡◌, ◌≢◌, ℕ, ◌≤◌, List, [], ◌∷◌, ◌++◌, length, Bool, true, false, cond, Option, Some, None, Result, Ok, Err, refl, sym, ap, subst, ◌∙◌, arith, nat_le, inl, inr}
-use Rattle.std.specs.Prelude.{replicate, ◌&&◌, ◌⊎◌}
+use Rattle.std.proofs.Common.{◌≡◌, ℕ, List, [], ◌∷◌, length, Bool, true, false, cond, Option, Some, None, refl, sym, ap, subst, ◌∙◌, arith, nat_le, inl, inr}
+use Rattle.std.specs.Prelude.{All, IsTrue, replicate, ◌&&◌, ◌⊎◌}
 use Rattle.std.proofs.lemmas.Bool.Decides.{nat_tests}
 use Rattle.octets.specs.Sharing.{IsSharing}
-use Rattle.grid.specs.GridState.{GridState, IsHonest, room_at}
+use Rattle.grid.specs.GridState.{StoreState}
+use Rattle.grid.specs.Standing.{at_server}
 use Rattle.grid.specs.ImageReading.{image_said}
 use Rattle.chk_file.specs.World.{empty}
 use Rattle.gate_core.specs.Settings.{Settings}
@@ -13,14 +14,13 @@ use Rattle.gate_core.specs.Came.{Came, Starts}
 use Rattle.gate_core.specs.declared.fault.GatewayFault.{GatewayFault}
 use Rattle.gate_core.specs.declared.fault.GatewayFault.TheVariants.{BadParameters}
 use Rattle.gate_main.specs.Stores.{fresh}
-use Rattle.gate_main.specs.Script.{Step, is_grid, is_restore, is_refusal, may_stand}
-use Rattle.gate_main.specs.Replies.{settings_by, opening_by, room_of, are_parameters, IsRestoreReply, IsToldAfter, IsTold}
-use Rattle.gate_main.specs.Running.{CameAfter, CameBy, IsAt, IsAnswer, Answered}
-use Rattle.gate_main.specs.declared.command.Command.{Command}
+use Rattle.gate_main.specs.Script.{Step, is_refusal}
+use Rattle.gate_main.specs.Replies.{settings_by, opening_by, are_parameters, IsRestoreReply, IsTold}
+use Rattle.gate_main.specs.Running.{CameBy, IsAt, IsAnswer, Answered}
 use Rattle.gate_main.specs.declared.command.Command.TheVariants as command
 use Rattle.gate_main.specs.declared.command.Grid.{Grid}
 use Rattle.gate_main.specs.declared.reply.Reply.{Reply}
-use Rattle.gate_main.specs.declared.reply.Reply.TheVariants.{Done, Refused, GridRefused}
+use Rattle.gate_main.specs.declared.reply.Reply.TheVariants.{Done, Refused}
 use Rattle.gate_main.proofs.StoreLists.{all_honest, room_is}
 
 -- ---- parameters
@@ -76,22 +76,22 @@ set_is grid secret servers a b =
     ap (λ q. let s : Settings = record { k = grid.k; n = grid.n; secret = q; servers = servers } in s) a
     ∙ ap (λ q. let s : Settings = record { k = grid.k; n = grid.n; secret = grid.secret; servers = q } in s) b
 
-came_first : (grid : Grid) (g : State) → g.grid ≡ replicate grid.servers (fresh grid.room) → Starts empty g → Came (opening_by grid) g []
+came_first : (grid : Grid) (g : State) → g.grid.stores ≡ replicate grid.servers (fresh grid.room) → Starts empty g → Came (opening_by grid) g []
 unfolding items
 came_first grid g is starts =
-    let came = starts (subst IsHonest (sym is) (all_honest grid.servers grid.room)) in
+    let came = starts (subst (λ (stores : List StoreState). All (λ (t : StoreState). IsTrue t.honest) stores) (sym is) (all_honest grid.servers grid.room)) in
     record {
       servers = came.servers;
       stores = record {
         honest = came.stores.honest;
         stand = came.stores.stand;
-        room = λ s. ap (λ t. room_at t s) is ∙ room_is grid.servers grid.room s;
+        room = λ s. ap (λ (stores : List StoreState). at_server (λ (t : StoreState). t.room) stores s) is ∙ room_is grid.servers grid.room s;
       };
       each = came.each;
       bytes = came.bytes;
     }
 
-pub begin_made : (log : List Step) (was : Option Grid) (grid : Grid) (g : State) → IsAt log was None → g.settings ≡ settings_by grid → g.grid ≡ replicate grid.servers (fresh grid.room) → Starts empty g → are_parameters grid ≡ true
+pub begin_made : (log : List Step) (was : Option Grid) (grid : Grid) (g : State) → IsAt log was None → g.settings ≡ settings_by grid → g.grid.stores ≡ replicate grid.servers (fresh grid.room) → Starts empty g → are_parameters grid ≡ true
     → Answered log (command.Grid grid) (Some Done) (Some grid) (Some g)
 begin_made log None grid g at set is starts good =
     let step : Step = record { command = command.Grid grid; reply = Done } in

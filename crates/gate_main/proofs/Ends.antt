@@ -1,27 +1,26 @@
 -- How a run ends.
-use Rattle.std.proofs.Common.{◌≡◌, ◌≢◌, ℕ, ◌+◌, ◌-◌, ◌<◌, List, [], ◌∷◌, ◌++◌, length, take, drop, Bool, true, false, All, Option, Some, None, Result, Ok, Err, refl, sym, ap, subst, ◌∙◌, append_assoc, length-append, arith, eqb-true, inl, inr}
+use Rattle.std.proofs.Common.{◌≡◌, ◌≢◌, ℕ, ◌+◌, ◌-◌, ◌<◌, List, [], ◌∷◌, ◌++◌, length, take, Bool, true, false, All, Option, Some, None, Result, Ok, Err, refl, sym, ap, subst, ◌∙◌, append_assoc, length-append, arith, eqb-true, inl, inr}
 use Rattle.std.specs.Prelude.{IfSome, OnSome, ◌==◌, ◌⊎◌}
 use Rattle.std.specs.Io.KnownBytes.{Consumes, Appends, IsAtEnd}
 use Rattle.std.proofs.KnownBytes.{Consumes-trans, Appends-trans}
 use Rattle.std.proofs.lemmas.Bool.Decides.{nat_tests}
-use Rattle.std.proofs.lemmas.List.{append-nil, take-append-drop}
+use Rattle.std.proofs.lemmas.List.{append-nil}
 use Rattle.std.proofs.lemmas.List.Elements.{All-take}
 use Rattle.std.proofs.Math.Seq.{take-append_seam}
-use Rattle.octets.specs.Written.{WritesBeginning}
 use Rattle.gate_core.specs.Held.{State}
 use Rattle.gate_main.specs.Command.{command_of}
 use Rattle.gate_main.specs.Lines.{LacksLf, Line, lines_of, piece_of, is_within}
 use Rattle.gate_main.specs.Reading.{IsTooLong, ReadsLine, LineReads}
-use Rattle.gate_main.specs.Script.{Step, Run, Told, End, Ended, Unanswered, Stopped, allowed, ends_run, answer_text, after_text, stepped, asked_for, told_at, told, written_by}
+use Rattle.gate_main.specs.Script.{Step, Run, Told, End, Ended, Stopped, allowed, ends_run, answer_text, after_text, stepped, asked_for, told_at, told, written_by}
 use Rattle.gate_main.specs.Replies.{IsTold}
-use Rattle.gate_main.specs.Running.{IsAt, IsStep, GoesOn, EndsAt, IsBad, WritesPart, LineRuns, IsOneLine, StopsAfter, Answers, AnswersSome, RunEnds}
+use Rattle.gate_main.specs.Running.{GoesOn, EndsAt, IsBad, WritesPart, LineRuns, IsOneLine, StopsAfter, Answers, AnswersSome, RunEnds}
 use Rattle.gate_main.specs.declared.command.Command.{Command}
 use Rattle.gate_main.specs.declared.command.Grid.{Grid}
 use Rattle.gate_main.specs.declared.reply.Reply.{Reply}
 use Rattle.gate_main.specs.declared.fault.ScriptFault.{ScriptFault}
 use Rattle.gate_main.specs.declared.fault.ScriptFault.TheVariants.{BadLine, ReadFailed, WriteFailed, NoMemory, TooLong}
 use Rattle.gate_main.proofs.LineLists.{lines_ended, lines_last, long_first}
-use Rattle.gate_main.proofs.Stands.{Stands, told_empty, told_some, told_step}
+use Rattle.gate_main.proofs.Stands.{Stands, told_some, told_step}
 
 -- ---- known bytes
 

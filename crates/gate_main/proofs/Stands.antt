@@ -1,22 +1,20 @@
 -- How far a run came.
-use Rattle.std.proofs.Common.{◌≡◌, ℕ, ◌+◌, ◌≤◌, List, [], ◌∷◌, ◌++◌, length, Bool, true, false, cond, Option, Some, None, refl, sym, ap, ◌∙◌, append_assoc, length-append, arith}
+use Rattle.std.proofs.Common.{◌≡◌, ℕ, ◌+◌, ◌≤◌, List, [], ◌∷◌, ◌++◌, length, Bool, true, false, Option, Some, None, refl, sym, ap, ◌∙◌, append_assoc, length-append, arith}
 use Rattle.std.specs.Prelude.{◌==◌}
 use Rattle.std.specs.Io.{IsEmptyOrEndsWith}
 use Rattle.std.specs.Io.KnownBytes.{Consumes, Appends}
 use Rattle.std.proofs.KnownBytes.{Consumes-nil, Consumes-trans, Appends-nil, Appends-trans}
 use Rattle.std.proofs.lemmas.Bool.Decides.{nat_tests}
-use Rattle.std.proofs.lemmas.List.{append-nil}
 use Rattle.gate_core.specs.Held.{State}
 use Rattle.gate_main.specs.Command.{command_of}
 use Rattle.gate_main.specs.Lines.{Line, lines_of, piece_of, fits, is_within}
 use Rattle.gate_main.specs.Reading.{ReadsLine}
-use Rattle.gate_main.specs.Script.{Step, Run, Told, End, Ended, Unanswered, Stopped, allowed, ends_run, answer_text, after_text, stepped, asked_for, told_at, told, written_by}
+use Rattle.gate_main.specs.Script.{Step, Run, Told, allowed, ends_run, answer_text, after_text, stepped, asked_for, told_at, told, written_by}
 use Rattle.gate_main.specs.Replies.{IsTold}
 use Rattle.gate_main.specs.Running.{IsAt, GoesOn}
 use Rattle.gate_main.specs.declared.command.Command.{Command}
 use Rattle.gate_main.specs.declared.command.Grid.{Grid}
 use Rattle.gate_main.specs.declared.reply.Reply.{Reply}
-use Rattle.gate_main.specs.declared.fault.ScriptFault.TheVariants.{BadLine}
 use Rattle.gate_main.proofs.LineLists.{lines_ended, ends_whole}
 
 -- the lines `done` were read and answered

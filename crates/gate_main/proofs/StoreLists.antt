@@ -1,5 +1,5 @@
 -- Stores in which nothing stands.
-use Rattle.std.proofs.Common.{◌≡◌, ℕ, ◌+◌, ◌<◌, ◌≤◌, zero, suc, List, [], ◌∷◌, ◌++◌, Bool, true, false, cond, All, refl, sym, ap, ◌∙◌, add-one, arith, nat_lt, length, get_or}
+use Rattle.std.proofs.Common.{◌≡◌, ℕ, ◌+◌, ◌<◌, zero, suc, List, [], ◌∷◌, ◌++◌, true, false, cond, All, refl, sym, ap, ◌∙◌, add-one, arith, nat_lt, length, get_or}
 use Rattle.std.specs.Prelude.{map, replicate, IsTrue}
 use Rattle.std.specs.FinMap as finite
 use Rattle.std.proofs.lemmas.Bool.Decides.{nat_tests}
@@ -7,7 +7,8 @@ use Rattle.share_store.specs.Shares.{Shares}
 use Rattle.std.specs.Rc.{rc_slice_items}
 use Rattle.share_store.specs.Stored.{shares_in}
 use Rattle.share_store.specs.declared.mem_store.MemStore.{MemStore}
-use Rattle.grid.specs.GridState.{StoreState, room_at, IsHonest}
+use Rattle.grid.specs.GridState.{StoreState}
+use Rattle.grid.specs.Standing.{at_server}
 use Rattle.gate_main.specs.Stores.{fresh}
 
 -- what contracts see of a store in memory
@@ -39,7 +40,7 @@ honest_at zero room k d less = absurd (omega arith)
 honest_at (suc n) room zero d less = refl
 honest_at (suc n) room (suc k) d less = honest_at n room k d (omega arith)
 
-pub all_honest : (n room : ℕ) → IsHonest (replicate n (fresh room))
+pub all_honest : (n room : ℕ) → All (λ (t : StoreState). IsTrue t.honest) (replicate n (fresh room))
 all_honest n room k d less = honest_at n room k d less
 
 below_none : (s : ℕ) → nat_lt s 0 ≡ false
@@ -51,7 +52,7 @@ below_suc s n = grind (arith, nat_tests)
 below_first : (n : ℕ) → nat_lt 0 (suc n) ≡ true
 below_first n = grind (arith, nat_tests)
 
-pub room_is : (n room s : ℕ) → room_at (replicate n (fresh room)) s ≡ cond (nat_lt s n) room 0
+pub room_is : (n room s : ℕ) → at_server (λ (t : StoreState). t.room) (replicate n (fresh room)) s ≡ cond (nat_lt s n) room 0
 room_is zero room s = ap (λ b. cond b room 0) (sym (below_none s))
 room_is (suc n) room zero = ap (λ b. cond b room 0) (sym (below_first n))
 room_is (suc n) room (suc s) = room_is n room s ∙ ap (λ b. cond b room 0) (sym (below_suc s n))

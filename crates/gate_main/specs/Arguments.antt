@@ -1,5 +1,5 @@
 -- What the program's arguments ask for.
-use Rattle.std.specs.Prelude.{◌≡◌, ◌≤◌, ℕ, List, [], ◌∷◌, length, Option, Some, None, Result, Ok, Err, codes}
+use Rattle.std.specs.Prelude.{◌≡◌, ◌≤◌, ℕ, List, [], ◌∷◌, length, Some, codes}
 use Rattle.std.specs.Net.Grammar.{IsSocketText}
 use Rattle.octets.specs.Decimal.{number_to}
 use Rattle.base32_text.specs.Reading.{reading}

@@ -1,6 +1,5 @@
 -- Exit statuses.
 use Rattle.std.specs.Prelude.{ℕ, Result, Ok, Err}
-use Rattle.gate_main.specs.declared.fault.ScriptFault.{ScriptFault}
 use Rattle.gate_main.specs.declared.fault.ProgramFault.{ProgramFault}
 use Rattle.gate_main.specs.declared.fault.ProgramFault.TheVariants.{Usage, Script, BindFailed, Serve, Connections, NoMemory}
 

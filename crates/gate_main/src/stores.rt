@@ -1,6 +1,6 @@
 //! The stores of a gateway, in memory.
 ghost use Rattle.std.specs.Prelude.{◌≡◌, ℕ, All, replicate, vec_len, IfOk};
-ghost use Rattle.grid.specs.GridState.{states};
+ghost use Rattle.grid.specs.GridState.{stores_seen};
 ghost use Rattle.gate_main.specs.Stores.{fresh};
 
 use share_store::{MemStore, Store};
@@ -12,7 +12,7 @@ pub fn make_stores(alloc: Global, count: u16, room: u64) -> Result<Vec<MemStore>
     ensures empty { IfOk result (λ stores.
         All (λ store. ⟦<MemStore as Store>⟧.held store ≡ 0) stores.items) }
     ensures fresh { IfOk result (λ stores.
-        states ⟦<MemStore as Store>⟧.shares ⟦<MemStore as Store>⟧.room ⟦<MemStore as Store>⟧.held
+        stores_seen ⟦<MemStore as Store>⟧.shares ⟦<MemStore as Store>⟧.room ⟦<MemStore as Store>⟧.held
         ⟦<MemStore as Store>⟧.failures ⟦<MemStore as Store>⟧.honest stores.items
         ≡ replicate count (fresh room)) }
 {

@@ -20,6 +20,8 @@ mod peer;
 mod table;
 /// The connections of a control listener.
 mod control;
+/// Telling of stores that failed.
+mod watch;
 /// The loop.
 mod serving;
 

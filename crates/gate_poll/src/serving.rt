@@ -5,6 +5,7 @@ use crate::fault::ServeFault;
 use crate::ids::Ids;
 use crate::limits::Limits;
 use crate::table::Table;
+use crate::watch::Watch;
 use gate_core::Gateway;
 use log::{Log, info, warn};
 use mio::net::{TcpListener, TcpStream};
@@ -61,6 +62,7 @@ struct Gate {
     /// Until when no connection is accepted, since the system gave none.
     paused: Option<Instant>,
     swept: Instant,
+    watch: Watch,
     /// Since when serving is to stop.
     stopping: Option<Instant>,
 }
@@ -157,7 +159,7 @@ fn register(poll: &Poll, ids: &mut Ids, stream: &mut TcpStream) -> Option<u64> {
 
 impl Gate {
     /// Begins to listen for connections.
-    fn open<R: Net + Clock>(
+    fn open<R: Net + Clock + AllocGlobal>(
         rt: &R,
         listener: TcpListener,
         control: Option<TcpListener>,
@@ -175,6 +177,7 @@ impl Gate {
             ids: Ids::new(),
             paused: None,
             swept: Instant::now(rt)?,
+            watch: Watch::new(rt.alloc()),
             stopping: None,
         })
     }
@@ -263,7 +266,7 @@ impl Gate {
         }
     }
 
-    /// Closes those whose time is over, now and then.
+    /// Closes those whose time is over, and tells of stores that failed, now and then.
     fn sweep<S: Store, R: Log>(
         &mut self,
         rt: &R,
@@ -276,6 +279,7 @@ impl Gate {
             self.swept = now;
             table.sweep(rt, gateway, now);
             desk.sweep(now);
+            self.watch.look(rt, gateway);
         }
     }
 

@@ -16,5 +16,7 @@ pub mod ReadExact
 pub mod RowFacts
 pub mod RowLists
 pub mod RowPuts
+pub mod Raising
+pub mod StampLemmas
 pub mod Standing
 pub mod Turns

@@ -19,6 +19,8 @@ pub mod Refusals
 pub mod RowOrder
 pub mod Rows
 pub mod RowsKept
+pub mod Stamped
+pub mod Stamps
 pub mod Standing
 pub mod StoreAnswers
 pub mod Written

@@ -93,7 +93,7 @@ impl<S: Store> Grid<S> {
         match grid.take_image(alloc, reader) {
             Ok(()) => Ok(grid),
             Err(error) => {
-                let Grid { stores } = grid;
+                let Grid { stores, .. } = grid;
                 Err((error, stores))
             }
         }
@@ -105,7 +105,7 @@ impl<S: Store> Grid<S> {
         ensures down { TellsDown self.old self.new result }
         ensures refusals { IfErr result IsReadRefusal }
         ensures reads { IfSome (R.remaining reader.old) (λ bytes.
-            Reads (image_said (length_of self.old) bytes) result
+            Reads (image_said (length_of self.old.stores) bytes) result
             (room_at self.new)
             (IsHonest self.old × (rows_of (maps_of self.old) ≡ []))
             (rows_of (maps_of self.new)) (R.remaining reader.new)) }
@@ -131,7 +131,7 @@ impl<S: Store> Grid<S> {
         ensures down { TellsDown self.old self.new result }
         ensures refusals { IfErr result IsReadRefusal }
         ensures reads { IfSome (R.remaining reader.old) (λ bytes.
-            Reads (said_in layout (length_of self.old) bytes) result
+            Reads (said_in layout (length_of self.old.stores) bytes) result
             (room_at self.new)
             (IsHonest self.old × (rows_of (maps_of self.old) ≡ []))
             (rows_of (maps_of self.new)) (R.remaining reader.new)) }
@@ -158,7 +158,7 @@ impl<S: Store> Grid<S> {
         ensures down { TellsDown self.old self.new result }
         ensures refusals { IfErr result IsReadRefusal }
         ensures reads { IfSome (R.remaining reader.old) (λ bytes.
-            Reads (rows_said layout count (length_of self.old) None (front_size layout) bytes) result
+            Reads (rows_said layout count (length_of self.old.stores) None (front_size layout) bytes) result
             (room_at self.new)
             (IsHonest self.old × (rows_of (maps_of self.old) ≡ []))
             (rows_of (maps_of self.new)) (R.remaining reader.new)) }
@@ -178,7 +178,7 @@ impl<S: Store> Grid<S> {
 
     /// Puts a share that was read after all others.
     fn put_row(&mut self, head: RowHead, bytes: RcSlice<u8>) -> Result<bool, GridFault>
-        requires server { head.server < length_of self.old }
+        requires server { head.server < length_of self.old.stores }
         requires some { 0 < length_of (rc_slice_items bytes) }
         ensures leaves { Leaves self.old self.new }
         ensures down { TellsDown self.old self.new result }

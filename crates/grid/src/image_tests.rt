@@ -160,7 +160,7 @@ fn copied<S: Store, T: Store>(
 ) -> Result<Grid<T>, (GridFault, Vec<T>)>
     requires some { 0 < vec_len stores }
     requires few { vec_len stores ≤ 256 }
-    requires many { vec_len stores ≡ length_of grid.old }
+    requires many { vec_len stores ≡ length_of grid.old.stores }
     requires empty { All (λ store. T.held store ≡ 0) stores.items }
     ensures same { IsHonest grid.old →
         IsHonest (states T.shares T.room T.held T.failures T.honest stores.items) →

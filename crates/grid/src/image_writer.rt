@@ -40,6 +40,7 @@ impl<S: Store> Grid<S> {
     /// - [`GridFault::NoMemory`].
     pub fn write_image<W: Write>(&mut self, writer: &mut W) -> Result<(), GridFault>
         ensures leaves { Leaves self.old self.new }
+        ensures stamps { self.new.stamps ≡ self.old.stamps }
         ensures down { TellsDown self.old self.new result }
         ensures refusals { IfErr result IsWriteRefusal }
         ensures unwritten { (s : ℕ) → IsErrOf result (GridFault.Down s) →
@@ -48,14 +49,14 @@ impl<S: Store> Grid<S> {
         ensures unchanged { IsHonest self.old → IsUnchanged self.old self.new }
         ensures ok { IsHonest self.old →
             OnOk result (Appends (W.contents writer.old) (W.contents writer.new)
-            (image (length_of self.old) (rows_of (maps_of self.old)))) }
+            (image (length_of self.old.stores) (rows_of (maps_of self.old)))) }
         ensures rows { IsHonest self.old →
-            OnOk result (CanBeWritten VersionTwo (length_of self.old) (rows_of (maps_of self.old))) }
+            OnOk result (CanBeWritten VersionTwo (length_of self.old.stores) (rows_of (maps_of self.old))) }
         ensures bad_image { IsHonest self.old → (place : ℕ) →
             IsErrOf result (GridFault.BadImage place) →
             refused_place (rows_of (maps_of self.old)) ≡ Some place }
         ensures err { IsHonest self.old →
-            OnErr result (WritesBeginning (image (length_of self.old) (rows_of (maps_of self.old)))
+            OnErr result (WritesBeginning (image (length_of self.old.stores) (rows_of (maps_of self.old)))
             (W.contents writer.old) (W.contents writer.new)) }
     {
         let rows = self.rows()?;
@@ -66,6 +67,7 @@ impl<S: Store> Grid<S> {
     /// Every share with its server: server by server, in the order of each store. Bytes are lent without a copy.
     fn rows(&mut self) -> Result<Vec<(u32, Share)>, GridFault>
         ensures leaves { Leaves self.old self.new }
+        ensures stamps { self.new.stamps ≡ self.old.stamps }
         ensures down { TellsDown self.old self.new result }
         ensures refusals { IfErr result IsLookRefusal }
         ensures unchanged { IsHonest self.old → IsUnchanged self.old self.new }
@@ -83,9 +85,10 @@ impl<S: Store> Grid<S> {
 
     /// Adds the shares of one server.
     fn add_rows(&mut self, server: usize, rows: &mut Vec<(u32, Share)>) -> Result<(), GridFault>
-        requires some { server < length_of self.old }
+        requires some { server < length_of self.old.stores }
         requires small { server < 256 }
         ensures leaves { Leaves self.old self.new }
+        ensures stamps { self.new.stamps ≡ self.old.stamps }
         ensures down { TellsDown self.old self.new result }
         ensures refusals { IfErr result IsLookRefusal }
         ensures unchanged { IsHonest self.old → IsUnchanged self.old self.new }
@@ -104,8 +107,9 @@ impl<S: Store> Grid<S> {
 
     /// The share at a place of one server's store.
     fn share_at(&mut self, server: usize, at: u64) -> Result<Option<Share>, GridFault>
-        requires { server < length_of self.old }
+        requires { server < length_of self.old.stores }
         ensures leaves { Leaves self.old self.new }
+        ensures stamps { self.new.stamps ≡ self.old.stamps }
         ensures down { TellsDown self.old self.new result }
         ensures refusals { IfErr result IsLookRefusal }
         ensures unchanged { IsHonest self.old → IsUnchanged self.old self.new }

@@ -4,6 +4,8 @@
 //! one that the storage index's last byte names, and gathers what stands; an operator loses and spoils single shares.
 #![tactic(auto)]
 
+// How often what stands under each storage index may have changed.
+mod counts;
 // The grid and its calls.
 mod server_grid;
 // Why a grid refuses.

@@ -1,12 +1,14 @@
 //! A grid of stores.
-ghost use Rattle.std.specs.Prelude.{◌≡◌, ◌<◌, ◌≤◌, ◌↔◌, ◌++◌, ℕ, [], length, map, All, IfOk, IfErr, IsOkAnd, OnOk, OnErr, IsErrOf, None, Some, is_some, nat_lt, unwrap_or, vec_len, IsTrue, slice_get};
+ghost use Rattle.std.specs.Prelude.{◌≡◌, ◌<◌, ◌≤◌, ◌↔◌, ◌⊎◌, Err, ◌++◌, ℕ, [], length, map, All, IfOk, IfErr, IsOkAnd, OnOk, OnErr, IsErrOf, None, Some, is_some, nat_lt, unwrap_or, vec_len, IsTrue, slice_get};
 ghost use Rattle.std.specs.Rc.{rc_slice_items};
 ghost use Rattle.std.specs.Option.{option_map, option_map_or};
 ghost use Rattle.std.specs.FinMap as finite;
 ghost use Rattle.share_store.specs.Numbers.{of_index};
 ghost use Rattle.share_store.specs.Put.{put_once};
 ghost use Rattle.share_store.specs.Stored.{entry_of};
-ghost use Rattle.grid.specs.GridState.{states, maps_of, stood, room_at, failures_at, IsHonest, NoneFailed};
+ghost use Rattle.grid.specs.GridState.{states, stores_seen, maps_of, stood, room_at, failures_at, failures_in, raised_at, IsHonest, NoneFailed};
+ghost use Rattle.grid.specs.Stamps.{raised, stamp_of};
+ghost use Rattle.grid.specs.Stamped.{IsStamped, MayRaise};
 ghost use Rattle.grid.specs.Leaves.{Leaves, TellsDown, IsUnchanged};
 ghost use Rattle.grid.specs.Changed.{ArePut, StopsAt, IsLost, IsSpoiled};
 ghost use Rattle.grid.specs.NewBytes.{HasRoom};
@@ -15,6 +17,7 @@ ghost use Rattle.grid.specs.Found.{entries_at, found_in, found_below, AllBut, se
 ghost use Rattle.grid.specs.OneStore.{IsPutHere};
 
 use crate::GridFault;
+use crate::counts::Counts;
 use crate::fault::answer_of;
 use share_store::laws::size_laws;
 use share_store::{MemStore, Store};
@@ -28,18 +31,22 @@ use std::rc::RcSlice;
 pub struct Grid<S: Store> {
     /// The stores, in the order of the servers.
     pub(crate) stores: Vec<S>,
+    /// How often what stands under each storage index may have changed.
+    pub(crate) counts: Counts,
 }
 
 impl<S: Store> Model for Grid<S> {
     ghost use Rattle.std.specs.Prelude.{◌<◌, ◌≤◌, vec_len};
-    ghost use Rattle.grid.specs.GridState.{GridState, state_code, states};
-    ghost use Rattle.std.specs.Coded.{coded_list};
+    ghost use Rattle.grid.specs.GridState.{GridState, grid_code, stores_seen};
 
     ghost Value = { GridState };
 
-    ghost coded = { coded_list state_code };
+    ghost coded = { grid_code };
 
-    ghost view = { λ grid. states S.shares S.room S.held S.failures S.honest grid.stores.items };
+    ghost view = { λ grid. record {
+      stores = stores_seen S.shares S.room S.held S.failures S.honest grid.stores.items;
+      stamps = grid.counts;
+    } };
 
     ghost invariant = { λ grid. (0 < vec_len grid.stores) × (vec_len grid.stores ≤ 256) };
 }
@@ -51,21 +58,22 @@ impl<S: Store> Grid<S> {
         requires few { vec_len stores ≤ 256 }
         ensures { result ≡ states S.shares S.room S.held S.failures S.honest stores.items }
     {
-        Grid { stores }
+        let counts = Counts::new(*stores.allocator());
+        Grid { stores, counts }
     }
 
     /// How many servers there are, 1 to 256. No memory is taken.
     pub fn servers(&self) -> usize
-        ensures servers { result ≡ length self.now }
-        ensures some { 0 < length self.now }
-        ensures few { length self.now ≤ 256 }
+        ensures servers { result ≡ length self.now.stores }
+        ensures some { 0 < length self.now.stores }
+        ensures few { length self.now.stores ≤ 256 }
     {
         self.stores.len()
     }
 
     /// The stores, in the order of the servers, to look at the room of each, what it holds and how often it failed.
     pub fn stores(&self) -> &[S]
-        ensures { states S.shares S.room S.held S.failures S.honest result.now ≡ self.now }
+        ensures { stores_seen S.shares S.room S.held S.failures S.honest result.now ≡ self.now.stores }
     {
         &self.stores
     }
@@ -80,6 +88,128 @@ impl<S: Store> Grid<S> {
         requires few { length shares.now ≤ 256 }
         requires some { All (λ share. 0 < length (rc_slice_items share)) shares.now }
         ensures leaves { Leaves self.old self.new }
+        ensures stamped { IsStamped self.old self.new }
+        ensures raised { 0 < length shares.now →
+            OnOk result (self.new.stamps ≡ raised index self.old.stamps) }
+        ensures may_raise { MayRaise index self.old self.new ((result ≡ Err GridFault.NoMemory)
+            ⊎ (shares.now ≡ [])) }
+        ensures down { TellsDown self.old self.new result }
+        ensures ok { IsHonest self.old →
+            OnOk result (ArePut index (map rc_slice_items shares.now) self.old self.new) }
+        ensures err { IfErr result
+            (StopsAt index (map rc_slice_items shares.now) self.old self.new) }
+        ensures never_full { IsHonest self.old →
+            HasRoom self.old index (map rc_slice_items shares.now) →
+            (s : ℕ) → IsErrOf result (GridFault.Full s) → ⊥ }
+    {
+        if shares.len() == 0 {
+            return Ok(());
+        }
+        self.raise(index)?;
+        self.put_each(index, shares)
+    }
+
+    /// Takes a share away, and answers `true`. `false` where none stood.
+    ///
+    /// Refused, with nothing changed: [`GridFault::NoServer`] exactly when there is no such server,
+    /// [`GridFault::Down`] exactly when its store failed, or [`GridFault::NoMemory`].
+    pub fn lose(&mut self, server: usize, index: [u8; 16], number: u16) -> Result<bool, GridFault>
+        ensures leaves { Leaves self.old self.new }
+        ensures stamped { IsStamped self.old self.new }
+        ensures raised { OnOk result (self.new.stamps ≡ raised index self.old.stamps) }
+        ensures may_raise { MayRaise index self.old self.new ((result ≡ Err GridFault.NoServer)
+            ⊎ (result ≡ Err GridFault.NoMemory)) }
+        ensures nothing_there { IsErrOf result GridFault.NoServer → self.new ≡ self.old }
+        ensures down { TellsDown self.old self.new result }
+        ensures refusals { IfErr result IsChangeRefusal }
+        ensures no_server { IsErrOf result GridFault.NoServer ↔ (length self.old.stores ≤ server) }
+
+        ensures lost { IsHonest self.old →
+            IfOk result (λ lost. lost ≡ is_some (stood self.old server (index, number))) }
+        ensures ok { IsHonest self.old →
+            OnOk result (IsLost server (index, number) self.old self.new) }
+        ensures err { IsHonest self.old → OnErr result (IsUnchanged self.old self.new) }
+    {
+        if server >= self.stores.len() {
+            return Err(GridFault::NoServer);
+        }
+        self.raise(index)?;
+        self.lose_at(server, index, number)
+    }
+
+    /// Changes the lowest bit of one byte of a share, the byte at `place` from 0, and answers `true`. `false` where
+    /// there is no such byte.
+    ///
+    /// Refused, with nothing changed: [`GridFault::NoServer`] exactly when there is no such server,
+    /// [`GridFault::Down`] exactly when its store failed, or [`GridFault::NoMemory`].
+    pub fn spoil(
+        &mut self,
+        server: usize,
+        index: [u8; 16],
+        number: u16,
+        place: u64,
+    ) -> Result<bool, GridFault>
+        ensures leaves { Leaves self.old self.new }
+        ensures stamped { IsStamped self.old self.new }
+        ensures raised { OnOk result (self.new.stamps ≡ raised index self.old.stamps) }
+        ensures may_raise { MayRaise index self.old self.new ((result ≡ Err GridFault.NoServer)
+            ⊎ (result ≡ Err GridFault.NoMemory)) }
+        ensures nothing_there { IsErrOf result GridFault.NoServer → self.new ≡ self.old }
+        ensures down { TellsDown self.old self.new result }
+        ensures refusals { IfErr result IsChangeRefusal }
+        ensures no_server { IsErrOf result GridFault.NoServer ↔ (length self.old.stores ≤ server) }
+
+        ensures toggled { IsHonest self.old → IfOk result (λ toggled. toggled
+            ≡ nat_lt place (length (unwrap_or (stood self.old server (index, number)) []))) }
+        ensures ok { IsHonest self.old →
+            OnOk result (IsSpoiled server (index, number) place self.old self.new) }
+        ensures err { IsHonest self.old → OnErr result (IsUnchanged self.old self.new) }
+    {
+        if server >= self.stores.len() {
+            return Err(GridFault::NoServer);
+        }
+        self.raise(index)?;
+        self.spoil_at(server, index, number, place)
+    }
+
+    /// A number that tells whether what stands under a storage index may have changed: the stamp of each index is 0 at
+    /// first, and [`Grid::put_all`], [`Grid::lose`] and [`Grid::spoil`] raise it before they ask a store. Where it is what it
+    /// was, nothing that stands there has changed since. None where 64 bits no longer count it. No memory is taken.
+    pub fn stamp(&self, index: &[u8; 16]) -> Option<u64>
+        ensures { result ≡ stamp_of (raised_at self.now index.now) }
+    {
+        match self.counts.count(index) {
+            u64::MAX => None,
+            count => Some(count),
+        }
+    }
+
+    /// How often the stores have failed, together.
+    pub fn failures(&self) -> u128
+        ensures { result ≡ failures_in self.now }
+    {
+        let mut failures = 0;
+        for store in &self.stores {
+            failures += u128::from(store.failures());
+        }
+        failures
+    }
+
+    /// Raises the stamp of a storage index. Where memory is refused nothing changes.
+    fn raise(&mut self, index: [u8; 16]) -> Result<(), AllocError>
+        ensures ok { OnOk result (self.new
+            ≡ record { stores = self.old.stores; stamps = raised index self.old.stamps }) }
+        ensures err { OnErr result (self.new ≡ self.old) }
+    {
+        self.counts.raise(index)
+    }
+
+    /// Puts the shares of a file, one after the other. No stamp is raised.
+    fn put_each(&mut self, index: [u8; 16], shares: &[RcSlice<u8>]) -> Result<(), GridFault>
+        requires few { length shares.now ≤ 256 }
+        requires some { All (λ share. 0 < length (rc_slice_items share)) shares.now }
+        ensures leaves { Leaves self.old self.new }
+        ensures stamps { self.new.stamps ≡ self.old.stamps }
         ensures down { TellsDown self.old self.new result }
         ensures ok { IsHonest self.old →
             OnOk result (ArePut index (map rc_slice_items shares.now) self.old self.new) }
@@ -97,15 +227,13 @@ impl<S: Store> Grid<S> {
         Ok(())
     }
 
-    /// Takes a share away, and answers `true`. `false` where none stood.
-    ///
-    /// Refused, with nothing changed: [`GridFault::NoServer`] exactly when there is no such server,
-    /// [`GridFault::Down`] exactly when its store failed, or [`GridFault::NoMemory`].
-    pub fn lose(&mut self, server: usize, index: [u8; 16], number: u16) -> Result<bool, GridFault>
+    /// Takes a share away. No stamp is raised.
+    fn lose_at(&mut self, server: usize, index: [u8; 16], number: u16) -> Result<bool, GridFault>
         ensures leaves { Leaves self.old self.new }
+        ensures stamps { self.new.stamps ≡ self.old.stamps }
         ensures down { TellsDown self.old self.new result }
         ensures refusals { IfErr result IsChangeRefusal }
-        ensures no_server { IsErrOf result GridFault.NoServer ↔ (length self.old ≤ server) }
+        ensures no_server { IsErrOf result GridFault.NoServer ↔ (length self.old.stores ≤ server) }
 
         ensures lost { IsHonest self.old →
             IfOk result (λ lost. lost ≡ is_some (stood self.old server (index, number))) }
@@ -120,12 +248,8 @@ impl<S: Store> Grid<S> {
         answer_of(server, self.stores[server].lose(index, number))
     }
 
-    /// Changes the lowest bit of one byte of a share, the byte at `place` from 0, and answers `true`. `false` where
-    /// there is no such byte.
-    ///
-    /// Refused, with nothing changed: [`GridFault::NoServer`] exactly when there is no such server,
-    /// [`GridFault::Down`] exactly when its store failed, or [`GridFault::NoMemory`].
-    pub fn spoil(
+    /// Changes the lowest bit of one byte of a share. No stamp is raised.
+    fn spoil_at(
         &mut self,
         server: usize,
         index: [u8; 16],
@@ -133,9 +257,10 @@ impl<S: Store> Grid<S> {
         place: u64,
     ) -> Result<bool, GridFault>
         ensures leaves { Leaves self.old self.new }
+        ensures stamps { self.new.stamps ≡ self.old.stamps }
         ensures down { TellsDown self.old self.new result }
         ensures refusals { IfErr result IsChangeRefusal }
-        ensures no_server { IsErrOf result GridFault.NoServer ↔ (length self.old ≤ server) }
+        ensures no_server { IsErrOf result GridFault.NoServer ↔ (length self.old.stores ≤ server) }
 
         ensures toggled { IsHonest self.old → IfOk result (λ toggled. toggled
             ≡ nat_lt place (length (unwrap_or (stood self.old server (index, number)) []))) }
@@ -155,14 +280,15 @@ impl<S: Store> Grid<S> {
     /// out but shares of servers whose store failed in the call. Refused where there was no memory for the list.
     pub fn gather(&mut self, index: [u8; 16]) -> Result<Vec<(usize, u16, RcSlice<u8>)>, AllocError>
         ensures leaves { Leaves self.old self.new }
+        ensures stamps { self.new.stamps ≡ self.old.stamps }
         ensures unchanged { IsHonest self.old → IsUnchanged self.old self.new }
         ensures found { IsHonest self.old → IfOk result (λ found.
             AllBut (λ f. failures_at self.old f.0 < failures_at self.new f.0)
-            (found_below (maps_of self.old) index (length self.old))
+            (found_below (maps_of self.old) index (length self.old.stores))
             (map (seen rc_slice_items) found.items)) }
         ensures all { IsHonest self.old → NoneFailed self.old self.new → IfOk result (λ found.
             map (seen rc_slice_items) found.items
-            ≡ found_below (maps_of self.old) index (length self.old)) }
+            ≡ found_below (maps_of self.old) index (length self.old.stores)) }
         ensures stands { IsHonest self.old → IfOk result (λ found.
             All (λ f. stood self.old f.0 (index, f.1) ≡ Some f.2)
             (map (seen rc_slice_items) found.items)) }
@@ -181,8 +307,9 @@ impl<S: Store> Grid<S> {
         index: [u8; 16],
         found: &mut Vec<(usize, u16, RcSlice<u8>)>,
     ) -> Result<(), AllocError>
-        requires { server < length self.old }
+        requires { server < length self.old.stores }
         ensures leaves { Leaves self.old self.new }
+        ensures stamps { self.new.stamps ≡ self.old.stamps }
         ensures unchanged { IsHonest self.old → IsUnchanged self.old self.new }
         ensures found { IsHonest self.old → OnOk result ((given : _)
             × (map (seen rc_slice_items) found.new.items
@@ -202,8 +329,9 @@ impl<S: Store> Grid<S> {
 
     /// The numbers under a storage index at one server.
     fn numbers_at(&mut self, server: usize, index: [u8; 16]) -> Result<Vec<u16>, AllocError>
-        requires { server < length self.old }
+        requires { server < length self.old.stores }
         ensures leaves { Leaves self.old self.new }
+        ensures stamps { self.new.stamps ≡ self.old.stamps }
         ensures unchanged { IsHonest self.old → IsUnchanged self.old self.new }
         ensures failed { failures_at self.old server < failures_at self.new server →
             IsOkAnd result (λ numbers. numbers.items ≡ []) }
@@ -222,8 +350,9 @@ impl<S: Store> Grid<S> {
         index: [u8; 16],
         number: u16,
     ) -> Result<Option<RcSlice<u8>>, AllocError>
-        requires { server < length self.old }
+        requires { server < length self.old.stores }
         ensures leaves { Leaves self.old self.new }
+        ensures stamps { self.new.stamps ≡ self.old.stamps }
         ensures unchanged { IsHonest self.old → IsUnchanged self.old self.new }
         ensures failed { failures_at self.old server < failures_at self.new server →
             result ≡ Ok None }
@@ -243,9 +372,10 @@ impl<S: Store> Grid<S> {
         number: u16,
         bytes: RcSlice<u8>,
     ) -> Result<bool, GridFault>
-        requires server { server < length self.old }
+        requires server { server < length self.old.stores }
         requires some { 0 < length (rc_slice_items bytes) }
         ensures leaves { Leaves self.old self.new }
+        ensures stamps { self.new.stamps ≡ self.old.stamps }
         ensures down { TellsDown self.old self.new result }
         ensures refusals { IfErr result IsPutRefusal }
         ensures full { (s : ℕ) → IsErrOf result (GridFault.Full s) →

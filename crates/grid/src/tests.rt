@@ -15,7 +15,7 @@ const INDEX: [u8; 16] = [9, 9, 9, 9, 9, 9, 9, 9, 9, 9, 9, 9, 9, 9, 9, 4];
 fn grid_of(alloc: Global, count: usize, room: u64) -> Result<Grid<MemStore>, Fail>
     requires some { 0 < count }
     requires few { count < 257 }
-    ensures { IfOk result (λ grid. length_of grid ≡ count) }
+    ensures { IfOk result (λ grid. length_of grid.stores ≡ count) }
 {
     let mut stores = Vec::new(alloc);
     for _server in 0..count {

@@ -1,7 +1,7 @@
 //! Walks through directories whose texts and caps another program made.
 use super::*;
 use caps::{Cap, parse, print, storage_index};
-use chk_file::upload;
+use chk_file::{Cache, upload};
 use dir_codec::{encode, from_children_json};
 use grid::Grid;
 use octets::Text;
@@ -52,7 +52,8 @@ fn ends(
     cap: &Cap,
     names: &[&str],
 ) -> Result<String, Fail> {
-    match walk(alloc, grid, cap, &names_of(alloc, names)?) {
+    let mut cache = Cache::new(alloc)?;
+    match walk(alloc, grid, &mut cache, cap, &names_of(alloc, names)?) {
         Ok(end) => Ok(print(alloc, &end)?),
         Err(WalkFault::NoChild(name)) => Ok(format!(in alloc; "no such child {}", name.as_str())?),
         Err(fault) => Ok(format!(in alloc; "{fault}")?),

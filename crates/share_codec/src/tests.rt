@@ -9,6 +9,7 @@ use hex::{FromHex, FromHexError};
 use octets::fakes::counted_bytes;
 use sha2::{Digest, Sha256};
 use std::alloc::{AllocError, Global};
+use std::rc::RcSlice;
 use std::test::Fail;
 use tag_hash::{TagHasher, push_netstring, read_netstring, tagged};
 
@@ -80,13 +81,18 @@ fn fault_of(
     params: &Params,
     ueb: &[u8; 32],
 ) -> Option<ShareFault> {
-    read_share(alloc, bytes, number, params, ueb).err()
+    match RcSlice::from_slice(alloc, bytes) {
+        Ok(bytes) => read_share(alloc, &bytes, number, params, ueb).err(),
+        Err(_) => Some(ShareFault::NoMemory),
+    }
 }
 
 #[test]
 fn a_share_of_another_program_is_read(rt: HostRuntime) -> Result<(), Fail> {
     let bytes = share_of_ten()?;
-    let share = read_share(rt.alloc(), &bytes, 4, &ten(), &hash_of(UEB_HASH_OF_TEN)?)?;
+    let held = RcSlice::from_slice(rt.alloc(), &bytes)?;
+    let share = read_share(rt.alloc(), &held, 4, &ten(), &hash_of(UEB_HASH_OF_TEN)?)?;
+    drop(held);
     assert_eq!(rt; share.number(), 4);
     assert_eq!(rt; share.block_count(), 1);
     assert_eq!(rt; share.block(0), &bytes[374..393]);
@@ -98,7 +104,8 @@ fn a_share_of_another_program_is_read(rt: HostRuntime) -> Result<(), Fail> {
 fn one_share_in_all_has_no_siblings(rt: HostRuntime) -> Result<(), Fail> {
     let bytes: [u8; 300] = FromHex::from_hex(SHARE_OF_ONE)?;
     let params = Params::new(1, 1, 56);
-    let share = read_share(rt.alloc(), &bytes, 0, &params, &hash_of(UEB_HASH_OF_ONE)?)?;
+    let held = RcSlice::from_slice(rt.alloc(), &bytes)?;
+    let share = read_share(rt.alloc(), &held, 0, &params, &hash_of(UEB_HASH_OF_ONE)?)?;
     assert_eq!(rt; share.block_count(), 1);
     assert_eq!(rt; share.block(0).len(), 56);
     Ok(())
@@ -230,7 +237,8 @@ fn hash_of_good(
 {
     let mut hasher = TagHasher::new(b"shares");
     for (number, share) in shares.iter().enumerate() {
-        read_share(alloc, share, number as u16, params, ueb)?;
+        let held = RcSlice::from_slice(alloc, share)?;
+        read_share(alloc, &held, number as u16, params, ueb)?;
         hasher.update(share);
     }
     Ok(hasher.finish())

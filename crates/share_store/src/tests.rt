@@ -75,25 +75,79 @@ fn shares_come_in_the_order_of_index_and_number(rt: HostRuntime) -> Result<(), F
     Ok(())
 }
 
+/// A call of a store that may change it.
+#[derive(Clone, Copy, Debug, Drop)]
+enum Call {
+    Has,
+    Numbers,
+    Get,
+    Nth,
+    Put,
+    Lose,
+    Toggle,
+}
+
+const CALLS: [Call; 7] = [
+    Call::Has,
+    Call::Numbers,
+    Call::Get,
+    Call::Nth,
+    Call::Put,
+    Call::Lose,
+    Call::Toggle,
+];
+
+/// Makes a call at the first share, and says whether the answer is that of a store that failed. A put is of share 1.
+fn is_answered_as_failed(alloc: Global, store: &mut FailAt, call: Call) -> Result<bool, Fail> {
+    Ok(match call {
+        Call::Has => !store.has(INDEX, 0)?,
+        Call::Numbers => store.numbers(INDEX)?.is_empty(),
+        Call::Get => store.get(INDEX, 0)?.is_none(),
+        Call::Nth => store.nth(0)?.is_none(),
+        Call::Put => store.put(INDEX, 1, share_of(alloc, 1)?) == Err(StoreFault::Down),
+        Call::Lose => store.lose(INDEX, 0) == Err(StoreFault::Down),
+        Call::Toggle => store.toggle(INDEX, 0, 0) == Err(StoreFault::Down),
+    })
+}
+
 #[test]
 fn a_store_that_fails_says_so_and_keeps_what_stands(rt: HostRuntime) -> Result<(), Fail> {
-    let inner = MemStore::new(rt.alloc(), 100);
-    let mut store = FailAt::new(rt.alloc(), inner, 2, false);
-    assert!(rt; store.put(INDEX, 0, share_of(rt.alloc(), 1)?)?);
-    assert!(rt; store.lose(INDEX, 0) == Err(StoreFault::Down));
-    assert_eq!(rt; store.failures(), 1);
-    assert!(rt; store.has(INDEX, 0)?);
+    for for_good in [false, true] {
+        for call in CALLS {
+            let inner = MemStore::new(rt.alloc(), 100);
+            let mut store = FailAt::new(rt.alloc(), inner, 2, for_good);
+            assert!(rt; store.put(INDEX, 0, share_of(rt.alloc(), 1)?)?);
+            assert!(rt;
+                is_answered_as_failed(rt.alloc(), &mut store, call)?,
+                "{call:?}"
+            );
+            assert_eq!(rt; (store.failures(), store.held()), (1, 1), "{call:?}");
+            let again = is_answered_as_failed(rt.alloc(), &mut store, call)?;
+            assert_eq!(rt; again, for_good, "{call:?}");
+            assert_eq!(rt; store.failures(), if for_good { 2 } else { 1 }, "{call:?}");
+        }
+    }
     Ok(())
 }
 
 #[test]
-fn a_store_that_lies_is_a_store(rt: HostRuntime) -> Result<(), Fail> {
+fn a_store_that_lies_gives_its_answers_in_turn(rt: HostRuntime) -> Result<(), Fail> {
     let mut answers = Vec::new(rt.alloc());
     answers.push(share_of(rt.alloc(), 3)?)?;
+    answers.push(share_of(rt.alloc(), 5)?)?;
     let mut store = Liar::new(rt.alloc(), answers);
     assert!(rt; store.has(INDEX, 9)?);
     assert_eq!(rt; store.numbers(INDEX)?.len(), 256);
-    assert_eq!(rt; store.get(INDEX, 0)?.ok_or("nothing")?.len(), 3);
-    assert_eq!(rt; store.get(INDEX, 1)?.ok_or("nothing")?.len(), 3);
+    for (number, length) in [(0, 3), (1, 5), (0, 3)] {
+        assert_eq!(rt; store.get(INDEX, number)?.ok_or("nothing")?.len(), length);
+    }
+    Ok(())
+}
+
+#[test]
+fn a_store_that_lies_with_no_answer_gives_nothing(rt: HostRuntime) -> Result<(), Fail> {
+    let mut store = Liar::new(rt.alloc(), Vec::new(rt.alloc()));
+    assert!(rt; store.get(INDEX, 0)?.is_none());
+    assert!(rt; store.get(INDEX, 0)?.is_none());
     Ok(())
 }

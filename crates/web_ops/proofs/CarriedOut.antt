@@ -1,6 +1,6 @@
 -- Calls that store an upload, and requests.
 use Rattle.std.proofs.Common.{Fits, w8, get_or, ◌≡◌, ◌+◌, ◌<◌, ◌≤◌, ℕ, List, length, take, Bool, true, false, cond, Option, Some, None, Result, Ok, Err, IfOk, OnOk, refl, sym, ap, subst, ◌∙◌, arith, inl}
-use Rattle.std.specs.Prelude.{◌↔◌, IsTrue, nat_lt}
+use Rattle.std.specs.Prelude.{◌↔◌, ⊤, IsTrue, nat_lt}
 use Rattle.std.specs.Result.{IsOkUnless}
 use Rattle.std.proofs.lemmas.Bool.Decides.{nat_tests}
 use Rattle.std.proofs.lemmas.List.{take_all, get_or_default}
@@ -29,21 +29,21 @@ use Rattle.web_ops.specs.Replies.{cap_reply, bad_children}
 use Rattle.web_ops.specs.Answers.{made_reply}
 use Rattle.web_ops.specs.Replied.{IsStored, IsMade}
 use Rattle.web_ops.specs.Changes.{IsBegunIn}
-use Rattle.web_ops.specs.Calls.{IsFound, IsCarriedOut, IsPerformed}
+use Rattle.web_ops.specs.Calls.{IsFound, IsCarriedOut, IsRequest, IsPerformed}
 use Rattle.grid.proofs.Standing.{placed_none}
 use Rattle.grid.proofs.Turns.{leaves_none, unchanged_none}
 use Rattle.web_ops.proofs.Found.{unasked}
 
 -- ---- a call that stores nothing
 
-pub nothing_stored : (Fits : Reply → Type 0) (says : Look → Reply) (r : Result Reply AllocError) (old new : GridState)
-    → IsFound Fits says r old new → IsCarriedOut None Fits says r old new
-nothing_stored Fits says r old new found = record {
+pub nothing_stored : (Fresh : Type 0) (Fits : Reply → Type 0) (says : Look → Reply) (r : Result Reply AllocError) (old new : GridState)
+    → IsFound Fresh Fits says r old new → IsCarriedOut Fresh None Fits says r old new
+nothing_stored Fresh Fits says r old new found = record {
   leaves = found.leaves;
   fits = found.fits;
   bytes = IfOk-weaker r _ _ (λ x e. tt) found.fits;
   begun = found.unchanged;
-  written = λ honest room calm. found.written honest calm;
+  written = λ fresh honest room calm. found.written fresh honest calm;
   stored = λ honest room calm. IfOk-weaker r _ _ (λ x e. found.unchanged honest) found.fits;
   world = λ honest room calm. IfOk-weaker r _ _ (λ x e w is. ap standing (found.unchanged honest).maps ∙ is) found.fits;
 }
@@ -65,14 +65,14 @@ short n e = grind (arith, nat_tests)
 module _ (u : Upload) (cap : Cap) (r : Result Reply AllocError) (old new : GridState) (leaves : Leaves old new) (bytes : AreBytes u.bytes) (same : length u.bytes ≤ 55 → new ≡ old) where
   stored_by : (b : Bool) → (b ≡ true → 55 < length u.bytes) → (b ≡ false → length u.bytes ≤ 55) → IfOk r (λ x. x ≡ cap_reply cap)
       → (55 < length u.bytes → IsHonest old → ArePut (index u) (shares_of u) old new)
-      → (IsHonest old → (w : World) → stood old ≡ shown w.marks → stood new ≡ shown (after_upload (length old) u w).marks)
-      → IsCarriedOut (cond b (Some u) None) (IsStored cap) (λ look. cap_reply cap) r old new
+      → (IsHonest old → (w : World) → stood old ≡ shown w.marks → stood new ≡ shown (after_upload (length old.stores) u w).marks)
+      → IsCarriedOut ⊤ (cond b (Some u) None) (IsStored cap) (λ look. cap_reply cap) r old new
   stored_by true many few is put stand = record {
     leaves = leaves;
     fits = IfOk-weaker r _ _ (λ x e. inl e) is;
     bytes = IfOk-weaker r _ _ (λ x e. bytes) is;
     begun = λ honest. (length (shares_of u), subst (λ s. ArePut (index u) s old new) (sym (take_all (length (shares_of u)) (shares_of u) (no_more (length (shares_of u))))) (put (many refl) honest));
-    written = λ honest room calm. is;
+    written = λ fresh honest room calm. is;
     stored = λ honest room calm. IfOk-weaker r _ _ (λ x e. put (many refl) honest) is;
     world = λ honest room calm. IfOk-weaker r _ _ (λ x e. stand honest) is;
   }
@@ -81,7 +81,7 @@ module _ (u : Upload) (cap : Cap) (r : Result Reply AllocError) (old new : GridS
     fits = IfOk-weaker r _ _ (λ x e. inl e) is;
     bytes = IfOk-weaker r _ _ (λ x e. tt) is;
     begun = λ honest. same_grid old new (same (few refl));
-    written = λ honest room calm. is;
+    written = λ fresh honest room calm. is;
     stored = λ honest room calm. IfOk-weaker r _ _ (λ x e. same_grid old new (same (few refl))) is;
     world = λ honest room calm. IfOk-weaker r _ _ (λ x e w stands. ap stood (same (few refl)) ∙ stands) is;
   }
@@ -89,20 +89,20 @@ module _ (u : Upload) (cap : Cap) (r : Result Reply AllocError) (old new : GridS
   -- the upload was stored
   pub stored : IfOk r (λ x. x ≡ cap_reply cap)
       → (55 < length u.bytes → IsHonest old → ArePut (index u) (shares_of u) old new)
-      → (IsHonest old → (w : World) → stood old ≡ shown w.marks → stood new ≡ shown (after_upload (length old) u w).marks)
-      → IsCarriedOut (if_long u) (IsStored cap) (λ look. cap_reply cap) r old new
+      → (IsHonest old → (w : World) → stood old ≡ shown w.marks → stood new ≡ shown (after_upload (length old.stores) u w).marks)
+      → IsCarriedOut ⊤ (if_long u) (IsStored cap) (λ look. cap_reply cap) r old new
   stored is put stand = stored_by (nat_lt 55 (length u.bytes)) (long (length u.bytes)) (short (length u.bytes)) is put stand
 
   stopped_by : (b : Bool) → (b ≡ true → 55 < length u.bytes) → (b ≡ false → length u.bytes ≤ 55) → IfOk r (IsStored cap)
       → (IsHonest old → (m : ℕ) × ArePut (index u) (take m (shares_of u)) old new)
       → (IsHonest old → HasRoom old (index u) (shares_of u) → NoneFailed old new → OnOk r ⊥) → (length u.bytes ≤ 55 → OnOk r ⊥)
-      → IsCarriedOut (cond b (Some u) None) (IsStored cap) (λ look. cap_reply cap) r old new
+      → IsCarriedOut ⊤ (cond b (Some u) None) (IsStored cap) (λ look. cap_reply cap) r old new
   stopped_by true many few fits begun never_long never_short = record {
     leaves = leaves;
     fits = fits;
     bytes = IfOk-weaker r _ _ (λ x e. bytes) fits;
     begun = begun;
-    written = λ honest room calm. IfOk-weaker r _ _ (λ x e. absurd e) (never_long honest room calm);
+    written = λ fresh honest room calm. IfOk-weaker r _ _ (λ x e. absurd e) (never_long honest room calm);
     stored = λ honest room calm. IfOk-weaker r _ _ (λ x e. absurd e) (never_long honest room calm);
     world = λ honest room calm. IfOk-weaker r _ _ (λ x e. absurd e) (never_long honest room calm);
   }
@@ -111,7 +111,7 @@ module _ (u : Upload) (cap : Cap) (r : Result Reply AllocError) (old new : GridS
     fits = fits;
     bytes = IfOk-weaker r _ _ (λ x e. tt) fits;
     begun = λ honest. same_grid old new (same (few refl));
-    written = λ honest room calm. IfOk-weaker r _ _ (λ x e. absurd e) (never_short (few refl));
+    written = λ fresh honest room calm. IfOk-weaker r _ _ (λ x e. absurd e) (never_short (few refl));
     stored = λ honest room calm. IfOk-weaker r _ _ (λ x e. absurd e) (never_short (few refl));
     world = λ honest room calm. IfOk-weaker r _ _ (λ x e. absurd e) (never_short (few refl));
   }
@@ -120,7 +120,7 @@ module _ (u : Upload) (cap : Cap) (r : Result Reply AllocError) (old new : GridS
   pub stopped : IfOk r (IsStored cap)
       → (IsHonest old → (m : ℕ) × ArePut (index u) (take m (shares_of u)) old new)
       → (IsHonest old → HasRoom old (index u) (shares_of u) → NoneFailed old new → OnOk r ⊥) → (length u.bytes ≤ 55 → OnOk r ⊥)
-      → IsCarriedOut (if_long u) (IsStored cap) (λ look. cap_reply cap) r old new
+      → IsCarriedOut ⊤ (if_long u) (IsStored cap) (λ look. cap_reply cap) r old new
   stopped fits begun never_long never_short = stopped_by (nat_lt 55 (length u.bytes)) (long (length u.bytes)) (short (length u.bytes)) fits begun never_long never_short
 
 -- numbers of eight bits are bytes
@@ -142,16 +142,16 @@ none_of (Some x) r fault iff is = let that = (iff x).0 refl in cc
 
 -- ---- requests
 
-pub same_request : (e : Encoding) (request asked : Request) (r : Result Reply AllocError) (old new : GridState) → asked ≡ request
-    → IsPerformed e request r old new → IsPerformed e asked r old new
-same_request e request asked r old new is done = subst (λ q. IsPerformed e q r old new) (sym is) done
+pub same_request : (Fresh : Type 0) (e : Encoding) (request asked : Request) (r : Result Reply AllocError) (old new : GridState) → asked ≡ request
+    → IsRequest Fresh e request r old new → IsRequest Fresh e asked r old new
+same_request Fresh e request asked r old new is done = subst (λ q. IsRequest Fresh e q r old new) (sym is) done
 
 plus_none : (n : ℕ) → n + 0 ≡ n
 plus_none n = omega arith
 
 nothing_begun : (o : Option Upload) (g : GridState) → IsBegunIn o g g
 nothing_begun None g = unchanged_none g
-nothing_begun (Some u) g = (0, record { stands = sym (placed_none (length g) (index u) (stood g)); rooms = λ s. plus_none (room_at g s) })
+nothing_begun (Some u) g = (0, record { stands = sym (placed_none (length g.stores) (index u) (stood g)); rooms = λ s. plus_none (room_at g s) })
 
 -- memory was refused before anything was stored
 pub not_begun : (e : Encoding) (request : Request) (fault : AllocError) (g : GridState) → IsPerformed e request (Err fault) g g
@@ -160,7 +160,7 @@ not_begun e request fault g = record {
   fits = tt;
   bytes = tt;
   begun = λ honest. nothing_begun (upload_in e request) g;
-  written = λ honest room calm. tt;
+  written = λ fresh honest room calm. tt;
   stored = λ honest room calm. tt;
   world = λ honest room calm. tt;
 }
@@ -168,17 +168,17 @@ not_begun e request fault g = record {
 -- ---- directories
 
 pub directory_stored : (e : Encoding) (json items : List ℕ) (entries : List Entry) (r : Result Reply AllocError) (old new : GridState) → made json ≡ Some entries → items ≡ directory_text entries
-    → IsCarriedOut (if_long (upload_of e items)) (IsStored (as_directory (cap_of (upload_of e items)))) (λ look. cap_reply (as_directory (cap_of (upload_of e items)))) r old new
+    → IsCarriedOut ⊤ (if_long (upload_of e items)) (IsStored (as_directory (cap_of (upload_of e items)))) (λ look. cap_reply (as_directory (cap_of (upload_of e items)))) r old new
     → IsPerformed e (Mkdir json) r old new
 directory_stored e json items entries r old new some text done =
-    subst (λ o. IsCarriedOut (made_upload e o) (IsMade e o) (λ look. made_reply e o) r old new) (sym some)
-    (subst (λ t. IsCarriedOut (if_long (upload_of e t)) (IsStored (as_directory (cap_of (upload_of e t)))) (λ look. cap_reply (as_directory (cap_of (upload_of e t)))) r old new) text done)
+    subst (λ o. IsCarriedOut ⊤ (made_upload e o) (IsMade e o) (λ look. made_reply e o) r old new) (sym some)
+    (subst (λ t. IsCarriedOut ⊤ (if_long (upload_of e t)) (IsStored (as_directory (cap_of (upload_of e t)))) (λ look. cap_reply (as_directory (cap_of (upload_of e t)))) r old new) text done)
 
 pub no_directory : (e : Encoding) (json : List ℕ) (r : Result Reply AllocError) (g : GridState) → made json ≡ None → IfOk r (λ x. x ≡ bad_children)
     → IsPerformed e (Mkdir json) r g g
 no_directory e json r g none is =
-    subst (λ o. IsCarriedOut (made_upload e o) (IsMade e o) (λ look. made_reply e o) r g g) (sym none)
-    (nothing_stored _ _ r g g (unasked _ _ bad_children r g is refl (λ look. refl)))
+    subst (λ o. IsCarriedOut ⊤ (made_upload e o) (IsMade e o) (λ look. made_reply e o) r g g) (sym none)
+    (nothing_stored _ _ _ r g g (unasked _ _ _ bad_children r g is refl (λ look. refl)))
 
 -- a test that was not met
 pub not_met : (b : Bool) (P : Type 0) → (IsTrue b ↔ P) → b ≡ false → P → ⊥

@@ -29,98 +29,98 @@ use Rattle.web_ops.specs.Calls.{IsFound}
 -- ---- replies
 
 -- a reply for which no store is asked
-pub unasked : (Fits : Reply → Type 0) (says : Look → Reply) (reply : Reply) (r : Result Reply AllocError) (g : GridState)
-    → IfOk r (λ x. x ≡ reply) → Fits reply → ((look : Look) → reply ≡ says look) → IsFound Fits says r g g
-unasked Fits says reply r g is fits same = record {
+pub unasked : (Fresh : Type 0) (Fits : Reply → Type 0) (says : Look → Reply) (reply : Reply) (r : Result Reply AllocError) (g : GridState)
+    → IfOk r (λ x. x ≡ reply) → Fits reply → ((look : Look) → reply ≡ says look) → IsFound Fresh Fits says r g g
+unasked Fresh Fits says reply r g is fits same = record {
   leaves = leaves_none g;
   unchanged = λ honest. unchanged_none g;
   fits = IfOk-weaker r _ Fits (λ x e. subst Fits (sym e) fits) is;
-  written = λ honest calm. IfOk-weaker r _ _ (λ x e. e ∙ same (found_in (stood g))) is;
+  written = λ fresh honest calm. IfOk-weaker r _ _ (λ x e. e ∙ same (found_in (stood g))) is;
 }
 
 -- memory was refused
-pub refused : (Fits : Reply → Type 0) (says : Look → Reply) (e : AllocError) (old new : GridState)
-    → Leaves old new → (IsHonest old → IsUnchanged old new) → IsFound Fits says (Err e) old new
-refused Fits says e old new leaves same = record { leaves = leaves; unchanged = same; fits = tt; written = λ honest calm. tt }
+pub refused : (Fresh : Type 0) (Fits : Reply → Type 0) (says : Look → Reply) (e : AllocError) (old new : GridState)
+    → Leaves old new → (IsHonest old → IsUnchanged old new) → IsFound Fresh Fits says (Err e) old new
+refused Fresh Fits says e old new leaves same = record { leaves = leaves; unchanged = same; fits = tt; written = λ fresh honest calm. tt }
 
 -- ---- reads
 
-pub read_found : (f : List ℕ → Reply) (fields : ReadValue) (bytes : List ℕ) (r : Result Reply AllocError) (old new : GridState)
+pub read_found : (Fresh : Type 0) (f : List ℕ → Reply) (fields : ReadValue) (bytes : List ℕ) (r : Result Reply AllocError) (old new : GridState)
     → IfOk r (λ x. x ≡ f bytes) → Leaves old new → (IsHonest old → IsUnchanged old new) → Bound fields bytes
-    → (IsHonest old → NoneFailed old new → fit (row_of (stood old) (index_of fields.key)) fields ≡ Some bytes)
-    → IsFound (MayGive f fields) (λ look. with_bytes f (look.gives fields)) r old new
-read_found f fields bytes r old new is leaves same bound found = record {
+    → (Fresh → IsHonest old → NoneFailed old new → fit (row_of (stood old) (index_of fields.key)) fields ≡ Some bytes)
+    → IsFound Fresh (MayGive f fields) (λ look. with_bytes f (look.gives fields)) r old new
+read_found Fresh f fields bytes r old new is leaves same bound found = record {
   leaves = leaves;
   unchanged = same;
   fits = IfOk-weaker r _ _ (λ x e. inr (record { bytes = bytes; bound = bound; is = e })) is;
-  written = λ honest calm. IfOk-weaker r _ _ (λ x e. e ∙ ap (with_bytes f) (sym (found honest calm))) is;
+  written = λ fresh honest calm. IfOk-weaker r _ _ (λ x e. e ∙ ap (with_bytes f) (sym (found fresh honest calm))) is;
 }
 
-pub read_missing : (f : List ℕ → Reply) (fields : ReadValue) (r : Result Reply AllocError) (old new : GridState)
+pub read_missing : (Fresh : Type 0) (f : List ℕ → Reply) (fields : ReadValue) (r : Result Reply AllocError) (old new : GridState)
     → IfOk r (λ x. x ≡ not_enough_shares) → Leaves old new → (IsHonest old → IsUnchanged old new)
     → (IsHonest old → NoneFailed old new → fit (row_of (stood old) (index_of fields.key)) fields ≡ None)
-    → IsFound (MayGive f fields) (λ look. with_bytes f (look.gives fields)) r old new
-read_missing f fields r old new is leaves same found = record {
+    → IsFound Fresh (MayGive f fields) (λ look. with_bytes f (look.gives fields)) r old new
+read_missing Fresh f fields r old new is leaves same found = record {
   leaves = leaves;
   unchanged = same;
   fits = IfOk-weaker r _ _ (λ x e. inl e) is;
-  written = λ honest calm. IfOk-weaker r _ _ (λ x e. e ∙ ap (with_bytes f) (sym (found honest calm))) is;
+  written = λ fresh honest calm. IfOk-weaker r _ _ (λ x e. e ∙ ap (with_bytes f) (sym (found honest calm))) is;
 }
 
 -- ---- walks
 
-pub walked_to : (Is : Cap → Reply → Type 0) (says : Look → Cap → Reply) (cap : Cap) (names : List (List ℕ)) (end : Cap) (r : Result Reply AllocError) (old mid new : GridState)
-    → Leaves old mid → (IsHonest old → IsUnchanged old mid) → Leads cap names end
-    → (IsHonest old → NoneFailed old mid → walked (found_in (stood old)).gives cap names ≡ Ok end)
-    → IsFound (Is end) (λ look. says look end) r mid new
-    → IsFound (IsAtEnd Is cap names) (λ look. at_end (says look) (walked look.gives cap names)) r old new
-walked_to Is says cap names end r old mid new leaves same leads reached found = record {
+pub walked_to : (Fresh Still : Type 0) (Is : Cap → Reply → Type 0) (says : Look → Cap → Reply) (cap : Cap) (names : List (List ℕ)) (end : Cap) (r : Result Reply AllocError) (old mid new : GridState)
+    → Leaves old mid → (IsHonest old → IsUnchanged old mid) → (Fresh → Still) → Leads cap names end
+    → (Fresh → IsHonest old → NoneFailed old mid → walked (found_in (stood old)).gives cap names ≡ Ok end)
+    → IsFound Still (Is end) (λ look. says look end) r mid new
+    → IsFound Fresh (IsAtEnd Is cap names) (λ look. at_end (says look) (walked look.gives cap names)) r old new
+walked_to Fresh Still Is says cap names end r old mid new leaves same stays leads reached found = record {
   leaves = leaves_both old mid new leaves found.leaves;
   unchanged = λ honest. unchanged_both old mid new (same honest) (found.unchanged (leaves.honest honest));
   fits = IfOk-weaker r _ _ (λ x fits. inl (end, (leads, fits))) found.fits;
-  written = λ honest calm.
+  written = λ fresh honest calm.
       IfOk-weaker r _ _ (λ x e. e ∙ ap (λ maps. says (found_in (standing maps)) end) (same honest).maps
-      ∙ ap (at_end (says (found_in (stood old)))) (sym (reached honest (calm_first old mid new leaves found.leaves calm))))
-      (found.written (leaves.honest honest) (calm_second old mid new leaves found.leaves calm));
+      ∙ ap (at_end (says (found_in (stood old)))) (sym (reached fresh honest (calm_first old mid new leaves found.leaves calm))))
+      (found.written (stays fresh) (leaves.honest honest) (calm_second old mid new leaves found.leaves calm));
 }
 
-pub walk_stopped : (Is : Cap → Reply → Type 0) (says : Look → Cap → Reply) (cap : Cap) (names : List (List ℕ)) (fault : WalkFault) (r : Result Reply AllocError) (old new : GridState)
+pub walk_stopped : (Fresh : Type 0) (Is : Cap → Reply → Type 0) (says : Look → Cap → Reply) (cap : Cap) (names : List (List ℕ)) (fault : WalkFault) (r : Result Reply AllocError) (old new : GridState)
     → Leaves old new → (IsHonest old → IsUnchanged old new) → (fault ≢ NoMemory → Stops cap names fault)
-    → (IsHonest old → NoneFailed old new → fault ≢ NoMemory → walked (found_in (stood old)).gives cap names ≡ Err fault)
+    → (Fresh → IsHonest old → NoneFailed old new → fault ≢ NoMemory → walked (found_in (stood old)).gives cap names ≡ Err fault)
     → IfOk r (λ x. (fault ≢ NoMemory) × (x ≡ walk_reply fault))
-    → IsFound (IsAtEnd Is cap names) (λ look. at_end (says look) (walked look.gives cap names)) r old new
-walk_stopped Is says cap names fault r old new leaves same stops found is = record {
+    → IsFound Fresh (IsAtEnd Is cap names) (λ look. at_end (says look) (walked look.gives cap names)) r old new
+walk_stopped Fresh Is says cap names fault r old new leaves same stops found is = record {
   leaves = leaves;
   unchanged = same;
   fits = IfOk-weaker r _ _ (λ x e. inr (fault, (stops e.0, e.1))) is;
-  written = λ honest calm. IfOk-weaker r _ _ (λ x e. e.1 ∙ ap (at_end (says (found_in (stood old)))) (sym (found honest calm e.0))) is;
+  written = λ fresh honest calm. IfOk-weaker r _ _ (λ x e. e.1 ∙ ap (at_end (says (found_in (stood old)))) (sym (found fresh honest calm e.0))) is;
 }
 
 -- ---- where a cap leads
 
-pub from_nowhere : (b : Bool) (Is : Cap → Reply → Type 0) (says : Look → Reply) (cap : Cap) (names : List (List ℕ)) (r : Result Reply AllocError) (g : GridState)
+pub from_nowhere : (Fresh : Type 0) (b : Bool) (Is : Cap → Reply → Type 0) (says : Look → Reply) (cap : Cap) (names : List (List ℕ)) (r : Result Reply AllocError) (g : GridState)
     → b ≡ true → IfOk r (λ x. x ≡ not_readable)
-    → IsFound (IsAnsweredFrom b Is cap names) (λ look. cond b not_readable (says look)) r g g
-from_nowhere true Is says cap names r g e is = unasked _ _ not_readable r g is refl (λ look. refl)
-from_nowhere false Is says cap names r g e is = cc
+    → IsFound Fresh (IsAnsweredFrom b Is cap names) (λ look. cond b not_readable (says look)) r g g
+from_nowhere Fresh true Is says cap names r g e is = unasked _ _ _ not_readable r g is refl (λ look. refl)
+from_nowhere Fresh false Is says cap names r g e is = cc
 
-pub from_somewhere : (b : Bool) (Is : Cap → Reply → Type 0) (says : Look → Reply) (cap : Cap) (names : List (List ℕ)) (r : Result Reply AllocError) (old new : GridState)
-    → b ≡ false → IsFound (IsAtEnd Is cap names) says r old new
-    → IsFound (IsAnsweredFrom b Is cap names) (λ look. cond b not_readable (says look)) r old new
-from_somewhere true Is says cap names r old new e found = cc
-from_somewhere false Is says cap names r old new e found = found
+pub from_somewhere : (Fresh : Type 0) (b : Bool) (Is : Cap → Reply → Type 0) (says : Look → Reply) (cap : Cap) (names : List (List ℕ)) (r : Result Reply AllocError) (old new : GridState)
+    → b ≡ false → IsFound Fresh (IsAtEnd Is cap names) says r old new
+    → IsFound Fresh (IsAnsweredFrom b Is cap names) (λ look. cond b not_readable (says look)) r old new
+from_somewhere Fresh true Is says cap names r old new e found = cc
+from_somewhere Fresh false Is says cap names r old new e found = found
 
 -- ---- checks
 
-pub checked : (o : Option VerifyCap) (v : VerifyCap) (verify : Bool) (health : HealthValue) (r : Result Reply AllocError) (old new : GridState)
+pub checked : (Fresh : Type 0) (o : Option VerifyCap) (v : VerifyCap) (verify : Bool) (health : HealthValue) (r : Result Reply AllocError) (old new : GridState)
     → o ≡ Some v → IfOk r (λ x. x ≡ json_reply (check_text v.fields.si health)) → Leaves old new → (IsHonest old → IsUnchanged old new)
     → (health.needed ≡ v.fields.k) × (health.expected ≡ v.fields.n)
     → (IsHonest old → NoneFailed old new → health ≡ check v.fields verify (row_of (stood old) v.fields.si))
-    → IsFound (IsHealth o) (λ look. checked_reply look verify o) r old new
-checked o v verify health r old new some is leaves same numbers found =
-    subst (λ p. IsFound (IsHealth p) (λ look. checked_reply look verify p) r old new) (sym some) (record {
+    → IsFound Fresh (IsHealth o) (λ look. checked_reply look verify o) r old new
+checked Fresh o v verify health r old new some is leaves same numbers found =
+    subst (λ p. IsFound Fresh (IsHealth p) (λ look. checked_reply look verify p) r old new) (sym some) (record {
       leaves = leaves;
       unchanged = same;
       fits = IfOk-weaker r _ _ (λ x e. record { health = health; needed = numbers.0; expected = numbers.1; is = e }) is;
-      written = λ honest calm. IfOk-weaker r _ _ (λ x e. e ∙ ap (λ h. json_reply (check_text v.fields.si h)) (found honest calm)) is;
+      written = λ fresh honest calm. IfOk-weaker r _ _ (λ x e. e ∙ ap (λ h. json_reply (check_text v.fields.si h)) (found honest calm)) is;
     })

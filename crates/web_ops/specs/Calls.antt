@@ -1,5 +1,5 @@
 -- What a call answers and leaves, in one record; for private clauses.
-use Rattle.std.specs.Prelude.{◌≡◌, Option, Result, IfOk, OnOk, IfSome}
+use Rattle.std.specs.Prelude.{◌≡◌, ⊤, Option, Result, IfOk, OnOk, IfSome}
 use Rattle.std.specs.declared.alloc.AllocError.{AllocError}
 use Rattle.erasure.specs.Code.{AreBytes}
 use Rattle.grid.specs.GridState.{GridState, stood, IsHonest, NoneFailed}
@@ -14,24 +14,28 @@ use Rattle.web_ops.specs.Answers.{request_reply}
 use Rattle.web_ops.specs.Replied.{IsReply}
 use Rattle.web_ops.specs.Changes.{HasRoomFor, IsStoredIn, IsBegunIn, Follows}
 
--- A call that stores nothing: a reply fits over any stores, and over honest ones that don't fail it is what a look at
--- them says.
-pub record IsFound (Fits : Reply → Type 0) (says : Look → Reply) (result : Result Reply AllocError) (old new : GridState) : Type 0 where
+-- A call that stores nothing: a reply fits over any stores, and over honest ones that don't fail, where what is kept of
+-- files is fresh, it is what a look at them says.
+pub record IsFound (Fresh : Type 0) (Fits : Reply → Type 0) (says : Look → Reply) (result : Result Reply AllocError) (old new : GridState) : Type 0 where
   pub leaves : Leaves old new
   pub unchanged : IsHonest old → IsUnchanged old new
   pub fits : IfOk result Fits
-  pub written : IsHonest old → NoneFailed old new → IfOk result (λ reply. reply ≡ says (found_in (stood old)))
+  pub written : Fresh → IsHonest old → NoneFailed old new → IfOk result (λ reply. reply ≡ says (found_in (stood old)))
 
 -- A call that stores an upload, or none.
-pub record IsCarriedOut (upload : Option Upload) (Fits : Reply → Type 0) (says : Look → Reply) (result : Result Reply AllocError) (old new : GridState) : Type 0 where
+pub record IsCarriedOut (Fresh : Type 0) (upload : Option Upload) (Fits : Reply → Type 0) (says : Look → Reply) (result : Result Reply AllocError) (old new : GridState) : Type 0 where
   pub leaves : Leaves old new
   pub fits : IfOk result Fits
   pub bytes : OnOk result (IfSome upload (λ u. AreBytes u.bytes))
   pub begun : IsHonest old → IsBegunIn upload old new
-  pub written : IsHonest old → HasRoomFor old upload → NoneFailed old new → IfOk result (λ reply. reply ≡ says (found_in (stood old)))
+  pub written : Fresh → IsHonest old → HasRoomFor old upload → NoneFailed old new → IfOk result (λ reply. reply ≡ says (found_in (stood old)))
   pub stored : IsHonest old → HasRoomFor old upload → NoneFailed old new → OnOk result (IsStoredIn upload old new)
   pub world : IsHonest old → HasRoomFor old upload → NoneFailed old new → OnOk result (Follows upload old new)
 
 -- a request
+abbrev pub IsRequest : Type 0 → Encoding → Request → Result Reply AllocError → GridState → GridState → Type 0
+IsRequest Fresh e request result old new = IsCarriedOut Fresh (upload_in e request) (IsReply e request) (λ look. request_reply e look request) result old new
+
+-- a request that reads no file
 abbrev pub IsPerformed : Encoding → Request → Result Reply AllocError → GridState → GridState → Type 0
-IsPerformed e request result old new = IsCarriedOut (upload_in e request) (IsReply e request) (λ look. request_reply e look request) result old new
+IsPerformed e request result old new = IsRequest ⊤ e request result old new

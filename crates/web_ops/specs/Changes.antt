@@ -26,4 +26,4 @@ IsBegunIn (Some u) old new = (m : ℕ) × ArePut (index u) (take m (shares_of u)
 
 -- whatever world stood, the one after what was stored stands
 abbrev pub Follows : Option Upload → GridState → GridState → Type 0
-Follows o old new = (w : World) → stood old ≡ shown w.marks → stood new ≡ shown (after_stored (length old) o w).marks
+Follows o old new = (w : World) → stood old ≡ shown w.marks → stood new ≡ shown (after_stored (length old.stores) o w).marks

@@ -1,5 +1,7 @@
 //! Checks of what a path leads to.
-ghost use Rattle.std.specs.Prelude.{◌≡◌, ◌==◌, ◌&&◌, not, length};
+ghost use Rattle.std.specs.Prelude.{◌≡◌, ⊤, ◌==◌, ◌&&◌, not, length};
+ghost use Rattle.grid.specs.Stamped.{IsStamped};
+ghost use Rattle.chk_file.specs.Cached.{IsFresh};
 ghost use Rattle.caps.specs.Weakening.{weakened};
 ghost use Rattle.web_ops.specs.Answers.{is_verify_cap, health_reply, check_reply};
 ghost use Rattle.web_ops.specs.Replied.{IsHealth, IsAnsweredFrom};
@@ -9,6 +11,7 @@ use crate::node::{is_verify_cap, walk_refused};
 use crate::replies::{json_reply, not_readable};
 use crate::reply::Reply;
 use caps::{Cap, weaken};
+use chk_file::Cache;
 use grid::Grid;
 use json_view::{check_json, literal_check_json};
 use path_walk::{Names, walk};
@@ -19,18 +22,21 @@ use std::alloc::{AllocError, Global};
 pub fn check<S: Store>(
     alloc: Global,
     grid: &mut Grid<S>,
+    cache: &mut Cache,
     cap: &Cap,
     names: &Names,
     verify: bool,
 ) -> Result<Reply, AllocError>
-    ensures { IsFound (IsAnsweredFrom (is_verify_cap cap.now && not (length names.now == 0))
+    ensures fresh { IsFresh cache.old grid.old → IsFresh cache.new grid.new }
+    ensures found { IsFound (IsFresh cache.old grid.old)
+        (IsAnsweredFrom (is_verify_cap cap.now && not (length names.now == 0))
         (λ end. IsHealth (weakened end)) cap.now names.now)
         (λ look. check_reply look cap.now names.now verify) result grid.old grid.new }
 {
     if leads_nowhere(cap, names) {
         return not_readable(alloc);
     }
-    match walk(alloc, grid, cap, names) {
+    match walk(alloc, grid, cache, cap, names) {
         Ok(end) => health(alloc, grid, &end, verify),
         Err(fault) => walk_refused(alloc, &fault),
     }
@@ -50,8 +56,9 @@ fn health<S: Store>(
     cap: &Cap,
     verify: bool,
 ) -> Result<Reply, AllocError>
-    ensures { IsFound (IsHealth (weakened cap.now)) (λ look. health_reply look verify cap.now)
-        result grid.old grid.new }
+    ensures stamped { IsStamped grid.old grid.new }
+    ensures found { IsFound ⊤ (IsHealth (weakened cap.now))
+        (λ look. health_reply look verify cap.now) result grid.old grid.new }
 {
     let Some(verify_cap) = weaken(cap) else {
         return Ok(json_reply(literal_check_json(alloc)?));

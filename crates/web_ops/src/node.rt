@@ -1,5 +1,6 @@
 //! The bytes and the JSON of what a path leads to.
 ghost use Rattle.std.specs.Prelude.{◌≡◌, ◌≢◌, ◌↔◌, IfOk, IsTrue};
+ghost use Rattle.chk_file.specs.Cached.{IsFresh};
 ghost use Rattle.dir_codec.specs.declared.fault.DirFault.TheVariants.{NoMemory as TextNoMemory};
 ghost use Rattle.path_walk.specs.declared.fault.WalkFault.TheVariants.{NoMemory};
 ghost use Rattle.web_ops.specs.Answers.{is_verify_cap, walk_reply, content_reply, listing_reply, node_json_reply, node_reply, get_reply};
@@ -11,7 +12,7 @@ use crate::replies::{
 };
 use crate::reply::Reply;
 use caps::Cap;
-use chk_file::{ReadFault, read};
+use chk_file::{Cache, ReadFault, read};
 use dir_codec::{DirFault, decode};
 use grid::Grid;
 use json_view::{dir_json, file_json};
@@ -24,19 +25,22 @@ use std::alloc::{AllocError, Global};
 pub fn get<S: Store>(
     alloc: Global,
     grid: &mut Grid<S>,
+    cache: &mut Cache,
     cap: &Cap,
     names: &Names,
     json: bool,
     range: Option<Bytes>,
 ) -> Result<Reply, AllocError>
-    ensures { IsFound (IsAnsweredFrom (is_verify_cap cap.now) (IsNode json range) cap.now names.now)
+    ensures fresh { IsFresh cache.old grid.old → IsFresh cache.new grid.new }
+    ensures found { IsFound (IsFresh cache.old grid.old)
+        (IsAnsweredFrom (is_verify_cap cap.now) (IsNode json range) cap.now names.now)
         (λ look. get_reply look.gives cap.now names.now json range) result grid.old grid.new }
 {
     if is_verify_cap(cap) {
         return not_readable(alloc);
     }
-    match walk(alloc, grid, cap, names) {
-        Ok(end) => node(alloc, grid, end, json, range),
+    match walk(alloc, grid, cache, cap, names) {
+        Ok(end) => node(alloc, grid, cache, end, json, range),
         Err(fault) => walk_refused(alloc, &fault),
     }
 }
@@ -68,17 +72,19 @@ pub fn walk_refused(alloc: Global, fault: &WalkFault) -> Result<Reply, AllocErro
 fn node<S: Store>(
     alloc: Global,
     grid: &mut Grid<S>,
+    cache: &mut Cache,
     cap: Cap,
     json: bool,
     range: Option<Bytes>,
 ) -> Result<Reply, AllocError>
-    ensures { IsFound (IsNode json range cap) (λ look. node_reply look.gives json range cap)
-        result grid.old grid.new }
+    ensures fresh { IsFresh cache.old grid.old → IsFresh cache.new grid.new }
+    ensures found { IsFound (IsFresh cache.old grid.old) (IsNode json range cap)
+        (λ look. node_reply look.gives json range cap) result grid.old grid.new }
 {
     if json {
-        node_json(alloc, grid, &cap)
+        node_json(alloc, grid, cache, &cap)
     } else {
-        content(alloc, grid, cap, range)
+        content(alloc, grid, cache, cap, range)
     }
 }
 
@@ -86,14 +92,16 @@ fn node<S: Store>(
 fn content<S: Store>(
     alloc: Global,
     grid: &mut Grid<S>,
+    cache: &mut Cache,
     cap: Cap,
     range: Option<Bytes>,
 ) -> Result<Reply, AllocError>
-    ensures { IsFound (IsContent range cap) (λ look. content_reply look.gives range cap)
-        result grid.old grid.new }
+    ensures fresh { IsFresh cache.old grid.old → IsFresh cache.new grid.new }
+    ensures found { IsFound (IsFresh cache.old grid.old) (IsContent range cap)
+        (λ look. content_reply look.gives range cap) result grid.old grid.new }
 {
     match cap {
-        Cap::Chk(fields) => match read(alloc, grid, &fields) {
+        Cap::Chk(fields) => match read(alloc, grid, cache, &fields) {
             Ok(bytes) => bytes_reply(alloc, range, Bytes::from_vec(bytes)),
             Err(ReadFault::NotEnoughShares) => not_enough_shares(alloc),
             Err(ReadFault::NoMemory) => Err(AllocError),
@@ -105,13 +113,19 @@ fn content<S: Store>(
 }
 
 /// The JSON of a file, of which nothing is looked at, or of a directory with its children.
-fn node_json<S: Store>(alloc: Global, grid: &mut Grid<S>, cap: &Cap) -> Result<Reply, AllocError>
-    ensures { IsFound (IsNodeJson cap.now) (λ look. node_json_reply look.gives cap.now)
-        result grid.old grid.new }
+fn node_json<S: Store>(
+    alloc: Global,
+    grid: &mut Grid<S>,
+    cache: &mut Cache,
+    cap: &Cap,
+) -> Result<Reply, AllocError>
+    ensures fresh { IsFresh cache.old grid.old → IsFresh cache.new grid.new }
+    ensures found { IsFound (IsFresh cache.old grid.old) (IsNodeJson cap.now)
+        (λ look. node_json_reply look.gives cap.now) result grid.old grid.new }
 {
     match cap {
         Cap::Chk(_) | Cap::Lit(_) => Ok(json_reply(file_json(alloc, cap)?)),
-        Cap::DirChk(fields) => match read(alloc, grid, fields) {
+        Cap::DirChk(fields) => match read(alloc, grid, cache, fields) {
             Ok(bytes) => listing(alloc, cap, &bytes),
             Err(ReadFault::NotEnoughShares) => not_enough_shares(alloc),
             Err(ReadFault::NoMemory) => Err(AllocError),

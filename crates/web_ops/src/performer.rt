@@ -4,6 +4,7 @@ ghost use Rattle.erasure.specs.Code.{AreBytes};
 ghost use Rattle.octets.specs.Sharing.{IsSharing};
 ghost use Rattle.grid.specs.GridState.{stood, IsHonest, NoneFailed};
 ghost use Rattle.grid.specs.Leaves.{Leaves};
+ghost use Rattle.chk_file.specs.Cached.{IsFresh};
 ghost use Rattle.chk_file.specs.Look.{found_in};
 ghost use Rattle.web_ops.specs.Encoding.{encoding_of};
 ghost use Rattle.web_ops.specs.Uploads.{upload_in};
@@ -15,6 +16,7 @@ use crate::checking::check;
 use crate::node::get;
 use crate::reply::Reply;
 use crate::storing::{make_directory, put};
+use chk_file::Cache;
 use grid::Grid;
 use octets::Bytes;
 use share_store::Store;
@@ -30,6 +32,7 @@ use web_request::Request;
 pub fn perform<S: Store>(
     alloc: Global,
     grid: &mut Grid<S>,
+    cache: &mut Cache,
     k: u16,
     n: u16,
     secret: &[u8],
@@ -37,6 +40,9 @@ pub fn perform<S: Store>(
 ) -> Result<Reply, AllocError>
     requires { IsSharing k n }
     ensures leaves { Leaves grid.old grid.new }
+
+    // What is kept of files that were read stays as good as it was.
+    ensures fresh { IsFresh cache.old grid.old → IsFresh cache.new grid.new }
 
     // Of any stores: bytes of a stored file or directory are bound to the cap that the names lead to.
     ensures fits { IfOk result (λ reply. IsReply (encoding_of k n secret.now) request reply) }
@@ -51,7 +57,8 @@ pub fn perform<S: Store>(
 
     // Of honest stores that have room for what is stored and don't fail in the call.
     ensures written { let e = encoding_of k n secret.now in
-        IsHonest grid.old → HasRoomFor grid.old (upload_in e request) →
+        IsFresh cache.old grid.old → IsHonest grid.old →
+        HasRoomFor grid.old (upload_in e request) →
         NoneFailed grid.old grid.new → IfOk result (λ reply.
         reply ≡ request_reply e (found_in (stood grid.old)) request) }
     ensures stored { let e = encoding_of k n secret.now in
@@ -74,9 +81,9 @@ pub fn perform<S: Store>(
             range,
         } => {
             let heeded = heeded(head_only, range);
-            get(alloc, grid, &cap, &names, json, heeded)
+            get(alloc, grid, cache, &cap, &names, json, heeded)
         }
-        Request::Check { cap, names, verify } => check(alloc, grid, &cap, &names, verify),
+        Request::Check { cap, names, verify } => check(alloc, grid, cache, &cap, &names, verify),
     }
 }
 

@@ -1,7 +1,8 @@
 //! Storing files and directories.
-ghost use Rattle.std.specs.Prelude.{◌≡◌, if◌then◌else◌};
+ghost use Rattle.std.specs.Prelude.{◌≡◌, ⊤, if◌then◌else◌};
 ghost use Rattle.octets.specs.Sharing.{IsSharing};
 ghost use Rattle.erasure.specs.Code.{AreBytes};
+ghost use Rattle.grid.specs.Stamped.{IsStamped};
 ghost use Rattle.chk_file.specs.Upload.{uploaded, cap_of};
 ghost use Rattle.web_request.specs.declared.request.Request.TheVariants.{Put, Mkdir};
 ghost use Rattle.web_ops.specs.Encoding.{encoding_of};
@@ -31,7 +32,8 @@ pub fn put<S: Store>(
     bytes: Bytes,
 ) -> Result<Reply, AllocError>
     requires { IsSharing k n }
-    ensures { IsPerformed (encoding_of k n secret.now) (Put bytes) result grid.old grid.new }
+    ensures stamped { IsStamped grid.old grid.new }
+    ensures done { IsPerformed (encoding_of k n secret.now) (Put bytes) result grid.old grid.new }
 {
     store(alloc, grid, k, n, secret, bytes.into_vec(), false)
 }
@@ -46,7 +48,8 @@ pub fn make_directory<S: Store>(
     json: &[u8],
 ) -> Result<Reply, AllocError>
     requires { IsSharing k n }
-    ensures { IsPerformed (encoding_of k n secret.now) (Mkdir json.now) result grid.old grid.new }
+    ensures stamped { IsStamped grid.old grid.new }
+    ensures done { IsPerformed (encoding_of k n secret.now) (Mkdir json.now) result grid.old grid.new }
 {
     dir_codec::laws::made_children_are_named();
     match from_children_json(alloc, json) {
@@ -70,9 +73,10 @@ fn store<S: Store>(
     directory: bool,
 ) -> Result<Reply, AllocError>
     requires { IsSharing k n }
-    ensures { let u = uploaded k n secret.now bytes.items in
+    ensures stamped { IsStamped grid.old grid.new }
+    ensures done { let u = uploaded k n secret.now bytes.items in
         let cap = if directory then as_directory (cap_of u) else cap_of u in
-        IsCarriedOut (if_long u) (IsStored cap) (λ _. cap_reply cap) result grid.old grid.new }
+        IsCarriedOut ⊤ (if_long u) (IsStored cap) (λ _. cap_reply cap) result grid.old grid.new }
 {
     are_bytes(&bytes);
     match upload(alloc, grid, k, n, secret, bytes) {

@@ -1,6 +1,7 @@
 //! Requests and their replies, whose caps, texts and statuses another program or the webapi document gives.
 use super::*;
 use caps::{Cap, parse, storage_index};
+use chk_file::Cache;
 use grid::Grid;
 use octets::Bytes;
 use octets::fakes::counted_bytes;
@@ -62,8 +63,9 @@ fn asked<S: Store>(
         target: Bytes::from_slice(alloc, target.as_bytes())?,
         fields: HeadFields::from_vec(fields),
     };
+    let mut cache = Cache::new(alloc)?;
     let reply = match interpret(alloc, &head, Bytes::from_slice(alloc, body)?) {
-        Ok(request) => perform(alloc, grid, 3, 10, b"", request)?,
+        Ok(request) => perform(alloc, grid, &mut cache, 3, 10, b"", request)?,
         Err(fault) => refusal(alloc, &fault)?,
     };
     shown(alloc, &reply)

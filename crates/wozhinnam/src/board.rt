@@ -1,7 +1,7 @@
 //! What the control listener answers.
 use crate::figures::{StoreFigures, store_figures};
 use crate::metrics::metrics_text;
-use gate_core::Gateway;
+use gate_core::{Gateway, Tally};
 use gate_poll::{Answer, Control, Counts, text_reply};
 use http_edge::{Head, Reply, ReplyField, ReplyFields, Status};
 use octets::Bytes;
@@ -88,7 +88,7 @@ fn status_reply<S: Store>(
     gateway: &Gateway<S>,
 ) -> Result<Reply, AllocError> {
     let stores = store_figures(alloc, gateway)?;
-    let text = status_text(alloc, counts, &stores)?;
+    let text = status_text(alloc, counts, &gateway.tally(), &stores)?;
     let mut fields = ReplyFields::new(alloc);
     fields.push(ReplyField::constant(b"Content-Type", b"application/json"))?;
     Ok(Reply {
@@ -102,6 +102,7 @@ fn status_reply<S: Store>(
 pub fn status_text(
     alloc: Global,
     counts: &Counts,
+    tally: &Tally,
     stores: &[StoreFigures],
 ) -> Result<String, AllocError> {
     let mut rows = Vec::with_capacity(alloc, stores.len())?;
@@ -113,11 +114,13 @@ pub fn status_text(
         })?)?;
     }
     let connections = connections_json(alloc, counts)?;
+    let replies = replies_json(alloc, tally)?;
     let stores = Value::Array(rows);
     json!(in alloc; {
         "connections": &connections,
         "received": counts.bytes_in,
         "sent": counts.bytes_out,
+        "replies": &replies,
         "stores": &stores
     })?
     .to_string(alloc)
@@ -137,6 +140,22 @@ fn connections_json(alloc: Global, counts: &Counts) -> Result<Value, AllocError>
     })
 }
 
+/// How many replies there were of each status.
+fn replies_json(alloc: Global, tally: &Tally) -> Result<Value, AllocError> {
+    json!(in alloc; {
+        "200": tally.ok,
+        "206": tally.partial_content,
+        "400": tally.bad_request,
+        "404": tally.not_found,
+        "405": tally.method_not_allowed,
+        "410": tally.gone,
+        "413": tally.content_too_large,
+        "416": tally.range_not_satisfiable,
+        "501": tally.not_implemented,
+        "503": tally.service_unavailable
+    })
+}
+
 /// The figures as Prometheus reads them.
 fn metrics_reply<S: Store>(
     alloc: Global,
@@ -144,7 +163,7 @@ fn metrics_reply<S: Store>(
     gateway: &Gateway<S>,
 ) -> Result<Reply, AllocError> {
     let stores = store_figures(alloc, gateway)?;
-    let text = metrics_text(alloc, counts, &stores)?;
+    let text = metrics_text(alloc, counts, &gateway.tally(), &stores)?;
     let mut fields = ReplyFields::new(alloc);
     fields.push(ReplyField::constant(
         b"Content-Type",

@@ -1,5 +1,5 @@
-//! What is known of the stores.
-use gate_core::Gateway;
+//! What is known of the stores and of replies.
+use gate_core::{Gateway, Tally};
 use share_store::Store;
 use std::alloc::{AllocError, Global};
 
@@ -28,4 +28,20 @@ pub fn store_figures<S: Store>(
         })?;
     }
     Ok(figures)
+}
+
+/// How many replies there were of each status, by its code.
+pub fn reply_figures(tally: &Tally) -> [(&'static str, u64); 10] {
+    [
+        ("200", tally.ok),
+        ("206", tally.partial_content),
+        ("400", tally.bad_request),
+        ("404", tally.not_found),
+        ("405", tally.method_not_allowed),
+        ("410", tally.gone),
+        ("413", tally.content_too_large),
+        ("416", tally.range_not_satisfiable),
+        ("501", tally.not_implemented),
+        ("503", tally.service_unavailable),
+    ]
 }

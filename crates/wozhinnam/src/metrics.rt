@@ -1,5 +1,6 @@
 //! Figures in the text format of Prometheus.
-use crate::figures::StoreFigures;
+use crate::figures::{StoreFigures, reply_figures};
+use gate_core::Tally;
 use gate_poll::Counts;
 use std::alloc::{AllocError, Global};
 
@@ -49,10 +50,11 @@ impl OfStores {
     }
 }
 
-/// The figures of the loop and of each store.
+/// The figures of the loop, of replies and of each store.
 pub fn metrics_text(
     alloc: Global,
     counts: &Counts,
+    tally: &Tally,
     stores: &[StoreFigures],
 ) -> Result<String, AllocError> {
     let mut text = String::new(alloc);
@@ -62,6 +64,7 @@ pub fn metrics_text(
         let line = format!(in alloc; "wozhinnam_{} {}\n", figure.name, value)?;
         text.push_str(line.as_str())?;
     }
+    put_replies(alloc, &mut text, tally)?;
     put_stores(alloc, &mut text, "store_room_bytes", OfStores::Room, stores)?;
     put_stores(alloc, &mut text, "store_held_bytes", OfStores::Held, stores)?;
     put_stores(
@@ -110,6 +113,19 @@ fn counter(name: &'static str, value: u64) -> Figure {
 fn put_head(alloc: Global, text: &mut String, name: &str, kind: Kind) -> Result<(), AllocError> {
     let line = format!(in alloc; "# TYPE wozhinnam_{} {}\n", name, kind.word())?;
     text.push_str(line.as_str())?;
+    Ok(())
+}
+
+/// Puts the number of replies of each status, by its code.
+fn put_replies(alloc: Global, text: &mut String, tally: &Tally) -> Result<(), AllocError> {
+    put_head(alloc, text, "replies_total", Kind::Counter)?;
+    for (code, value) in &reply_figures(tally) {
+        let line = format!(in alloc;
+            "wozhinnam_replies_total{{status=\"{}\"}} {}\n",
+            *code, *value
+        )?;
+        text.push_str(line.as_str())?;
+    }
     Ok(())
 }
 

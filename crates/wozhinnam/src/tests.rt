@@ -2,6 +2,7 @@ use super::*;
 use crate::board::{Asked, Method, asked_by, status_text};
 use crate::figures::StoreFigures;
 use crate::metrics::metrics_text;
+use gate_core::Tally;
 use gate_poll::Counts;
 use std::test::Fail;
 
@@ -106,6 +107,22 @@ fn counts() -> Counts {
     }
 }
 
+/// Replies of which each status has another number.
+fn tally() -> Tally {
+    Tally {
+        ok: 14,
+        partial_content: 15,
+        bad_request: 16,
+        not_found: 17,
+        method_not_allowed: 18,
+        gone: 19,
+        content_too_large: 20,
+        range_not_satisfiable: 21,
+        not_implemented: 22,
+        service_unavailable: 23,
+    }
+}
+
 const STORES: [StoreFigures; 1] = [StoreFigures {
     room: 11,
     held: 12,
@@ -114,21 +131,23 @@ const STORES: [StoreFigures; 1] = [StoreFigures {
 
 #[test]
 fn the_status_is_json(rt: HostRuntime) -> Result<(), Fail> {
-    let text = status_text(rt.alloc(), &counts(), STORES.as_slice())?;
+    let text = status_text(rt.alloc(), &counts(), &tally(), STORES.as_slice())?;
     assert!(rt;
         text.as_str()
-            == "{\"connections\":{\"accept_paused\":8,\"failed\":4,\"late\":5,\"open\":1,\"opened\":2,\"over\":3,\"refused\":7,\"stopped\":6},\"received\":9,\"sent\":10,\"stores\":[{\"failures\":13,\"held\":12,\"room\":11}]}"
+            == "{\"connections\":{\"accept_paused\":8,\"failed\":4,\"late\":5,\"open\":1,\"opened\":2,\"over\":3,\"refused\":7,\"stopped\":6},\"received\":9,\"replies\":{\"200\":14,\"206\":15,\"400\":16,\"404\":17,\"405\":18,\"410\":19,\"413\":20,\"416\":21,\"501\":22,\"503\":23},\"sent\":10,\"stores\":[{\"failures\":13,\"held\":12,\"room\":11}]}"
     );
     Ok(())
 }
 
 #[test]
 fn metrics_have_a_line_each(rt: HostRuntime) -> Result<(), Fail> {
-    let text = metrics_text(rt.alloc(), &counts(), STORES.as_slice())?;
+    let text = metrics_text(rt.alloc(), &counts(), &tally(), STORES.as_slice())?;
     let wanted = [
         "# TYPE wozhinnam_connections gauge\nwozhinnam_connections 1\n",
         "# TYPE wozhinnam_connections_late_total counter\nwozhinnam_connections_late_total 5\n",
         "wozhinnam_sent_bytes_total 10\n",
+        "# TYPE wozhinnam_replies_total counter\nwozhinnam_replies_total{status=\"200\"} 14\n",
+        "wozhinnam_replies_total{status=\"503\"} 23\n",
         "# TYPE wozhinnam_store_held_bytes gauge\nwozhinnam_store_held_bytes{store=\"0\"} 12\n",
         "# TYPE wozhinnam_store_failures_total counter\nwozhinnam_store_failures_total{store=\"0\"} 13\n",
     ];

@@ -88,6 +88,33 @@ fn a_big_file_is_given_while_three_shares_stand(rt: HostRuntime) -> Result<(), A
 }
 
 #[test]
+fn a_file_that_was_read_is_read_anew_once_its_shares_changed(
+    rt: HostRuntime,
+) -> Result<(), AllocError> {
+    holds_after(
+        &rt,
+        WITH_BIG,
+        &[
+            Step::Gets("1", BIG),
+            Step::GivesBig("1"),
+            Step::Line("spoil 0 qg2arnqdrcwls5l3fr6ulmwa4y 0 0", "yes"),
+            Step::Line("spoil 0 qg2arnqdrcwls5l3fr6ulmwa4y 1 0", "yes"),
+            Step::Line("spoil 0 qg2arnqdrcwls5l3fr6ulmwa4y 2 0", "yes"),
+            Step::Line("spoil 0 qg2arnqdrcwls5l3fr6ulmwa4y 3 0", "yes"),
+            Step::Line("spoil 0 qg2arnqdrcwls5l3fr6ulmwa4y 4 0", "yes"),
+            Step::Line("spoil 0 qg2arnqdrcwls5l3fr6ulmwa4y 5 0", "yes"),
+            Step::Line("spoil 0 qg2arnqdrcwls5l3fr6ulmwa4y 6 0", "yes"),
+            Step::Line("spoil 0 qg2arnqdrcwls5l3fr6ulmwa4y 7 0", "yes"),
+            Step::Gets("1", BIG),
+            Step::Gives("1", GONE),
+            Step::Line("spoil 0 qg2arnqdrcwls5l3fr6ulmwa4y 0 0", "yes"),
+            Step::Gets("1", BIG),
+            Step::GivesBig("1"),
+        ],
+    )
+}
+
+#[test]
 fn another_cap_gives_nothing(rt: HostRuntime) -> Result<(), AllocError> {
     holds_after(
         &rt,

@@ -1,4 +1,4 @@
-use Rattle.std.proofs.Common.{sym, ap, None, ◌∙◌}
+use Rattle.std.proofs.Common.{sym, None, ◌∙◌}
 use Rattle.gate_core.proofs.Turns.{turned, dropped_same, same_bool}
 use Rattle.gate_core.proofs.ids.join.Goals as goal
 

@@ -1,4 +1,3 @@
-use Rattle.std.proofs.Common.{◌≡◌, ◌≢◌, Ok, Err, sym, ap, subst, ◌∙◌}
 use Rattle.gate_main.proofs.CallLemmas.{bytes_called}
 use Rattle.gate_main.proofs.calls.bytes.Goals as goal
 

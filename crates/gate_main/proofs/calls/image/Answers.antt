@@ -9,7 +9,7 @@ use Rattle.gate_main.proofs.calls.image.Goals as goal
 pub returns-in-Ok : goal.returns-in-Ok
 returns-in-Ok c = imaged c.args.gateway.now c.image.new.self c.image.ensures.left c.image.ensures.came _ (λ honest.
     c.from_vec.ensures ∙ c.in-Ok.ensures.written honest
-    ∙ ap (λ bytes. bytes ++ image (length c.args.gateway.now.grid) (rows_of (maps_of c.args.gateway.now.grid))) c.new-image.ensures.items)
+    ∙ ap (λ bytes. bytes ++ image (length c.args.gateway.now.grid.stores) (rows_of (maps_of c.args.gateway.now.grid))) c.new-image.ensures.items)
 
 pub returns : goal.returns
 returns c =

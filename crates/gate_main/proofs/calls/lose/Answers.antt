@@ -1,4 +1,3 @@
-use Rattle.std.proofs.Common.{◌≡◌, Ok, Err}
 use Rattle.std.proofs.lemmas.Result.{MatchResult-weaker}
 use Rattle.gate_main.proofs.CallLemmas.{lost_called, lose_refused}
 use Rattle.gate_main.proofs.calls.lose.Goals as goal

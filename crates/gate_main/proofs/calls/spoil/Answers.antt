@@ -1,4 +1,3 @@
-use Rattle.std.proofs.Common.{◌≡◌, Ok, Err}
 use Rattle.std.proofs.lemmas.Result.{MatchResult-weaker}
 use Rattle.gate_main.proofs.CallLemmas.{spoiled_called, spoil_refused}
 use Rattle.gate_main.proofs.calls.spoil.Goals as goal

@@ -1,6 +1,5 @@
-use Rattle.std.proofs.Common.{◌≡◌, sym, subst, ◌∙◌, take}
+use Rattle.std.proofs.Common.{sym, subst, ◌∙◌}
 use Rattle.gate_core.specs.Events.{Take}
-use Rattle.gate_core.specs.Held.{waiting}
 use Rattle.gate_core.specs.Came.{GoesOn}
 use Rattle.gate_main.proofs.CallLemmas.{take_called}
 use Rattle.gate_main.proofs.calls.take.Goals as goal

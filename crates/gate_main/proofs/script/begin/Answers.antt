@@ -1,4 +1,4 @@
-use Rattle.std.proofs.Common.{◌≡◌, length, None, Ok, Err, subst, sym, ap, ◌∙◌, rules, vec_len}
+use Rattle.std.proofs.Common.{◌≡◌, length, None, subst, ap, ◌∙◌, rules, vec_len}
 use Rattle.gate_core.specs.Held.{State}
 use Rattle.gate_main.specs.Running.{IsAt}
 use Rattle.gate_main.proofs.Begins.{begin_made, made_with, set_is}
@@ -13,6 +13,6 @@ returns-in-Ok c log at =
     let secret = c.as_slice.result.now in
     begin_made log was grid c.in-Ok.made (subst (IsAt log was) none at)
     (ap (λ (s : State). s.settings) c.in-Ok.ensures.held ∙ set_is grid secret servers c.as_slice.ensures c.in_ok-stores.ensures.count)
-    (ap (λ (s : State). s.grid) c.in-Ok.ensures.held ∙ c.in_ok-stores.ensures.fresh)
+    (ap (λ (s : State). s.grid.stores) c.in-Ok.ensures.held ∙ c.in_ok-stores.ensures.fresh)
     c.in-Ok.ensures.came
     (made_with grid servers (length secret) (Unit {0}) _ c.in_ok-stores.ensures.count (ap length c.as_slice.ensures) tt (λ _ h. cc) c.in-Ok.ensures.refused)

@@ -1,4 +1,3 @@
-use Rattle.std.proofs.Common.{rules}
 use Rattle.std.proofs.lemmas.Result.{err_from_is_err_and}
 use Rattle.gate_main.proofs.Turning.{written_rests}
 use Rattle.gate_main.proofs.turns.settle.Goals as goal

@@ -1,6 +1,5 @@
-use Rattle.std.proofs.Common.{◌≡◌, refl, sym, subst}
+use Rattle.std.proofs.Common.{refl}
 use Rattle.std.proofs.lemmas.Result.{err_from_is_err_and, IfErr-weaker, IfErr-at_err}
-use Rattle.gate_flow.specs.Served.{IsStopped}
 use Rattle.gate_main.specs.Turns.{RunsInto}
 use Rattle.gate_main.proofs.Turning.{begun_so, on_ok_all, unopened_stops}
 use Rattle.gate_main.proofs.turns.turns.Goals as goal

@@ -1,4 +1,3 @@
-use Rattle.gate_main.proofs.Turning.{at_hand}
 use Rattle.gate_main.proofs.turns.writes_next.Goals as goal
 use Rattle.gate_main.proofs.turns.writes_next.Goals.{then-eq+in_ok-advance, else-eq}
 

@@ -1,13 +1,18 @@
 use Rattle.std.proofs.Common.{length, sym, ◌∙◌}
-use Rattle.std.specs.Prelude.{◌==◌, ◌&&◌, not}
+use Rattle.std.specs.Prelude.{⊤, ◌==◌, ◌&&◌, not}
 use Rattle.caps.specs.Weakening.{weakened}
 use Rattle.web_ops.specs.Answers.{is_verify_cap, health_reply}
 use Rattle.web_ops.specs.Replied.{IsHealth}
 use Rattle.web_ops.proofs.Found.{from_somewhere, walked_to}
+use Rattle.chk_file.proofs.Freshness.{fresh_stays}
 use Rattle.web_ops.proofs.checking.check.Goals as goal
 
-pub returns-in-Ok : goal.returns-in-Ok
-returns-in-Ok g c =
-    from_somewhere (is_verify_cap c.args.cap.now && not (length c.args.names.now == 0)) _ _ c.args.cap.now c.args.names.now c.health.result c.args.grid.now c.health.new.grid (sym c.leads_nowhere.ensures ∙ c.if-leads_nowhere.false)
-    (walked_to (λ end. IsHealth (weakened end)) (λ look. health_reply look c.args.verify) c.args.cap.now c.args.names.now c.in-Ok.end c.health.result c.args.grid.now c.walk.new.grid c.health.new.grid
-    c.walk.ensures.leaves c.walk.ensures.unchanged c.in-Ok.ensures.leads c.in-Ok.ensures.reached c.health.ensures)
+pub returns-in-Ok-clause-found : goal.returns-in-Ok-clause-found
+returns-in-Ok-clause-found g c =
+    from_somewhere _ (is_verify_cap c.args.cap.now && not (length c.args.names.now == 0)) _ _ c.args.cap.now c.args.names.now c.health.result c.args.grid.now c.health.new.grid (sym c.leads_nowhere.ensures ∙ c.if-leads_nowhere.false)
+    (walked_to _ ⊤ (λ end. IsHealth (weakened end)) (λ look. health_reply look c.args.verify) c.args.cap.now c.args.names.now c.in-Ok.end c.health.result c.args.grid.now c.walk.new.grid c.health.new.grid
+    c.walk.ensures.leaves c.walk.ensures.unchanged (λ fresh. tt) c.in-Ok.ensures.leads c.in-Ok.ensures.reached c.health.ensures.found)
+
+pub returns-in-Ok-clause-fresh : goal.returns-in-Ok-clause-fresh
+returns-in-Ok-clause-fresh g c fresh =
+    fresh_stays c.walk.new.cache c.walk.new.grid c.health.new.grid c.health.ensures.found.leaves c.health.ensures.stamped (c.walk.ensures.fresh fresh)

@@ -11,14 +11,14 @@ use Rattle.web_ops.proofs.storing.store.Goals as goal
 down_is_not_memory : (s : ℕ) → Down s ≡ NoMemory → ⊥
 down_is_not_memory s e = cc
 
-pub returns-in-Ok : goal.returns-in-Ok
-returns-in-Ok g c =
+pub returns-in-Ok-clause-done : goal.returns-in-Ok-clause-done
+returns-in-Ok-clause-done g c =
     stored (uploaded c.args.k c.args.n c.args.secret.now c.args.bytes.items) _ c.cap_reply.result c.args.grid.now c.upload.new.grid c.upload.ensures.leaves (subst AreBytes c.deref.ensures.value c.are_bytes.ensures) (λ few. (c.upload.ensures.short few).0)
     (IfOk-weaker c.cap_reply.result _ _ (λ reply is. is ∙ ap cap_reply (c.named-named.ensures ∙ ap (λ cap. cond c.args.directory (as_directory cap) cap) c.in-Ok.ensures.cap)) c.cap_reply.ensures)
     c.in-Ok.ensures.stored c.in-Ok.ensures.world
 
-pub returns-in-Err-Down : goal.returns-in-Err-Down
-returns-in-Err-Down g c =
+pub returns-in-Err-Down-clause-done : goal.returns-in-Err-Down-clause-done
+returns-in-Err-Down-clause-done g c =
     let was = c.in-Err-Down.is ∙ ap Err c.in-Err-Down.field-0-is in
     stopped (uploaded c.args.k c.args.n c.args.secret.now c.args.bytes.items) _ c.store_down.result c.args.grid.now c.upload.new.grid c.upload.ensures.leaves (subst AreBytes c.deref.ensures.value c.are_bytes.ensures) (λ few. (c.upload.ensures.short few).0)
     (IfOk-weaker c.store_down.result _ _ (λ reply is. inr (inr is)) c.store_down.ensures)

@@ -1,4 +1,4 @@
-use Rattle.std.proofs.Common.{None, refl, ap, ◌∙◌}
+use Rattle.std.proofs.Common.{refl, ap, ◌∙◌}
 use Rattle.gate_core.specs.Forgotten.{with_gone}
 use Rattle.std.proofs.lemmas.Result.{on_ok_weaker}
 use Rattle.gate_core.specs.Settings.{settings_of}

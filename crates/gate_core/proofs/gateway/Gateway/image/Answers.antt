@@ -1,3 +1,5 @@
+use Rattle.chk_file.proofs.Freshness.{fresh_stays}
+use Rattle.grid.proofs.Turns.{stamped_unchanged}
 use Rattle.gate_core.specs.Forgotten.{with_gone}
 use Rattle.gate_core.proofs.Arrivals.{unchanged_came}
 use Rattle.gate_core.proofs.Isolating.{isolates_still}
@@ -8,3 +10,6 @@ returns-clause-came g c = unchanged_came c.self.inside.parameters (with_gone c.s
 
 pub returns-clause-isolated : goal.returns-clause-isolated
 returns-clause-isolated g c = isolates_still c.isolation.ensures.apart c.verified_isolation.ensures.apart c.args.self.now _ (returns-clause-came g c)
+
+pub invariant_of-self : goal.invariant_of-self
+invariant_of-self g c = fresh_stays c.self.inside.cache c.self.inside.grid c.write_image.new.self c.write_image.ensures.leaves (stamped_unchanged c.self.inside.grid c.write_image.new.self c.write_image.ensures.stamps c.write_image.ensures.unchanged) c.self.invariant

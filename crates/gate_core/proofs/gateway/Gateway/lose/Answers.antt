@@ -1,3 +1,4 @@
+use Rattle.chk_file.proofs.Freshness.{fresh_stays}
 use Rattle.gate_core.specs.Forgotten.{with_gone}
 use Rattle.gate_core.proofs.Arrivals.{lost_came, refused_came}
 use Rattle.std.proofs.lemmas.Result.{on_ok_weaker, on_err_weaker}
@@ -15,3 +16,6 @@ returns-clause-isolated g c = on_ok_weaker c.lose.result (isolates_after c.isola
 
 pub returns-clause-isolated_still : goal.returns-clause-isolated_still
 returns-clause-isolated_still g c = on_err_weaker c.lose.result (isolates_still c.isolation.ensures.apart c.verified_isolation.ensures.apart c.args.self.now _) (returns-clause-refused g c)
+
+pub invariant_of-self : goal.invariant_of-self
+invariant_of-self g c = fresh_stays c.self.inside.cache c.self.inside.grid c.lose.new.self c.lose.ensures.leaves c.lose.ensures.stamped c.self.invariant

@@ -1,4 +1,4 @@
-use Rattle.std.proofs.Common.{None, refl, ap, sym, ◌∙◌, take}
+use Rattle.std.proofs.Common.{ap, sym, ◌∙◌, take}
 use Rattle.std.proofs.lemmas.Result.{on_ok_weaker, on_err_weaker, IfOk-weaker}
 use Rattle.std.proofs.Math.Seq.{take-nil}
 use Rattle.gate_core.specs.Held.{waiting_in, take_refusal}

@@ -1,48 +1,30 @@
-use Rattle.std.proofs.Common.{arith, ap, sym, ◌∙◌, nat_lt, length, unwrap_or, []}
-use Rattle.grid.proofs.Calls.{call_of, honest_there, stood_there, leaves_by, tells_down, spoiled_there, unchanged_there, if_ok_told, ok_told, err_told}
+use Rattle.std.proofs.Common.{◌∙◌, sym, ap, subst}
+use Rattle.std.specs.Option.{option_map}
+use Rattle.std.proofs.lemmas.Result.{on_ok_weaker}
+use Rattle.share_store.specs.Toggle.{toggled}
+use Rattle.grid.specs.Stamps.{raised}
+use Rattle.grid.specs.GridState.{GridState, stood, IsHonest}
+use Rattle.grid.specs.Leaves.{IsUnchanged}
+use Rattle.grid.specs.Changed.{IsSpoiled}
+use Rattle.grid.proofs.Raising.{SameBut, spoiled_so, unchanged_so, raise_stamped, same_but_changed, same_but_unchanged, by_answer}
 use Rattle.grid.proofs.server_grid.Grid.spoil.Goals as goal
-
-pub returns-clause-leaves : goal.returns-clause-leaves
-returns-clause-leaves g c =
-    let store = g.S.Store in
-    let stores = c.self.inside.stores in
-    let call = call_of store.shares store.room store.held store.failures store.honest stores.items c.args.self.now stores.len c.args.server c.index_mut.result.now c.toggle.new.self c.self.view_is stores.ok.0 (omega arith) c.index_mut.ensures.value in
-    leaves_by _ _ _ _ _ call c.toggle.ensures.rises c.toggle.ensures.honest c.toggle.ensures.room
-
-pub returns-clause-down : goal.returns-clause-down
-returns-clause-down g c =
-    let store = g.S.Store in
-    let stores = c.self.inside.stores in
-    let call = call_of store.shares store.room store.held store.failures store.honest stores.items c.args.self.now stores.len c.args.server c.index_mut.result.now c.toggle.new.self c.self.view_is stores.ok.0 (omega arith) c.index_mut.ensures.value in
-    tells_down _ _ _ _ _ call c.toggle.result c.answer_of.result c.answer_of.ensures c.toggle.ensures.down
-
-pub returns-clause-toggled : goal.returns-clause-toggled
-returns-clause-toggled g c all =
-    let store = g.S.Store in
-    let stores = c.self.inside.stores in
-    let call = call_of store.shares store.room store.held store.failures store.honest stores.items c.args.self.now stores.len c.args.server c.index_mut.result.now c.toggle.new.self c.self.view_is stores.ok.0 (omega arith) c.index_mut.ensures.value in
-    if_ok_told c.args.server c.toggle.result c.answer_of.result _ _ c.answer_of.ensures
-    (λ toggled is. is ∙ sym (ap (λ o. nat_lt c.args.place (length (unwrap_or o []))) (stood_there _ _ _ _ _ call (c.args.index, c.args.number))))
-    (c.toggle.ensures.toggled (honest_there _ _ _ _ _ call all))
 
 pub returns-clause-ok : goal.returns-clause-ok
 returns-clause-ok g c all =
-    let store = g.S.Store in
-    let laws = g.met.S.Store in
-    let stores = c.self.inside.stores in
-    let call = call_of store.shares store.room store.held store.failures store.honest stores.items c.args.self.now stores.len c.args.server c.index_mut.result.now c.toggle.new.self c.self.view_is stores.ok.0 (omega arith) c.index_mut.ensures.value in
-    let honest = honest_there _ _ _ _ _ call all in
-    ok_told c.args.server c.toggle.result c.answer_of.result _ _ c.answer_of.ensures
-    (spoiled_there _ _ _ _ _ call (laws.held_is _ honest) (laws.held_is _ (c.toggle.ensures.honest honest)) (c.toggle.ensures.room honest) c.size_laws.ensures (c.args.index, c.args.number) c.args.place)
-    (c.toggle.ensures.shares honest)
+    let is = c.in_ok-raise.ensures.ok in
+    let old = c.args.self.now in
+    let new = c.spoil_at.new.self in
+    on_ok_weaker c.spoil_at.result (λ p. spoiled_so old (raised c.args.index old.stamps) c.args.server (c.args.index, c.args.number) c.args.place new (subst (λ g. IsSpoiled c.args.server (c.args.index, c.args.number) c.args.place g new) is p))
+    (c.spoil_at.ensures.ok (subst IsHonest (sym is) all))
 
-pub returns-clause-err : goal.returns-clause-err
-returns-clause-err g c all =
-    let store = g.S.Store in
-    let laws = g.met.S.Store in
-    let stores = c.self.inside.stores in
-    let call = call_of store.shares store.room store.held store.failures store.honest stores.items c.args.self.now stores.len c.args.server c.index_mut.result.now c.toggle.new.self c.self.view_is stores.ok.0 (omega arith) c.index_mut.ensures.value in
-    let honest = honest_there _ _ _ _ _ call all in
-    err_told c.args.server c.toggle.result c.answer_of.result _ _ c.answer_of.ensures
-    (unchanged_there _ _ _ _ _ call (laws.held_is _ honest) (laws.held_is _ (c.toggle.ensures.honest honest)) (c.toggle.ensures.room honest))
-    (c.toggle.ensures.err honest)
+pub returns-clause-stamped : goal.returns-clause-stamped
+returns-clause-stamped g c =
+    let is = c.in_ok-raise.ensures.ok in
+    let old = c.args.self.now in
+    let new = c.spoil_at.new.self in
+    let honest : IsHonest old → IsHonest c.raise.new.self = λ all. subst IsHonest (sym is) all in
+    raise_stamped old new c.args.index (c.spoil_at.ensures.stamps ∙ ap (λ (g : GridState). g.stamps) is)
+    (λ all. by_answer (SameBut c.args.index (stood old) (stood new)) (IsSpoiled c.args.server (c.args.index, c.args.number) c.args.place c.raise.new.self new) (IsUnchanged c.raise.new.self new) c.spoil_at.result
+    (c.spoil_at.ensures.ok (honest all)) (c.spoil_at.ensures.err (honest all))
+    (λ p. same_but_changed c.args.index c.args.number c.args.server (λ stood. option_map (λ bytes. toggled bytes c.args.place) stood) (stood old) (stood new) ((spoiled_so old (raised c.args.index old.stamps) c.args.server (c.args.index, c.args.number) c.args.place new (subst (λ g. IsSpoiled c.args.server (c.args.index, c.args.number) c.args.place g new) is p)).stands))
+    (λ same. same_but_unchanged c.args.index old new (unchanged_so old (raised c.args.index old.stamps) new (subst (λ g. IsUnchanged g new) is same))))

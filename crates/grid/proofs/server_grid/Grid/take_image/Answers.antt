@@ -11,8 +11,8 @@ pub returns-in_err-came-clause-reads : goal.returns-in_err-came-clause-reads
 returns-in_err-came-clause-reads g c =
     let old = c.args.self.now in
     let good = IsHonest old × (rows_of (maps_of old) ≡ []) in
-    reads_passed _ _ (image_said (length old)) (room_at old) good (rows_of (maps_of old)) _ c.in_err-came.field-0.0 c.from_residual.ensures.1
-    (no_front (g.R.Read.remaining c.args.reader.now) (g.R.Read.remaining c.fill.new.reader) (image_said (length old)) c.in_err-came.field-0.0 (room_at old) good (rows_of (maps_of old))
+    reads_passed _ _ (image_said (length old.stores)) (room_at old) good (rows_of (maps_of old)) _ c.in_err-came.field-0.0 c.from_residual.ensures.1
+    (no_front (g.R.Read.remaining c.args.reader.now) (g.R.Read.remaining c.fill.new.reader) (image_said (length old.stores)) c.in_err-came.field-0.0 (room_at old) good (rows_of (maps_of old))
     (λ good. good.1) c.in_err-came.ensures.refusals)
 
 pub returns-in-Some-clause-reads : goal.returns-in-Some-clause-reads
@@ -21,7 +21,7 @@ returns-in-Some-clause-reads g c =
     let good = IsHonest old × (rows_of (maps_of old) ≡ []) in
     let front = take c.in_ok-came.came c.fill.new.buffer in
     let came = front_of (g.R.Read.remaining c.args.reader.now) (g.R.Read.remaining c.fill.new.reader) 8 c.in_ok-came.came c.fill.new.buffer (search rules) c.in_ok-came.ensures.told in
-    named (g.R.Read.remaining c.args.reader.now) (g.R.Read.remaining c.fill.new.reader) (length old) front
+    named (g.R.Read.remaining c.args.reader.now) (g.R.Read.remaining c.fill.new.reader) (length old.stores) front
     (λ said. Reads said c.take_shares.result (room_at c.take_shares.new.self) good (rows_of (maps_of c.take_shares.new.self)) (g.R.Read.remaining c.take_shares.new.reader))
     c.in-Some.layout came (sym c.in-Some.ensures) c.take_shares.ensures.reads
 
@@ -31,5 +31,5 @@ returns-in-None-clause-reads g c =
     let good = IsHonest old × (rows_of (maps_of old) ≡ []) in
     let front = take c.in_ok-came.came c.fill.new.buffer in
     let came = front_of (g.R.Read.remaining c.args.reader.now) (g.R.Read.remaining c.fill.new.reader) 8 c.in_ok-came.came c.fill.new.buffer (search rules) c.in_ok-came.ensures.told in
-    bad_front (g.R.Read.remaining c.args.reader.now) (g.R.Read.remaining c.fill.new.reader) (image_said (length old)) 0 (room_at old) good (rows_of (maps_of old)) (λ good. good.1)
-    (not_named (g.R.Read.remaining c.args.reader.now) (g.R.Read.remaining c.fill.new.reader) (length old) front came (sym c.in-None.ensures))
+    bad_front (g.R.Read.remaining c.args.reader.now) (g.R.Read.remaining c.fill.new.reader) (image_said (length old.stores)) 0 (room_at old) good (rows_of (maps_of old)) (λ good. good.1)
+    (not_named (g.R.Read.remaining c.args.reader.now) (g.R.Read.remaining c.fill.new.reader) (length old.stores) front came (sym c.in-None.ensures))

@@ -16,14 +16,14 @@ pub loop-done-init : goal.loop-done-init
 loop-done-init g c = record {
   leaves = leaves_none c.args.self.now;
   calm = λ s. refl;
-  so_far = starts (g.R.Read.remaining c.args.reader.now) c.args.layout (c.args.count - 0) c.args.count (length c.args.self.now) (12 + c.wide.result)
+  so_far = starts (g.R.Read.remaining c.args.reader.now) c.args.layout (c.args.count - 0) c.args.count (length c.args.self.now.stores) (12 + c.wide.result)
       (IsHonest c.args.self.now × (rows_of (maps_of c.args.self.now) ≡ []))
       (rows_of (maps_of c.args.self.now)) (omega arith) (omega arith) (λ good. good.1);
 }
 
 pub returns-in_err-row-clause-reads : goal.returns-in_err-row-clause-reads
 returns-in_err-row-clause-reads g c =
-    let servers = length c.args.self.now in
+    let servers = length c.args.self.now.stores in
     let all : List ℕ → Reading = λ bytes. rows_said c.args.layout c.args.count servers None (front c.args.layout) bytes in
     let good = IsHonest c.args.self.now × (rows_of (maps_of c.args.self.now) ≡ []) in
     let room = room_at c.loop-done.self in
@@ -38,7 +38,7 @@ returns-in_err-row-clause-reads g c =
 
 pub returns-in_err-_put-clause-reads : goal.returns-in_err-_put-clause-reads
 returns-in_err-_put-clause-reads g c =
-    let servers = length c.args.self.now in
+    let servers = length c.args.self.now.stores in
     let all : List ℕ → Reading = λ bytes. rows_said c.args.layout c.args.count servers None (front c.args.layout) bytes in
     let good = IsHonest c.args.self.now × (rows_of (maps_of c.args.self.now) ≡ []) in
     let room = room_at c.put_row.new.self in
@@ -57,7 +57,7 @@ returns-in_err-_put-clause-reads g c =
 
 pub loop-done-preserved : goal.loop-done-preserved
 loop-done-preserved g c =
-    let servers = length c.args.self.now in
+    let servers = length c.args.self.now.stores in
     let all : List ℕ → Reading = λ bytes. rows_said c.args.layout c.args.count servers None (front c.args.layout) bytes in
     let good = IsHonest c.args.self.now × (rows_of (maps_of c.args.self.now) ≡ []) in
     let held = rows_of (maps_of c.loop-done.self) in
@@ -79,7 +79,7 @@ loop-done-preserved g c =
 
 pub returns-in_err-expect_end-clause-reads : goal.returns-in_err-expect_end-clause-reads
 returns-in_err-expect_end-clause-reads g c =
-    let servers = length c.args.self.now in
+    let servers = length c.args.self.now.stores in
     let all : List ℕ → Reading = λ bytes. rows_said c.args.layout c.args.count servers None (front c.args.layout) bytes in
     let good = IsHonest c.args.self.now × (rows_of (maps_of c.args.self.now) ≡ []) in
     let room = room_at c.loop-done.self in
@@ -91,7 +91,7 @@ returns-in_err-expect_end-clause-reads g c =
 
 pub returns-clause-reads : goal.returns-clause-reads
 returns-clause-reads g c =
-    let servers = length c.args.self.now in
+    let servers = length c.args.self.now.stores in
     let all : List ℕ → Reading = λ bytes. rows_said c.args.layout c.args.count servers None (front c.args.layout) bytes in
     let good = IsHonest c.args.self.now × (rows_of (maps_of c.args.self.now) ≡ []) in
     let room = room_at c.loop-done.self in

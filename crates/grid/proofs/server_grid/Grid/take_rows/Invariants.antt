@@ -14,7 +14,7 @@ abbrev pub invariant-loop-done : goal.invariant-loop-done
 invariant-loop-done g l = record {
   leaves : Leaves l.fn.self l.self;
   calm : NoneFailed l.fn.self l.self;
-  so_far : IfSome (g.R.Read.remaining l.fn.reader) (λ bytes. SoFar (rows_said l.layout l.count (length l.fn.self) None (front l.layout) bytes) l.layout (l.count - l.done) (length l.fn.self)
+  so_far : IfSome (g.R.Read.remaining l.fn.reader) (λ bytes. SoFar (rows_said l.layout l.count (length l.fn.self.stores) None (front l.layout) bytes) l.layout (l.count - l.done) (length l.fn.self.stores)
       (option_map head_key l.last) l.place (g.R.Read.remaining l.reader)
       (IsHonest l.fn.self × (rows_of (maps_of l.fn.self) ≡ []))
       (rows_of (maps_of l.self)));

@@ -16,8 +16,8 @@ returns-clause-rows g c all =
     let maps = maps_of old in
     let rows = c.in_ok-rows.ensures in
     let found : map row_of c.deref.result.now ≡ rows_of maps = ap (map row_of) c.deref.ensures.value ∙ rows.found all in
-    ok_all c.write_rows.result (refused_place (map row_of c.deref.result.now) ≡ None) (All (λ row. length row.1.0.0 ≡ 16) (map row_of c.deref.result.now)) (All (λ row. length row.1.1 < 2 ^ 64) (map row_of c.deref.result.now)) (CanBeWritten VersionTwo (length old) (rows_of maps))
+    ok_all c.write_rows.result (refused_place (map row_of c.deref.result.now) ≡ None) (All (λ row. length row.1.0.0 ≡ 16) (map row_of c.deref.result.now)) (All (λ row. length row.1.1 < 2 ^ 64) (map row_of c.deref.result.now)) (CanBeWritten VersionTwo (length old.stores) (rows_of maps))
     c.write_rows.ensures.fits c.write_rows.ensures.sized c.write_rows.ensures.short
-    (λ fits sized short. can_be_written maps (length old) (length-map old (λ (t : StoreState). t.shares)) (omega (arith, c.servers.ensures.few, rows.leaves.servers))
+    (λ fits sized short. can_be_written maps (length old.stores) (length-map old.stores (λ (t : StoreState). t.shares)) (omega (arith, c.servers.ensures.few, rows.leaves.servers))
     (subst (λ rows. refused_place rows ≡ None) found fits) (subst (λ (rows : List Row). All (λ row. length row.1.0.0 ≡ 16) rows) found sized)
     (subst (λ (rows : List Row). All (λ row. length row.1.1 < 2 ^ 64) rows) found short) (rows.some all))

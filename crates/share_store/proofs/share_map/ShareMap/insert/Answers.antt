@@ -1,11 +1,11 @@
-use Rattle.std.proofs.Common.{◌∙◌, ap, sym, subst, Some, refl, cond}
+use Rattle.std.proofs.Common.{◌∙◌, ap, sym, subst, Some, None, refl, cond}
 use Rattle.std.specs.Prelude.{is_some}
-use Rattle.std.specs.Option.{option_copied_mut}
+use Rattle.std.specs.Option.{option_copied_mut, option_map}
 use Rattle.std.specs.Rc.{rc_slice_items}
 use Rattle.std.specs.BTreeMap as tree
 use Rattle.std.specs.FinMap as finite
 use Rattle.share_store.specs.Stored.{IsKept, shares_in}
-use Rattle.share_store.proofs.Levels.{by_bytes, put_there}
+use Rattle.share_store.proofs.Levels.{by_bytes, put_there, get_under}
 use Rattle.share_store.proofs.Edits.{stands_under, kept_written, stays_not_empty, changed_under, changed_first, unwritten, is_there, on_err, kept_put, not_empty_at}
 use Rattle.share_store.proofs.Parts.{nothing_before}
 use Rattle.share_store.proofs.share_map.ShareMap.insert.Goals as goal
@@ -71,3 +71,22 @@ invariant_of-self-in-Break-branch-2 c = record {
   kept = subst IsKept (sym c.get_mut.follows.holds-at-none) c.args.self.now.kept;
   counted = nothing_before rc_slice_items c.get_mut.follows.lender-at-none.entries;
 }
+
+pub returns-in_err-_before-in-Some-clause-absent : goal.returns-in_err-_before-in-Some-clause-absent
+returns-in_err-_before-in-Some-clause-absent c =
+    let m = c.args.self.now in
+    let found = sym (ap option_copied_mut (sym c.in-Some.is) ∙ c.get_mut.ensures.value) in
+    on_err c.from_residual.result (get_under rc_slice_items m.indexes m.kept c.args.index c.args.number (Some c.in-Some.numbers.now) found
+    ∙ ap (option_map rc_slice_items) c.in_err-_before-in-Some.ensures.absent)
+
+pub returns-in_err-_none-in-None-clause-absent : goal.returns-in_err-_none-in-None-clause-absent
+returns-in_err-_none-in-None-clause-absent c =
+    let m = c.args.self.now in
+    let absent = sym (ap option_copied_mut (sym c.in-None.is) ∙ c.get_mut.ensures.value) in
+    on_err c.from_residual-in_err-_none-in-None.result (get_under rc_slice_items m.indexes m.kept c.args.index c.args.number None absent)
+
+pub returns-in_err-_nothing-in-None-clause-absent : goal.returns-in_err-_nothing-in-None-clause-absent
+returns-in_err-_nothing-in-None-clause-absent c =
+    let m = c.args.self.now in
+    let absent = sym (ap option_copied_mut (sym c.in-None.is) ∙ c.get_mut.ensures.value) in
+    on_err c.from_residual-in_err-_nothing-in-None.result (get_under rc_slice_items m.indexes m.kept c.args.index c.args.number None absent)

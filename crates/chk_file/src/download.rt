@@ -1,0 +1,71 @@
+//! Downloads: the bytes of a file, a segment at a time.
+ghost use Rattle.std.specs.Prelude.{◌≡◌, IfOk, OnErr, MatchOption};
+ghost use Rattle.chk_file.specs.Downloads.{IsGiven, IsDone};
+
+use crate::pins::Pins;
+use crate::whole::Whole;
+use std::alloc::{AllocError, Global};
+use std::marker::Model;
+
+/// Where the bytes come from.
+#[derive(Debug, Drop)]
+pub(crate) enum Source {
+    /// The whole file is held.
+    Whole(Whole),
+    /// So are k good shares of it.
+    Pinned(Pins),
+}
+
+/// The bytes of a file that are left, which are given a segment at a time. No store is asked for them.
+#[derive(Debug, Drop)]
+pub struct Download {
+    alloc: Global,
+    source: Source,
+}
+
+impl Model for Download {
+    ghost use Rattle.chk_file.specs.Downloads.{DownloadValue};
+
+    ghost Value = { DownloadValue };
+
+    ghost use Rattle.chk_file.specs.Sources.{value_of};
+
+    ghost view = { λ d. value_of d.source };
+}
+
+impl Download {
+    /// All bytes of a file that is held.
+    pub(crate) fn whole(alloc: Global, whole: Whole) -> Self
+        ensures { result ≡ whole }
+    {
+        Download {
+            alloc,
+            source: Source::Whole(whole),
+        }
+    }
+
+    /// All bytes of a file of which shares are held.
+    pub(crate) fn pinned(alloc: Global, pins: Pins) -> Self
+        ensures { result ≡ pins }
+    {
+        Download {
+            alloc,
+            source: Source::Pinned(pins),
+        }
+    }
+
+    /// The bytes of the next segment, or none where no byte is left.
+    ///
+    /// # Errors
+    /// Only where memory is refused. Then the same bytes are left: the call can be made again.
+    pub fn next(&mut self) -> Result<Option<Vec<u8>>, AllocError>
+        ensures given { IfOk result (λ given. MatchOption given (IsDone self.old self.new)
+            (λ bytes. IsGiven bytes.items self.old self.new)) }
+        ensures err { OnErr result (self.new ≡ self.old) }
+    {
+        match &mut self.source {
+            Source::Whole(whole) => whole.next(self.alloc),
+            Source::Pinned(pins) => pins.next(self.alloc),
+        }
+    }
+}

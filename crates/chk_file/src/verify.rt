@@ -1,0 +1,93 @@
+//! What the stores have of a file, verified.
+ghost use Rattle.std.specs.Prelude.{◌≡◌, map, IfOk, IsErrOf, Some, None};
+ghost use Rattle.std.specs.Rc.{rc_slice_items};
+ghost use Rattle.aes_ctr.specs.Crypt.{crypt};
+ghost use Rattle.grid.specs.GridState.{stood, IsHonest, NoneFailed};
+ghost use Rattle.grid.specs.Leaves.{Leaves, IsUnchanged};
+ghost use Rattle.grid.specs.Found.{seen};
+ghost use Rattle.caps.specs.StorageIndex.{index_of};
+ghost use Rattle.chk_file.specs.Row.{row_of};
+ghost use Rattle.chk_file.specs.Gathered.{fit_of};
+ghost use Rattle.chk_file.specs.Numbers.{params_of};
+ghost use Rattle.chk_file.specs.Taken.{AreTaken};
+ghost use Rattle.chk_file.specs.Fit.{fit, crypttext_from};
+ghost use Rattle.chk_file.specs.Bound.{Bound};
+
+use crate::chosen::chosen;
+use crate::crypttext::crypttext;
+use crate::fault::ReadFault;
+use crate::rows::Rows;
+use aes_ctr::laws::{keystream_by_place, parts_agree, twice_is_unchanged};
+use caps::{ReadFields, storage_index};
+use grid::Grid;
+use grid::laws::found_laws;
+use share_codec::{Params, Share};
+use share_store::Store;
+use std::alloc::Global;
+use std::rc::RcSlice;
+
+/// The k good shares of a file that are read of those that the stores have, and the crypttext that they are of.
+pub(crate) fn verify<S: Store>(
+    alloc: Global,
+    grid: &mut Grid<S>,
+    fields: &ReadFields,
+) -> Result<(Vec<Share>, Vec<u8>), ReadFault>
+    ensures leaves { Leaves grid.old grid.new }
+    ensures stamps { grid.new.stamps ≡ grid.old.stamps }
+    ensures unchanged { IsHonest grid.old → IsUnchanged grid.old grid.new }
+    ensures taken { IfOk result (λ read.
+        AreTaken (params_of fields.now.k fields.now.n fields.now.size) read.0.items) }
+    ensures crypttext { IfOk result (λ read. read.1.items
+        ≡ crypttext_from (params_of fields.now.k fields.now.n fields.now.size) read.0.items) }
+    ensures bound { IfOk result (λ read.
+        Bound fields.now (crypt fields.now.key read.1.items)) }
+    ensures fit { IsHonest grid.old → NoneFailed grid.old grid.new → IfOk result (λ read.
+        fit (row_of (stood grid.old) (index_of fields.now.key)) fields.now
+        ≡ Some (crypt fields.now.key read.1.items)) }
+    ensures missing { IsHonest grid.old → NoneFailed grid.old grid.new →
+        IsErrOf result ReadFault.NotEnoughShares →
+        fit (row_of (stood grid.old) (index_of fields.now.key)) fields.now ≡ None }
+{
+    share_codec::laws::good_shares_are_read();
+    share_codec::laws::segments_are_joined_again();
+    erasure::laws::decoded_blocks_are_the_given();
+    keystream_by_place();
+    twice_is_unchanged();
+    parts_agree();
+    found_laws();
+    // There are at most 256 servers: a row has no more.
+    let _ = grid.servers();
+    let found = grid.gather(storage_index(&fields.key))?;
+    match verify_found(alloc, &found, fields) {
+        Ok(read) => Ok(read),
+        Err(fault) => Err(fault),
+    }
+}
+
+/// The same of the shares that were gathered, server by server.
+fn verify_found(
+    alloc: Global,
+    found: &[(usize, u16, RcSlice<u8>)],
+    fields: &ReadFields,
+) -> Result<(Vec<Share>, Vec<u8>), ReadFault>
+    ensures taken { IfOk result (λ read.
+        AreTaken (params_of fields.now.k fields.now.n fields.now.size) read.0.items) }
+    ensures crypttext { IfOk result (λ read. read.1.items
+        ≡ crypttext_from (params_of fields.now.k fields.now.n fields.now.size) read.0.items) }
+    ensures fit { IfOk result (λ read. fit_of (map (seen rc_slice_items) found.now) fields.now
+        ≡ Some (crypt fields.now.key read.1.items)) }
+    ensures missing { IsErrOf result ReadFault.NotEnoughShares →
+        fit_of (map (seen rc_slice_items) found.now) fields.now ≡ None }
+{
+    share_codec::laws::good_shares_are_read();
+    let params = Params::new(fields.k, fields.n, fields.size);
+    let rows = Rows::new(alloc, found, fields.n)?;
+    let shares = chosen(alloc, &rows, &params, &fields.ueb)?;
+    if shares.len() < params.k as usize {
+        return Err(ReadFault::NotEnoughShares);
+    }
+    let Some(bytes) = crypttext(alloc, &params, &shares)? else {
+        return Err(ReadFault::NotEnoughShares);
+    };
+    Ok((shares, bytes))
+}

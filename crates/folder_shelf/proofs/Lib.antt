@@ -1,0 +1,4 @@
+pub mod Seals
+pub mod Spelled
+pub mod Fields
+pub mod Apart

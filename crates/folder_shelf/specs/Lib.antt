@@ -1,0 +1,4 @@
+pub mod Names
+pub mod Sealed
+pub mod SettingsText
+pub mod Refusals

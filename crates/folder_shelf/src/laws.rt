@@ -1,0 +1,19 @@
+//! What holds of names and texts of files, whatever they are of.
+ghost use Rattle.std.specs.Prelude.{◌≡◌, ℕ, List};
+ghost use Rattle.folder_shelf.specs.Names.{file_name, IsPlace};
+ghost use Rattle.folder_shelf.specs.Sealed.{sealed};
+ghost use Rattle.folder_shelf.specs.SettingsText.{settings_text, AreSettings};
+ghost use Rattle.folder_shelf.specs.declared.settings.Settings.{Settings};
+
+/// Two shares whose files have one name are one share.
+pub fn names_are_told_apart()
+    ensures { (index other : List ℕ) (number another : ℕ) → IsPlace index number → IsPlace other another
+        → file_name index number ≡ file_name other another → (index ≡ other) × (number ≡ another) }
+{}
+
+/// Bytes with one text are the same bytes, and settings with one text the same settings.
+pub fn texts_are_told_apart()
+    ensures shares { (bytes other : List ℕ) → sealed bytes ≡ sealed other → bytes ≡ other }
+    ensures settings { (s t : Settings) → AreSettings s → AreSettings t
+        → settings_text s ≡ settings_text t → s ≡ t }
+{}

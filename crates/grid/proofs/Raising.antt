@@ -1,0 +1,152 @@
+-- What raising a stamp leaves, and what a call of a store leaves after it.
+use Rattle.std.specs.Prelude.{nat_lt}
+use Rattle.std.proofs.Common.{◌&&◌, Bool, ◌≡◌, ◌≢◌, ◌≤◌, ◌⊎◌, inl, inr, ℕ, ◌==◌, cond, List, [], ◌∷◌, Option, Some, unwrap_or, Result, Ok, Err, OnOk, OnErr, IfErr, length, take, slice_get, refl, sym, ap, subst, ◌∙◌, arith, true, false, if◌then◌else◌}
+use Rattle.std.proofs.lemmas.Bool.Decides.{nat_tests}
+use Rattle.std.specs.declared.cmp.Ordering.{Ordering}
+use Rattle.std.specs.declared.cmp.Ordering.TheVariants.{Less, Equal, Greater}
+use Rattle.std.specs.Ordering.{nat_cmp, is_eq, eq_by_cmp, ordering_then}
+use Rattle.std.specs.Cmp.Lexicographic.{slice_cmp, nat_list_cmp_total}
+use Rattle.std.specs.FinMap as finite
+use Rattle.share_store.specs.Shares.{ShareKey}
+use Rattle.grid.specs.declared.fault.GridFault.{GridFault}
+use Rattle.grid.specs.Stamps.{Stamps, count_at, one_more, raised, last_count}
+use Rattle.grid.specs.GridState.{GridState, stood, raised_at, IsHonest}
+use Rattle.grid.specs.Standing.{Standing, standing}
+use Rattle.grid.specs.Changes.{changed_at}
+use Rattle.grid.specs.Placement.{server_of, placed}
+use Rattle.grid.specs.Leaves.{Leaves, IsUnchanged}
+use Rattle.grid.specs.Changed.{ArePut, StopsAt, IsLost, IsSpoiled}
+use Rattle.grid.specs.Stamped.{IsStamped}
+
+-- the state with other stamps
+abbrev pub stamped_so : GridState → Stamps → GridState
+stamped_so g stamps = record { stores = g.stores; stamps = stamps }
+
+module _ (old : GridState) (stamps : Stamps) where
+  pub leaves_so : (new : GridState) → Leaves (stamped_so old stamps) new → Leaves old new
+  leaves_so new l = record { servers = l.servers; rises = l.rises; honest = l.honest; was_honest = l.was_honest; sums = l.sums }
+
+  pub leaves_to : (new : GridState) → Leaves new (stamped_so old stamps) → Leaves new old
+  leaves_to new l = record { servers = l.servers; rises = l.rises; honest = l.honest; was_honest = l.was_honest; sums = l.sums }
+
+  pub unchanged_so : (new : GridState) → IsUnchanged (stamped_so old stamps) new → IsUnchanged old new
+  unchanged_so new u = record { maps = u.maps; rooms = u.rooms }
+
+  pub put_so : (index : List ℕ) (shares : List (List ℕ)) (new : GridState) → ArePut index shares (stamped_so old stamps) new → ArePut index shares old new
+  put_so index shares new p = record { stands = p.stands; rooms = p.rooms }
+
+  pub stops_so : (index : List ℕ) (shares : List (List ℕ)) (new : GridState) (fault : GridFault) → StopsAt index shares (stamped_so old stamps) new fault → StopsAt index shares old new fault
+  stops_so index shares new fault p = record {
+    n = p.n;
+    share = p.share;
+    at = p.at;
+    put = λ all. put_so index (take p.n shares) new (p.put all);
+    refusal = p.refusal;
+    full = p.full;
+    none_stood = p.none_stood;
+    down = p.down;
+  }
+
+  pub lost_so : (server : ℕ) (key : ShareKey) (new : GridState) → IsLost server key (stamped_so old stamps) new → IsLost server key old new
+  lost_so server key new p = record { stands = p.stands; rooms = p.rooms }
+
+  pub spoiled_so : (server : ℕ) (key : ShareKey) (place : ℕ) (new : GridState) → IsSpoiled server key place (stamped_so old stamps) new → IsSpoiled server key place old new
+  spoiled_so server key place new p = record { stands = p.stands; rooms = p.rooms }
+
+pub none_there : {A : Type 0} (xs : List A) → length xs ≡ 0 → xs ≡ []
+none_there [] e = refl
+none_there (x ∷ xs) e = absurd (omega arith)
+
+-- ---- what stands under other storage indexes
+
+-- what stands under all indexes but this one is as it was
+abbrev pub SameBut : List ℕ → Standing → Standing → Type 0
+SameBut index before after = (si : List ℕ) → (eq_by_cmp (slice_cmp nat_cmp) si index ≡ false) → (s n : ℕ) → after s (si, n) ≡ before s (si, n)
+
+-- a choice by a test, under a default
+chosen : (b : Bool) (v : ℕ) (o : Option ℕ) → unwrap_or (cond b (Some v) o) 0 ≡ (if b then v else unwrap_or o 0)
+chosen true v o = refl
+chosen false v o = refl
+
+pub raised_here : (stamps : Stamps) (index si : List ℕ) → count_at (raised index stamps) si ≡ (if eq_by_cmp (slice_cmp nat_cmp) si index then one_more (count_at stamps index) else count_at stamps si)
+raised_here stamps index si =
+    ap (λ o. unwrap_or o 0) (finite.get-insert nat_list_cmp_total stamps index (one_more (count_at stamps index)) si) ∙ chosen (eq_by_cmp (slice_cmp nat_cmp) si index) (one_more (count_at stamps index)) (finite.get stamps si)
+
+-- equal keys are the same
+same_key : (si index : List ℕ) → eq_by_cmp (slice_cmp nat_cmp) si index ≡ true → si ≡ index
+same_key si index e = finite.slice_cmp-IsAntisymmetric finite.nat_cmp-IsAntisymmetric si index (equal (slice_cmp nat_cmp si index) e)
+  where
+    equal : (r : Ordering) → is_eq r ≡ true → r ≡ Equal
+    equal Less h = cc
+    equal Equal h = refl
+    equal Greater h = cc
+
+grows : (n : ℕ) → n ≤ one_more n
+grows n = grind (arith, nat_tests)
+
+stays_at_last : (n : ℕ) → one_more n ≡ n → n ≡ last_count
+stays_at_last n e = grind (arith, nat_tests)
+
+both_bools : (b : Bool) → (b ≡ true) ⊎ (b ≡ false)
+both_bools true = inl refl
+both_bools false = inr refl
+
+pub raise_stamped : (old new : GridState) (index : List ℕ) → new.stamps ≡ raised index old.stamps → (IsHonest old → SameBut index (stood old) (stood new)) → IsStamped old new
+raise_stamped old new index stamps same = record {
+  rises = λ si. by_case si (both_bools (eq_by_cmp (slice_cmp nat_cmp) si index));
+  tells = λ all si still fits. by_place all si still fits (both_bools (eq_by_cmp (slice_cmp nat_cmp) si index));
+}
+  where
+    count : (si : List ℕ) → raised_at new si ≡ (if eq_by_cmp (slice_cmp nat_cmp) si index then one_more (raised_at old index) else raised_at old si)
+    count si = ap (λ m. count_at m si) stamps ∙ raised_here old.stamps index si
+
+    here : (si : List ℕ) → eq_by_cmp (slice_cmp nat_cmp) si index ≡ true → raised_at new si ≡ one_more (raised_at old si)
+    here si e = count si ∙ ap (λ b. if b then one_more (raised_at old index) else raised_at old si) e ∙ ap (λ k. one_more (raised_at old k)) (sym (same_key si index e))
+
+    elsewhere : (si : List ℕ) → eq_by_cmp (slice_cmp nat_cmp) si index ≡ false → raised_at new si ≡ raised_at old si
+    elsewhere si e = count si ∙ ap (λ b. if b then one_more (raised_at old index) else raised_at old si) e
+
+    by_case : (si : List ℕ) → (eq_by_cmp (slice_cmp nat_cmp) si index ≡ true) ⊎ (eq_by_cmp (slice_cmp nat_cmp) si index ≡ false) → raised_at old si ≤ raised_at new si
+    by_case si (inl e) = subst (λ n. raised_at old si ≤ n) (sym (here si e)) (grows (raised_at old si))
+    by_case si (inr e) = subst (λ n. raised_at old si ≤ n) (sym (elsewhere si e)) (omega arith)
+
+    by_place : IsHonest old → (si : List ℕ) → raised_at new si ≡ raised_at old si → raised_at new si ≢ last_count →
+        (eq_by_cmp (slice_cmp nat_cmp) si index ≡ true) ⊎ (eq_by_cmp (slice_cmp nat_cmp) si index ≡ false) → (s n : ℕ) → stood new s (si, n) ≡ stood old s (si, n)
+    by_place all si still fits (inl e) s n = absurd (fits (still ∙ stays_at_last (raised_at old si) (sym (here si e) ∙ still)))
+    by_place all si still fits (inr e) s n = same all si e s n
+
+-- a change at one place
+apart_key : (o p : Ordering) → is_eq o ≡ false → is_eq (ordering_then o p) ≡ false
+apart_key Less p e = refl
+apart_key Equal p e = cc
+apart_key Greater p e = refl
+
+and_false : (a b : Bool) → b ≡ false → (a && b) ≡ false
+and_false true b e = e
+and_false false b e = refl
+
+pub same_but_changed : (index : List ℕ) (number server : ℕ) (change : Option (List ℕ) → Option (List ℕ)) (before after : Standing) → after ≡ changed_at server (index, number) change before → SameBut index before after
+same_but_changed index number server change before after is si other s n =
+    ap (λ f. f s (si, n)) is
+    ∙ ap (λ b. if b then change (before s (si, n)) else before s (si, n)) (and_false (s == server) _ (apart_key (slice_cmp nat_cmp si index) (nat_cmp n number) other))
+
+pub same_but_placed : (count : ℕ) (index : List ℕ) (shares : List (List ℕ)) (before after : Standing) → after ≡ placed count index shares before → SameBut index before after
+same_but_placed count index shares before after is si other s n =
+    ap (λ f. f s (si, n)) is
+    ∙ ap (λ b. if b && nat_lt n (length shares) && s == server_of count index n then Some (unwrap_or (before s (si, n)) (unwrap_or (slice_get shares n) [])) else before s (si, n)) other
+
+pub same_but_unchanged : (index : List ℕ) (old new : GridState) → IsUnchanged old new → SameBut index (stood old) (stood new)
+same_but_unchanged index old new same si other s n = ap (λ maps. standing maps s (si, n)) same.maps
+
+-- by what a call answered
+pub by_answer : {A E : Type 0} (P X Y : Type 0) (r : Result A E) → OnOk r X → OnErr r Y → (X → P) → (Y → P) → P
+by_answer P X Y (Ok a) ok err f g = f ok
+by_answer P X Y (Err e) ok err f g = g err
+
+pub by_fault : {A E : Type 0} (P X : Type 0) (Y : E → Type 0) (r : Result A E) → OnOk r X → IfErr r Y → (X → P) → ((e : E) → Y e → P) → P
+by_fault P X Y (Ok a) ok err f g = f ok
+by_fault P X Y (Err e) ok err f g = g e err
+
+pub if_err_weaker : {A E : Type 0} (r : Result A E) (X Y : E → Type 0) → ((e : E) → X e → Y e) → IfErr r X → IfErr r Y
+if_err_weaker (Ok a) X Y f err = tt
+if_err_weaker (Err e) X Y f err = f e err

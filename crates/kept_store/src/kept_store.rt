@@ -1,0 +1,281 @@
+//! A store in memory with a shelf beside it.
+ghost use Rattle.std.specs.Prelude.{◌≡◌, ◌<◌, ◌≤◌, ◌+◌, ◌-◌, ◌^◌, ◌==◌, ◌↔◌, true, false, not, length, IsTrue, IfOk, OnOk, OnErr, IsErrOf, if◌then◌else◌};
+ghost use Rattle.std.specs.FinMap as map;
+ghost use Rattle.std.specs.Rc.{rc_slice_items};
+ghost use Rattle.share_store.specs.MapLaws.{held_fits};
+ghost use Rattle.share_store.specs.Put.{put_once};
+ghost use Rattle.share_store.specs.Stored.{shares_in};
+ghost use Rattle.share_store.specs.Toggle.{toggled, has_byte, with_toggle};
+ghost use Rattle.kept_store.specs.Step.{IsInStep, IsInStep-prop, Crashes};
+
+use share_shelf::{Shelf, ShelfFault};
+use share_store::laws::toggle_laws;
+use share_store::{MemStore, Share, Store, StoreFault};
+use std::alloc::{AllocError, Global};
+use std::rc::RcSlice;
+
+/// A store that answers from memory and keeps each share on a shelf beside it. It is always honest. Once its shelf
+/// failed it is down for good: each call that would change something is refused, until it is opened anew.
+#[derive(Drop)]
+pub struct KeptStore<H: Shelf> {
+    pub(crate) alloc: Global,
+    pub(crate) memory: MemStore,
+    pub(crate) shelf: H,
+    pub(crate) down: bool,
+    pub(crate) failures: u64,
+    ghost in_step: { IsInStep H.moment H.left_since H.honest down shelf
+        (shares_in rc_slice_items memory.shares.indexes) } by { IsInStep-prop
+            H.moment H.left_since H.honest down shelf
+            (shares_in rc_slice_items memory.shares.indexes) },
+}
+
+/// A copy of the bytes with the lowest bit of one changed.
+fn with_bit_changed(alloc: Global, bytes: &[u8], place: usize) -> Result<RcSlice<u8>, AllocError>
+    requires { place < length bytes.now }
+    ensures { IfOk result (λ changed. rc_slice_items changed ≡ toggled bytes.now place) }
+{
+    let mut copy = bytes.to_vec(alloc)?;
+    copy[place] ^= 1;
+    RcSlice::from_vec(copy)
+}
+
+impl<H: Shelf> KeptStore<H> {
+    /// Counts a call that is refused because the shelf failed, in it or before. Where no more can be counted it says
+    /// that there was no memory.
+    fn refuse(&mut self) -> StoreFault
+        ensures fault { result
+            ≡ (if self.old.failures == 2 ^ 64 - 1 then StoreFault.NoMemory else StoreFault.Down) }
+        ensures failures { self.new.failures
+            ≡ (if self.old.failures == 2 ^ 64 - 1 then self.old.failures
+            else self.old.failures + 1) }
+        ensures shelf { self.new.shelf ≡ self.old.shelf }
+        ensures memory { self.new.memory ≡ self.old.memory }
+        ensures down { self.new.down ≡ self.old.down }
+    {
+        if self.failures == u64::MAX {
+            return StoreFault::NoMemory;
+        }
+        self.failures += 1;
+        StoreFault::Down
+    }
+
+    /// Puts a share where none stands: in memory, and then on the shelf. Where the shelf refuses, it is taken out of
+    /// memory again.
+    pub fn keep(
+        &mut self,
+        index: [u8; 16],
+        number: u16,
+        bytes: RcSlice<u8>,
+    ) -> Result<bool, StoreFault>
+        requires { 0 < length (rc_slice_items bytes) }
+        ensures rises { self.old.failures ≤ self.new.failures }
+        ensures down { IsErrOf result StoreFault.Down ↔ (self.old.failures < self.new.failures) }
+        ensures full { IsErrOf result StoreFault.Full →
+            (⟦<MemStore as Store>⟧.room self.old.memory < length (rc_slice_items bytes))
+            × (⟦<MemStore as Store>⟧.room self.new.memory
+            ≡ ⟦<MemStore as Store>⟧.room self.old.memory) }
+        ensures full_only { IsErrOf result StoreFault.Full →
+            map.get (⟦<MemStore as Store>⟧.shares self.old.memory) (index, number) ≡ None }
+        ensures put { IfOk result (λ put. put
+            ≡ not (map.contains_key (⟦<MemStore as Store>⟧.shares self.old.memory)
+            (index, number))) }
+        ensures shares { OnOk result (⟦<MemStore as Store>⟧.shares self.new.memory
+            ≡ put_once (⟦<MemStore as Store>⟧.shares self.old.memory) (index, number)
+            (rc_slice_items bytes)) }
+        ensures err { OnErr result (⟦<MemStore as Store>⟧.shares self.new.memory
+            ≡ ⟦<MemStore as Store>⟧.shares self.old.memory) }
+        ensures room { ⟦<MemStore as Store>⟧.room self.new.memory
+            + ⟦<MemStore as Store>⟧.held self.new.memory
+            ≡ ⟦<MemStore as Store>⟧.room self.old.memory
+            + ⟦<MemStore as Store>⟧.held self.old.memory }
+        ensures crash { Crashes H.moment H.left_since H.honest
+            self.old.down self.old.shelf self.new.shelf
+            (⟦<MemStore as Store>⟧.shares self.old.memory)
+            (put_once (⟦<MemStore as Store>⟧.shares self.old.memory) (index, number)
+            (rc_slice_items bytes)) }
+        ensures stays_down { self.old.down ≡ true → self.new.down ≡ true }
+        ensures goes_down { H.failures self.old.shelf < H.failures self.new.shelf →
+            self.new.down ≡ true }
+        ensures stays_up { self.old.down ≡ false →
+            H.failures self.new.shelf ≡ H.failures self.old.shelf →
+            (self.new.down ≡ false) × (IsErrOf result StoreFault.Down → ⊥) }
+    {
+        if self.memory.has(index, number)? {
+            return Ok(false);
+        }
+        if self.down {
+            return Err(self.refuse());
+        }
+        let lent = bytes.clone()?;
+        let _put = self.memory.put(index, number, lent)?;
+        match self.shelf.put(index, number, bytes) {
+            Ok(()) => Ok(true),
+            Err(ShelfFault::NoMemory) => {
+                let _undone = self.memory.remove(index, number);
+                Err(StoreFault::NoMemory)
+            }
+            Err(ShelfFault::Failed) => {
+                let _undone = self.memory.remove(index, number);
+                self.down = true;
+                Err(self.refuse())
+            }
+        }
+    }
+
+    /// Takes a share away: from the shelf, and then from memory.
+    pub fn give_up(&mut self, index: [u8; 16], number: u16) -> Result<bool, StoreFault>
+        ensures rises { self.old.failures ≤ self.new.failures }
+        ensures down { IsErrOf result StoreFault.Down ↔ (self.old.failures < self.new.failures) }
+        ensures not_full { IsErrOf result StoreFault.Full → ⊥ }
+        ensures lost { IfOk result (λ lost. lost
+            ≡ map.contains_key (⟦<MemStore as Store>⟧.shares self.old.memory) (index, number)) }
+        ensures shares { OnOk result (⟦<MemStore as Store>⟧.shares self.new.memory
+            ≡ map.remove (⟦<MemStore as Store>⟧.shares self.old.memory) (index, number)) }
+        ensures err { OnErr result (⟦<MemStore as Store>⟧.shares self.new.memory
+            ≡ ⟦<MemStore as Store>⟧.shares self.old.memory) }
+        ensures room { ⟦<MemStore as Store>⟧.room self.new.memory
+            + ⟦<MemStore as Store>⟧.held self.new.memory
+            ≡ ⟦<MemStore as Store>⟧.room self.old.memory
+            + ⟦<MemStore as Store>⟧.held self.old.memory }
+        ensures crash { Crashes H.moment H.left_since H.honest
+            self.old.down self.old.shelf self.new.shelf
+            (⟦<MemStore as Store>⟧.shares self.old.memory)
+            (map.remove (⟦<MemStore as Store>⟧.shares self.old.memory) (index, number)) }
+        ensures stays_down { self.old.down ≡ true → self.new.down ≡ true }
+        ensures goes_down { H.failures self.old.shelf < H.failures self.new.shelf →
+            self.new.down ≡ true }
+        ensures stays_up { self.old.down ≡ false →
+            H.failures self.new.shelf ≡ H.failures self.old.shelf →
+            (self.new.down ≡ false) × (IsErrOf result StoreFault.Down → ⊥) }
+    {
+        if !self.memory.has(index, number)? {
+            return Ok(false);
+        }
+        if self.down {
+            return Err(self.refuse());
+        }
+        match self.shelf.remove(index, number) {
+            Ok(()) => Ok(self.memory.remove(index, number)),
+            Err(ShelfFault::NoMemory) => Err(StoreFault::NoMemory),
+            Err(ShelfFault::Failed) => {
+                self.down = true;
+                Err(self.refuse())
+            }
+        }
+    }
+
+    /// Changes the lowest bit of one byte of a share: on the shelf, and then in memory.
+    pub fn alter(&mut self, index: [u8; 16], number: u16, place: u64) -> Result<bool, StoreFault>
+        ensures rises { self.old.failures ≤ self.new.failures }
+        ensures down { IsErrOf result StoreFault.Down ↔ (self.old.failures < self.new.failures) }
+        ensures not_full { IsErrOf result StoreFault.Full → ⊥ }
+        ensures toggled { IfOk result (λ toggled. toggled
+            ≡ has_byte (⟦<MemStore as Store>⟧.shares self.old.memory) (index, number) place) }
+        ensures shares { OnOk result (⟦<MemStore as Store>⟧.shares self.new.memory
+            ≡ with_toggle (⟦<MemStore as Store>⟧.shares self.old.memory) (index, number) place) }
+        ensures err { OnErr result (⟦<MemStore as Store>⟧.shares self.new.memory
+            ≡ ⟦<MemStore as Store>⟧.shares self.old.memory) }
+        ensures room { ⟦<MemStore as Store>⟧.room self.new.memory
+            + ⟦<MemStore as Store>⟧.held self.new.memory
+            ≡ ⟦<MemStore as Store>⟧.room self.old.memory
+            + ⟦<MemStore as Store>⟧.held self.old.memory }
+        ensures crash { Crashes H.moment H.left_since H.honest
+            self.old.down self.old.shelf self.new.shelf
+            (⟦<MemStore as Store>⟧.shares self.old.memory)
+            (with_toggle (⟦<MemStore as Store>⟧.shares self.old.memory) (index, number) place) }
+        ensures stays_down { self.old.down ≡ true → self.new.down ≡ true }
+        ensures goes_down { H.failures self.old.shelf < H.failures self.new.shelf →
+            self.new.down ≡ true }
+        ensures stays_up { self.old.down ≡ false →
+            H.failures self.new.shelf ≡ H.failures self.old.shelf →
+            (self.new.down ≡ false) × (IsErrOf result StoreFault.Down → ⊥) }
+    {
+        toggle_laws();
+        let Some(bytes) = self.memory.get(index, number)? else {
+            return Ok(false);
+        };
+        if place >= bytes.len() as u64 {
+            return Ok(false);
+        }
+        if self.down {
+            return Err(self.refuse());
+        }
+        let changed = with_bit_changed(self.alloc, bytes.as_slice(), place as usize)?;
+        let lent = changed.clone()?;
+        match self.shelf.put(index, number, lent) {
+            Ok(()) => {
+                self.memory.replace(index, number, changed);
+                return Ok(true);
+            }
+            Err(ShelfFault::NoMemory) => return Err(StoreFault::NoMemory),
+            Err(ShelfFault::Failed) => {
+                self.down = true;
+                return Err(self.refuse());
+            }
+        }
+    }
+}
+
+impl<H: Shelf> Store for KeptStore<H> {
+    ghost honest = { λ store. true };
+
+    ghost shares = { λ store. ⟦<MemStore as Store>⟧.shares store.memory };
+
+    ghost room = { λ store. ⟦<MemStore as Store>⟧.room store.memory };
+
+    ghost held = { λ store. ⟦<MemStore as Store>⟧.held store.memory };
+
+    ghost failures = { λ store. store.failures };
+
+    fn has(&mut self, index: [u8; 16], number: u16) -> Result<bool, AllocError> {
+        self.memory.has(index, number)
+    }
+
+    fn numbers(&mut self, index: [u8; 16]) -> Result<Vec<u16>, AllocError> {
+        self.memory.numbers(index)
+    }
+
+    fn get(&mut self, index: [u8; 16], number: u16) -> Result<Option<RcSlice<u8>>, AllocError> {
+        self.memory.get(index, number)
+    }
+
+    fn nth(&mut self, at: u64) -> Result<Option<Share>, AllocError> {
+        self.memory.nth(at)
+    }
+
+    fn put(
+        &mut self,
+        index: [u8; 16],
+        number: u16,
+        bytes: RcSlice<u8>,
+    ) -> Result<bool, StoreFault> {
+        self.keep(index, number, bytes)
+    }
+
+    fn lose(&mut self, index: [u8; 16], number: u16) -> Result<bool, StoreFault> {
+        self.give_up(index, number)
+    }
+
+    fn toggle(&mut self, index: [u8; 16], number: u16, place: u64) -> Result<bool, StoreFault> {
+        self.alter(index, number, place)
+    }
+
+    fn room(&self) -> u64 {
+        self.memory.room()
+    }
+
+    fn held(&self) -> u64 {
+        self.memory.held()
+    }
+
+    fn failures(&self) -> u64 {
+        self.failures
+    }
+
+    ghost held_is = { λ store honest. store.memory.summed };
+
+    ghost fits = { λ store honest. held_fits
+        store.memory.room store.memory.held store.memory.fits };
+
+    ghost none_empty = { λ store honest. store.memory.some };
+}

@@ -1,0 +1,20 @@
+-- A shelf with a shelf in memory inside.
+use Rattle.std.proofs.Common.{◌≡◌, ℕ, sym, subst, length}
+use Rattle.share_store.specs.Shares.{Shares}
+use Rattle.share_shelf.specs.Kept.{told_of, HadBeen}
+use Rattle.share_shelf.specs.Left.{Keeps, LeavesOnly}
+use Rattle.share_shelf.specs.declared.mem_shelf.MemShelf.{MemShelf}
+
+abbrev pub moment_of : MemShelf → ℕ
+moment_of shelf = length (told_of shelf.changes.items)
+
+abbrev pub left_of : MemShelf → ℕ → Shares → Type 0
+left_of shelf t c = HadBeen (told_of shelf.changes.items) t c
+
+-- a shelf that is the one before keeps what that did
+pub keeps_as : (old new : MemShelf) (m : Shares) → new ≡ old → Keeps moment_of left_of old m → Keeps moment_of left_of new m
+keeps_as old new m same keeps = subst (λ (s : MemShelf). Keeps moment_of left_of s m) (sym same) keeps
+
+-- and leaves what it did
+pub leaves_as : (old mid new : MemShelf) (P : Shares → Type 0) → mid ≡ old → LeavesOnly moment_of left_of mid new P → LeavesOnly moment_of left_of old new P
+leaves_as old mid new P same leaves = subst (λ (s : MemShelf). LeavesOnly moment_of left_of s new P) same leaves

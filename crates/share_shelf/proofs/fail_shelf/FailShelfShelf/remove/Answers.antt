@@ -1,0 +1,20 @@
+use Rattle.std.proofs.Common.{refl}
+use Rattle.std.specs.FinMap.{remove}
+use Rattle.share_shelf.specs.Left.{IsEither}
+use Rattle.share_shelf.proofs.Inside.{keeps_as, leaves_as}
+use Rattle.share_shelf.proofs.fail_shelf.FailShelfShelf.remove.Goals as goal
+
+pub returns-then-not-fails-clause-done : goal.returns-then-not-fails-clause-done
+returns-then-not-fails-clause-done c h m keeps = c.remove.ensures.done refl m (keeps_as c.args.self.now.inner c.fails.new.self.inner m c.fails.ensures.inner keeps)
+
+pub returns-then-not-fails-clause-crash : goal.returns-then-not-fails-clause-crash
+returns-then-not-fails-clause-crash c h m keeps =
+    let leaves = leaves_as c.args.self.now.inner c.fails.new.self.inner c.remove.new.self (IsEither m (remove m (c.args.index, c.args.number))) c.fails.ensures.inner
+    (c.remove.ensures.crash refl m (keeps_as c.args.self.now.inner c.fails.new.self.inner m c.fails.ensures.inner keeps)) in
+    record { later = leaves.later; since = leaves.since }
+
+pub returns-clause-crash : goal.returns-clause-crash
+returns-clause-crash c h m keeps =
+    let leaves = leaves_as c.args.self.now.inner c.fails.new.self.inner c.remove-done.new.self (IsEither m (remove m (c.args.index, c.args.number))) c.fails.ensures.inner
+    (c.remove-done.ensures.crash refl m (keeps_as c.args.self.now.inner c.fails.new.self.inner m c.fails.ensures.inner keeps)) in
+    record { later = leaves.later; since = leaves.since }

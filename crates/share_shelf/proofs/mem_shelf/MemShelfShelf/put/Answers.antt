@@ -1,0 +1,25 @@
+use Rattle.std.proofs.Common.{◌∷◌, [], ap, subst, arith, Some, length, length-append, List}
+use Rattle.std.specs.Rc.{rc_slice_items}
+use Rattle.share_shelf.specs.Kept.{Told, told_of, HadBeen}
+use Rattle.share_shelf.proofs.Moments.{keeps_pushed, since_pushed}
+use Rattle.share_shelf.proofs.mem_shelf.MemShelfShelf.put.Goals as goal
+
+pub returns-clause-done : goal.returns-clause-done
+returns-clause-done c honest m keeps d had =
+    let one : Told = ((c.args.index, c.args.number), Some (rc_slice_items c.args.bytes)) in
+    keeps_pushed (told_of c.args.self.now.changes.items) one m keeps d (subst (λ (l : List Told). HadBeen l (length l) d) c.in_ok-tell_put.ensures.told had)
+
+pub returns-clause-crash : goal.returns-clause-crash
+returns-clause-crash c honest m keeps =
+    let one : Told = ((c.args.index, c.args.number), Some (rc_slice_items c.args.bytes)) in
+    let past : List Told = told_of c.args.self.now.changes.items in
+    record {
+      later = omega (arith, ap (λ (l : List Told). length l) c.in_ok-tell_put.ensures.told, length-append past (one ∷ []));
+      since = λ t d le had. since_pushed past one m keeps t d le (subst (λ (l : List Told). HadBeen l t d) c.in_ok-tell_put.ensures.told had);
+    }
+
+pub returns-in_err-tell_put-clause-no_memory : goal.returns-in_err-tell_put-clause-no_memory
+returns-in_err-tell_put-clause-no_memory c is = record {
+  same_moment = ap (λ (l : List Told). length l) c.in_err-tell_put.ensures.same;
+  nothing_else = λ t d had. subst (λ (l : List Told). HadBeen l t d) c.in_err-tell_put.ensures.same had;
+}

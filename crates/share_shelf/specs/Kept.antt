@@ -1,0 +1,41 @@
+-- The changes that a shelf in memory was told, and what they left.
+use Rattle.std.specs.Prelude.{◌≡◌, ◌≤◌, ℕ, List, [], ◌∷◌, map, take, length, Option, Some, None}
+use Rattle.std.proofs.Common.{arith}
+use Rattle.std.specs.FinMap.{empty, insert, remove}
+use Rattle.std.specs.Option.{option_map}
+use Rattle.std.specs.Rc.{rc_slice_items}
+use Rattle.share_store.specs.Shares.{Shares, ShareKey}
+use Rattle.share_shelf.specs.declared.mem_shelf.Change.{Change}
+
+-- what stands at a key, or that nothing does
+abbrev pub Told : Type 0
+Told = ShareKey × Option (List ℕ)
+
+abbrev pub told_by : Change → Told
+told_by change = ((change.index, change.number), option_map rc_slice_items change.bytes)
+
+abbrev pub told_of : List Change → List Told
+told_of changes = map told_by changes
+
+abbrev pub with_told : Told → Shares → Shares
+with_told (key, None) m = remove m key
+with_told (key, Some bytes) m = insert m key bytes
+
+-- after these changes, the first of them first
+abbrev pub after : List Told → Shares → Shares
+after [] m = m
+after (t ∷ told) m = after told (with_told t m)
+
+-- what stood after the first k changes
+abbrev pub stood_after : List Told → ℕ → Shares
+stood_after told k = after (take k told) empty
+
+-- what stood after some of the changes, no fewer than t
+pub record HadBeen (told : List Told) (t : ℕ) (c : Shares) : Type 0 where
+  pub k : ℕ
+  pub from : t ≤ k
+  pub to : k ≤ length told
+  pub stood : c ≡ stood_after told k
+
+pub narrowed : (told : List Told) (t u : ℕ) (c : Shares) → t ≤ u → HadBeen told u c → HadBeen told t c
+narrowed told t u c le had = record { k = had.k; from = omega arith; to = had.to; stood = had.stood }

@@ -1,0 +1,91 @@
+//! What a store asks of a shelf.
+ghost use Rattle.std.specs.Prelude.{◌≡◌, ◌<◌, ◌≤◌, ◌↔◌, ℕ, Bool, IsTrue, length, map as map_list, IfOk, OnOk, IsErrOf};
+ghost use Rattle.std.specs.Option.{option_map};
+ghost use Rattle.std.specs.FinMap as map;
+ghost use Rattle.std.specs.Rc.{rc_slice_items};
+ghost use Rattle.share_store.specs.Shares.{Shares};
+ghost use Rattle.share_shelf.specs.Left.{Keeps, IsEither, LeavesOnly, IsQuiet};
+
+use crate::ShelfFault;
+use std::alloc::Global;
+use std::rc::RcSlice;
+
+/// A shelf of shares, which outlives the process.
+///
+/// An honest shelf keeps what it is told: a change is done or not begun at a crash, and from its `Ok` on it is done.
+/// Where it failed, a crash may leave either. A shelf that isn't honest may do anything.
+pub trait Shelf {
+    /// Whether it keeps what it is told.
+    ghost honest: { Self → Bool };
+
+    /// The moment, as a number that doesn't fall.
+    ghost moment: { Self → ℕ };
+
+    /// What a crash at some moment from that one on might have left, during a call or between two.
+    ghost left_since: { Self → ℕ → Shares → Type 0 };
+
+    /// How often it has failed.
+    ghost failures: { Self → ℕ };
+
+    /// The storage index and number of each share, in the order of storage index and then number. Refused as
+    /// [`ShelfFault`] says: with `Failed` exactly when the shelf failed, here and below.
+    fn list(&mut self, alloc: Global) -> Result<Vec<([u8; 16], u16)>, ShelfFault>
+        ensures honest { honest self.new ≡ honest self.old }
+        ensures quiet { IsQuiet moment left_since self.old self.new }
+        ensures rises { failures self.old ≤ failures self.new }
+        ensures failed { IsErrOf result ShelfFault.Failed ↔
+            (failures self.old < failures self.new) }
+        ensures found { IsTrue (honest self.old) →
+            (m : Shares) → Keeps moment left_since self.old m →
+            IfOk result (λ names. names.items ≡ map_list (λ e. e.0) (map.entries m)) };
+
+    /// The bytes of the share that stands there. `None` where none stands.
+    fn read(&mut self, index: [u8; 16], number: u16) -> Result<Option<RcSlice<u8>>, ShelfFault>
+        ensures honest { honest self.new ≡ honest self.old }
+        ensures quiet { IsQuiet moment left_since self.old self.new }
+        ensures rises { failures self.old ≤ failures self.new }
+        ensures failed { IsErrOf result ShelfFault.Failed ↔
+            (failures self.old < failures self.new) }
+        ensures found { IsTrue (honest self.old) →
+            (m : Shares) → Keeps moment left_since self.old m →
+            IfOk result (λ bytes. option_map rc_slice_items bytes ≡ map.get m (index, number)) };
+
+    /// Puts a share, in the place of one that stands there. After `Ok` a crash leaves it; where it failed, a crash
+    /// leaves the share or what stood before; where there was no memory nothing was begun.
+    fn put(&mut self, index: [u8; 16], number: u16, bytes: RcSlice<u8>) -> Result<(), ShelfFault>
+        requires { 0 < length (rc_slice_items bytes) }
+        ensures honest { honest self.new ≡ honest self.old }
+        ensures rises { failures self.old ≤ failures self.new }
+        ensures failed { IsErrOf result ShelfFault.Failed ↔
+            (failures self.old < failures self.new) }
+        ensures no_memory { IsErrOf result ShelfFault.NoMemory →
+            IsQuiet moment left_since self.old self.new }
+        ensures done { IsTrue (honest self.old) →
+            (m : Shares) → Keeps moment left_since self.old m →
+            OnOk result (Keeps moment left_since self.new
+            (map.insert m (index, number) (rc_slice_items bytes))) }
+        ensures crash { IsTrue (honest self.old) →
+            (m : Shares) → Keeps moment left_since self.old m →
+            LeavesOnly moment left_since self.old self.new
+            (IsEither m (map.insert m (index, number) (rc_slice_items bytes))) };
+
+    /// Takes the share away that stands there, if one does. What a crash leaves is as for a put.
+    fn remove(&mut self, index: [u8; 16], number: u16) -> Result<(), ShelfFault>
+        ensures honest { honest self.new ≡ honest self.old }
+        ensures rises { failures self.old ≤ failures self.new }
+        ensures failed { IsErrOf result ShelfFault.Failed ↔
+            (failures self.old < failures self.new) }
+        ensures no_memory { IsErrOf result ShelfFault.NoMemory →
+            IsQuiet moment left_since self.old self.new }
+        ensures done { IsTrue (honest self.old) →
+            (m : Shares) → Keeps moment left_since self.old m →
+            OnOk result (Keeps moment left_since self.new (map.remove m (index, number))) }
+        ensures crash { IsTrue (honest self.old) →
+            (m : Shares) → Keeps moment left_since self.old m →
+            LeavesOnly moment left_since self.old self.new
+            (IsEither m (map.remove m (index, number))) };
+
+    /// What a later crash might have left, one from an earlier moment on might have.
+    ghost narrows: { (shelf : Self) (t u : ℕ) (c : Shares) → t ≤ u →
+        left_since shelf u c → left_since shelf t c };
+}
