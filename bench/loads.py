@@ -205,6 +205,7 @@ def cut(program):
         count = 0
         while time.monotonic() < over:
             stream = server.connect()
+            stream.settimeout(0.05)
             sent = chance.choice([request, put, SMALL * 50, b"GET /uri/%00 HTTP/1.1\r\n\r\n", b"\x00" * 20_000])
             try:
                 stream.sendall(sent[:chance.randrange(1, len(sent) + 1)])

@@ -43,6 +43,15 @@ class Server:
         with open("/proc/%d/status" % self.process.pid) as status:
             return int(re.search(r"VmRSS:\s+(\d+) kB", status.read()).group(1)) * 1024
 
+    def held(self):
+        """How many bytes of shares the stores hold."""
+        with socket.create_connection((self.control[0], int(self.control[1])), timeout=30) as stream:
+            stream.sendall(b"GET /metrics HTTP/1.1\r\nHost: g\r\n\r\n")
+            text = b""
+            while got := stream.recv(65536):
+                text += got
+        return sum(int(number) for number in re.findall(rb"wozhinnam_store_held_bytes\{.*?\} (\d+)", text))
+
     def stop(self):
         with socket.create_connection((self.control[0], int(self.control[1])), timeout=30) as stream:
             stream.sendall(b"POST /stop HTTP/1.1\r\nHost: g\r\n\r\n")
@@ -196,13 +205,13 @@ class Soak:
         marks = []
         for at in range(count):
             if at == count // 10:
-                marks.append(self.server.memory())
+                marks.append((self.server.memory(), self.server.held()))
             self.chance.choice(kinds)(self.chance.choice(self.clients))
             if len(self.listed) != len(self.files):
                 self.listed = list(self.files.items())
-        marks.append(self.server.memory())
-        print("%d requests, each answered right; %d files and %d directories; memory after a tenth %d KiB, at the end %d KiB" % (
-            count, len(self.files), len(self.directories), marks[0] >> 10, marks[1] >> 10))
+        marks.append((self.server.memory(), self.server.held()))
+        print("%d requests, each answered right; %d files; memory after a tenth %d KiB, of which %d KiB are shares, at the end %d and %d KiB" % (
+            count, len(self.files), *(bytes_ >> 10 for mark in marks for bytes_ in mark)))
         self.wants(self.server.stop() == 0, "the end", "status")
 
 
