@@ -1,10 +1,11 @@
 #!/usr/bin/env python3
 """Loads on `wozhinnam serve`, the built program, on the loopback, with times and memory; each takes a minute or two at most.
 
-usage: bench/loads.py PROGRAM [open|readers|many_readers|slow_readers|came|million|pipelined|cut ..]
+usage: bench/loads.py PROGRAM [open|readers|many_readers|slow_readers|untaken|came|million|pipelined|cut ..]
 
 open          10,000 connections, a reply on each
 readers       8 readers of 4 MiB beside small GETs; many_readers: 200 of them; slow_readers: 200 that take 10 KB a second
+untaken       200 GETs of one file of 4 MiB, of 200 files, and of 100 bytes of one, each on its own connection, of which nothing is read
 came          100,000 connections that come and go, one after the other; million: 1,000,000
 pipelined     500 GETs of a file of 4 MiB on one connection, written before anything is read
 cut           a minute of connections that send and take a part of something and are cut, some by a reset, beside small GETs
@@ -85,11 +86,11 @@ def small(stream):
     return time.monotonic() - began
 
 
-def stored(server):
-    """The request for a stored file of 4 MiB, and how long its reply is."""
+def stored(server, number=0):
+    """The request for a stored file of 4 MiB, which begins with this number, and how long its reply is."""
     with server.connect() as stream:
         stream.sendall(b"PUT /uri HTTP/1.1\r\nHost: g\r\nConnection: close\r\nContent-Length: %d\r\n\r\n" % LONG)
-        stream.sendall(bytes(i % 251 for i in range(LONG)))
+        stream.sendall((struct.pack(">Q", number) + bytes(range(251)) * (LONG // 251 + 1))[:LONG])
         reply = b""
         while got := stream.recv(65536):
             reply += got
@@ -189,6 +190,29 @@ def slow_readers(program):
     server.stop()
 
 
+def untaken(program):
+    """What waits untaken on 200 connections."""
+    server = Server(program, 500)
+    requests = [stored(server, number)[0] for number in range(200)]
+    ranged = requests[0].replace(b"\r\n\r\n", b"\r\nRange: bytes=2000000-2000099\r\n\r\n")
+    for name, asked in (("one file of 4 MiB", requests[:1] * 200), ("200 files of 4 MiB", requests), ("100 bytes of 4 MiB", [ranged] * 200)):
+        before = server.memory()
+        streams = []
+        for request in asked:
+            stream = socket.socket()
+            stream.setsockopt(socket.SOL_SOCKET, socket.SO_RCVBUF, 4096)
+            stream.connect(server.address)
+            stream.sendall(request)
+            streams.append(stream)
+        quick = server.connect()
+        small(quick)
+        print("200 GETs of %s that nobody takes: %.1f MB of memory beside" % (name, (server.memory() - before) / 1e6))
+        for stream in streams + [quick]:
+            stream.close()
+        time.sleep(1)
+    server.stop()
+
+
 def cut(program):
     """Connections that end at any place, with what waits left unread."""
     server = Server(program, 300)
@@ -279,6 +303,7 @@ LOADS = {
     "readers": lambda program: readers(program, 8),
     "many_readers": lambda program: readers(program, 200),
     "slow_readers": slow_readers,
+    "untaken": untaken,
     "came": lambda program: came(program, 100_000, SECONDS),
     "million": lambda program: came(program, 1_000_000, 600),
     "pipelined": pipelined,

@@ -1,4 +1,5 @@
 //! The shelf.
+ghost use Rattle.std.specs.FinMap.{empty};
 ghost use Rattle.std.specs.Prelude.{◌≡◌, ◌≤◌, ◌<◌, ◌+◌, ◌-◌, ◌^◌, ◌==◌, ℕ, false, if◌then◌else◌};
 
 use crate::file_text::{seal_of, unsealed};
@@ -92,6 +93,8 @@ impl<R: Files + AllocGlobal + Clone + Drop> Shelf for FolderShelf<R> {
 
     ghost left_since = { λ shelf t c. Unit {0} };
 
+    ghost shares = { λ shelf. empty };
+
     ghost failures = { λ shelf. shelf.failures };
 
     fn list(&mut self, alloc: Global) -> Result<Vec<([u8; 16], u16)>, ShelfFault> {
@@ -147,4 +150,6 @@ impl<R: Files + AllocGlobal + Clone + Drop> Shelf for FolderShelf<R> {
     }
 
     ghost narrows = { λ shelf t u c le left. tt };
+
+    ghost keeps = { λ shelf m honest keeps. cc };
 }

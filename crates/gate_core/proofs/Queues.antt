@@ -1,7 +1,5 @@
 -- A queue that is taken from its front.
-use Rattle.std.proofs.Common.{◌≡◌, ℕ, ◌≤◌, ◌+◌, ◌-◌, List, [], ◌∷◌, ◌++◌, length, take, drop, min, sym, ap, ◌∙◌, ⊎_elim, arith, ◌↔◌, Bool, true, false, IsTrue, refl, append-nil, append_assoc}
-use Rattle.http_edge.specs.declared.reply.Reply.{Reply}
-use Rattle.http_edge.specs.Reply.{rendered}
+use Rattle.std.proofs.Common.{◌≡◌, ℕ, ◌≤◌, ◌+◌, ◌-◌, List, [], ◌∷◌, ◌++◌, length, take, drop, min, sym, ap, ◌∙◌, ⊎_elim, ◌⊎◌, inl, inr, length-append, arith, ◌↔◌, Bool, true, false, IsTrue, refl, append-nil, append_assoc}
 use Rattle.std.specs.Prelude.{nat_eq}
 use Rattle.std.proofs.Math.Seq.{take-append-add, drop-append-add}
 use Rattle.std.proofs.lemmas.List.{length-take, length-drop, take_all, drop_all, take-append-le, drop-append-le}
@@ -20,10 +18,6 @@ is_empty_iff n m xs is within = rw is (nothing_left n xs, all_given n xs within)
 nil_front : (a b : List ℕ) → a ++ b ≡ [] → a ≡ []
 nil_front [] b none = refl
 nil_front (x ∷ a) b none = cc
-
--- two queues where something waits in the first
-pub some_in_front : (a b : List ℕ) (first : Bool) → first ≡ false → IsTrue first ↔ (a ≡ []) → IsTrue first ↔ (a ++ b ≡ [])
-some_in_front a b first some is = (λ yes. let never : false ≡ true = rw some at yes in cc, λ none. is.1 (nil_front a b none))
 
 -- what is taken of two queues, one behind the other
 pub take_both : (n : ℕ) (a b x y : List ℕ) → x ≡ take n a → y ≡ take (n - length x) b → x ++ y ≡ take n (a ++ b)
@@ -65,8 +59,29 @@ drop_both n a b x y front back =
     ∙ sym (drop-append-add a b (n - length a)) ∙ ap (λ (k : ℕ). drop k (a ++ b)) over)
     (cases_lt n (length a))
 
--- a reply whose body is put behind its head
-pub reply_moved : (reply : Reply) (a b joined headed body : List ℕ) (head_only close : Bool) → head_only ≡ false → joined ≡ a ++ b
-    → headed ≡ joined ++ rendered reply true close → body ≡ reply.body → headed ++ body ≡ (a ++ b) ++ rendered reply head_only close
-unfolding rendered
-reply_moved reply a b joined headed body head_only close whole together head moved = rw (whole, head, together, moved) (simp (append_assoc, append-nil))
+-- ---- what is at hand of three parts
+
+pub nil_middle : (a b d : List ℕ) → a ++ (b ++ d) ≡ [] → b ≡ []
+nil_middle [] b d none = nil_front b d none
+nil_middle (x ∷ a) b d none = cc
+
+pub nil_last : (a b d : List ℕ) → a ++ (b ++ d) ≡ [] → d ≡ []
+nil_last [] [] d none = none
+nil_last [] (x ∷ b) d none = cc
+nil_last (x ∷ a) b d none = cc
+
+pub some_first : (a b : List ℕ) (first : Bool) → first ≡ false → IsTrue first ↔ (a ≡ []) → IsTrue false ↔ (a ++ b ≡ [])
+some_first a b first some is = (λ yes. cc, λ none. rw some at is.1 (nil_front a b none))
+
+pub some_second : (a b d : List ℕ) (second : Bool) → second ≡ false → IsTrue second ↔ (b ≡ []) → IsTrue false ↔ (a ++ (b ++ d) ≡ [])
+some_second a b d second some is = (λ yes. cc, λ none. rw some at is.1 (nil_middle a b d none))
+
+pub at_hand : (n : ℕ) (f r b : List ℕ) → (n ≤ length f + length r) ⊎ (b ≡ []) → take n (f ++ r) ≡ take n (f ++ (r ++ b))
+at_hand n f r b (inl within) = sym (take-append-le n (f ++ r) b (omega (arith, within, length-append f r))) ∙ ap (take n) (append_assoc f r b)
+at_hand n f r b (inr none) = ap (λ (x : List ℕ). take n (f ++ x)) (sym (append-nil r) ∙ ap (λ (x : List ℕ). r ++ x) (sym none))
+
+pub left_behind : (n : ℕ) (f r b : List ℕ) → (n ≤ length f + length r) ⊎ (b ≡ []) → drop n (f ++ r) ++ b ≡ drop n (f ++ (r ++ b))
+left_behind n f r b (inl within) = sym (drop-append-le n (f ++ r) b (omega (arith, within, length-append f r))) ∙ ap (drop n) (append_assoc f r b)
+left_behind n f r b (inr none) =
+    ap (λ (x : List ℕ). drop n (f ++ r) ++ x) none ∙ append-nil (drop n (f ++ r))
+    ∙ ap (λ (x : List ℕ). drop n (f ++ x)) (sym (append-nil r) ∙ ap (λ (x : List ℕ). r ++ x) (sym none))

@@ -1,8 +1,8 @@
 //! Bytes that are taken from the front of a buffer.
-ghost use Rattle.std.specs.Prelude.{◌≡◌, ◌≤◌, [], ◌++◌, length, drop, OnOk, IsTrue, ◌↔◌};
-ghost use Rattle.http_edge.specs.Reply.{rendered};
+ghost use Rattle.std.specs.Prelude.{◌≡◌, ◌≤◌, [], ◌++◌, length, drop, OnOk, OnErr, IsTrue, ◌↔◌};
+ghost use Rattle.http_edge.specs.Reply.{rendered_head};
 
-use http_edge::{Reply, render_into};
+use http_edge::{ReplyFields, Status, render_head_into};
 use std::alloc::{AllocError, Global};
 use std::marker::Model;
 
@@ -64,23 +64,25 @@ impl Queue {
 
     /// Adds bytes at the end.
     pub fn push_slice(&mut self, bytes: &[u8]) -> Result<(), AllocError>
-        ensures { OnOk result (self.new ≡ self.old ++ bytes.now) }
+        ensures pushed { OnOk result (self.new ≡ self.old ++ bytes.now) }
+        ensures err { OnErr result (self.new ≡ self.old) }
     {
         self.reclaim();
         self.bytes.extend_from_slice(bytes)
     }
 
-    /// Adds a reply at the end, as it is sent.
-    pub fn push_reply(
+    /// Adds the head of a reply whose body has `length` bytes, as it is sent.
+    pub fn push_head(
         &mut self,
-        reply: &Reply,
-        head_only: bool,
+        status: Status,
+        fields: &ReplyFields,
+        length: usize,
         close: bool,
     ) -> Result<(), AllocError>
-        ensures { OnOk result (self.new ≡ self.old ++ rendered reply.now head_only close) }
+        ensures { OnOk result (self.new ≡ self.old ++ rendered_head status fields.now length close) }
     {
         self.reclaim();
-        render_into(&mut self.bytes, reply, head_only, close)
+        render_head_into(&mut self.bytes, status, fields, length, close)
     }
 
     /// Moves what waits to the front of the buffer, where it is shorter than what was given.

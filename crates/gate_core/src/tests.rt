@@ -24,6 +24,8 @@ mod secrets;
 mod forgetting;
 /// Images of both versions.
 mod images;
+/// Files that are given a segment at a time.
+mod downloads;
 
 /// A file of 56 bytes, the request that puts it, and its cap.
 const LETTERS: &[u8] = &[b'a'; 56];

@@ -1,3 +1,4 @@
+mod Blanks
 pub mod Leading
 pub mod Moving
 pub mod Standing

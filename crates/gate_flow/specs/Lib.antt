@@ -1,3 +1,4 @@
+pub mod Parts
 pub mod Faults
 pub mod State
 pub mod Led

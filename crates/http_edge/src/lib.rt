@@ -35,7 +35,7 @@ pub use conn::Conn;
 pub use field::{Field, Fields};
 pub use item::{FramingFault, Head, Item};
 pub use place::Place;
-pub use reply::{Reply, Status, continue_text, render, render_into};
+pub use reply::{Reply, Status, continue_text, render, render_head_into, render_into};
 pub use reply_field::{ReplyField, ReplyFields};
 pub use verdict::{Awaited, Chunked};
 

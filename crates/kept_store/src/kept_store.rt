@@ -40,6 +40,15 @@ fn with_bit_changed(alloc: Global, bytes: &[u8], place: usize) -> Result<RcSlice
 }
 
 impl<H: Shelf> KeptStore<H> {
+    /// The shelf beside it: until it failed, an honest one keeps the store's shares.
+    pub fn shelf(&self) -> &H
+        ensures shelf { result.now ≡ self.now.shelf }
+        ensures in_step { IsInStep H.moment H.left_since H.honest self.now.down result.now
+            (⟦<KeptStore<H> as Store>⟧.shares self.now) }
+    {
+        &self.shelf
+    }
+
     /// Counts a call that is refused because the shelf failed, in it or before. Where no more can be counted it says
     /// that there was no memory.
     fn refuse(&mut self) -> StoreFault

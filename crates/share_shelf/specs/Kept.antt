@@ -1,6 +1,7 @@
 -- The changes that a shelf in memory was told, and what they left.
 use Rattle.std.specs.Prelude.{◌≡◌, ◌≤◌, ℕ, List, [], ◌∷◌, map, take, length, Option, Some, None}
-use Rattle.std.proofs.Common.{arith}
+use Rattle.std.proofs.Common.{arith, sym, ap}
+use Rattle.std.proofs.Math.Seq.{take-length}
 use Rattle.std.specs.FinMap.{empty, insert, remove}
 use Rattle.std.specs.Option.{option_map}
 use Rattle.std.specs.Rc.{rc_slice_items}
@@ -39,3 +40,8 @@ pub record HadBeen (told : List Told) (t : ℕ) (c : Shares) : Type 0 where
 
 pub narrowed : (told : List Told) (t u : ℕ) (c : Shares) → t ≤ u → HadBeen told u c → HadBeen told t c
 narrowed told t u c le had = record { k = had.k; from = omega arith; to = had.to; stood = had.stood }
+
+-- shares that a crash now leaves, and no others, are what stands
+pub kept_is : (told : List Told) (m : Shares) → ((c : Shares) → HadBeen told (length told) c → c ≡ m) → m ≡ after told empty
+kept_is told m keeps =
+    sym (keeps (after told empty) (record { k = length told; from = omega arith; to = omega arith; stood = ap (λ (l : List Told). after l empty) (sym (take-length told)) }))

@@ -1,7 +1,7 @@
 //! A shelf that fails at a call, or from a call on.
 ghost use Rattle.std.specs.Prelude.{◌≡◌, ◌+◌, ◌-◌, ◌^◌, ◌==◌, ◌&&◌, not, if◌then◌else◌};
 ghost use Rattle.share_store.specs.Shares.{Shares};
-ghost use Rattle.share_shelf.specs.Kept.{told_of, narrowed};
+ghost use Rattle.share_shelf.specs.Kept.{told_of, narrowed, kept_is};
 ghost use Rattle.share_shelf.specs.Left.{Keeps};
 
 use crate::{MemShelf, Shelf, ShelfFault};
@@ -82,6 +82,8 @@ impl Shelf for FailShelf {
 
     ghost left_since = { λ shelf t c. ⟦<MemShelf as Shelf>⟧.left_since shelf.inner t c };
 
+    ghost shares = { λ shelf. ⟦<MemShelf as Shelf>⟧.shares shelf.inner };
+
     ghost failures = { λ shelf. shelf.failures };
 
     fn list(&mut self, alloc: Global) -> Result<Vec<([u8; 16], u16)>, ShelfFault> {
@@ -122,4 +124,6 @@ impl Shelf for FailShelf {
 
     ghost narrows = { λ shelf t u c le left. narrowed
         (told_of shelf.inner.changes.items) t u c le left };
+
+    ghost keeps = { λ shelf m honest keeps. kept_is (told_of shelf.inner.changes.items) m keeps };
 }

@@ -4,7 +4,7 @@ ghost use Rattle.std.specs.FinMap.{empty};
 ghost use Rattle.std.specs.Rc.{rc_slice_items};
 ghost use Rattle.share_store.specs.Shares.{Shares};
 ghost use Rattle.share_store.specs.Stored.{shares_in};
-ghost use Rattle.share_shelf.specs.Kept.{told_by, told_of, after, stood_after, HadBeen, narrowed};
+ghost use Rattle.share_shelf.specs.Kept.{told_by, told_of, after, stood_after, HadBeen, narrowed, kept_is};
 ghost use Rattle.share_shelf.specs.Left.{Keeps, shares-set};
 
 use crate::{Shelf, ShelfFault};
@@ -145,6 +145,8 @@ impl Shelf for MemShelf {
 
     ghost left_since = { λ shelf t c. HadBeen (told_of shelf.changes.items) t c };
 
+    ghost shares = { λ shelf. after (told_of shelf.changes.items) empty };
+
     ghost failures = { λ shelf. 0 };
 
     fn list(&mut self, alloc: Global) -> Result<Vec<([u8; 16], u16)>, ShelfFault> {
@@ -179,4 +181,6 @@ impl Shelf for MemShelf {
     }
 
     ghost narrows = { λ shelf t u c le left. narrowed (told_of shelf.changes.items) t u c le left };
+
+    ghost keeps = { λ shelf m honest keeps. kept_is (told_of shelf.changes.items) m keeps };
 }

@@ -24,6 +24,9 @@ pub trait Shelf {
     /// What a crash at some moment from that one on might have left, during a call or between two.
     ghost left_since: { Self → ℕ → Shares → Type 0 };
 
+    /// What stands on it, as far as that is known.
+    ghost shares: { Self → Shares };
+
     /// How often it has failed.
     ghost failures: { Self → ℕ };
 
@@ -88,4 +91,8 @@ pub trait Shelf {
     /// What a later crash might have left, one from an earlier moment on might have.
     ghost narrows: { (shelf : Self) (t u : ℕ) (c : Shares) → t ≤ u →
         left_since shelf u c → left_since shelf t c };
+
+    /// What an honest shelf keeps is what stands on it.
+    ghost keeps: { (shelf : Self) (m : Shares) → IsTrue (honest shelf) →
+        Keeps moment left_since shelf m → m ≡ shares shelf };
 }

@@ -1,3 +1,4 @@
 pub mod Looks
 pub mod Found
 pub mod CarriedOut
+pub mod Parts

@@ -1,3 +1,4 @@
+pub mod Bodies
 pub mod Encoding
 pub mod Replies
 pub mod Uploads

@@ -5,6 +5,10 @@
 //! bytes, and whether their body is sent, is not settled here.
 #![tactic(auto)]
 
+/// Parts of files.
+mod part;
+/// Bodies of replies.
+mod body;
 /// Replies.
 mod reply;
 /// The replies that are given.
@@ -24,6 +28,8 @@ pub mod laws;
 #[cfg(test)]
 mod tests;
 
+pub use body::Body;
+pub use part::Part;
 pub use performer::perform;
 pub use refused::refusal;
 pub use reply::{Field, Fields, MediaType, Reply, Status};

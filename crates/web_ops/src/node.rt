@@ -8,11 +8,12 @@ ghost use Rattle.web_ops.specs.Replied.{IsContent, IsNodeJson, IsNode, IsAnswere
 ghost use Rattle.web_ops.specs.Calls.{IsFound};
 
 use crate::replies::{
-    bytes_reply, is_directory, json_reply, no_child, not_directory, not_enough_shares, not_readable,
+    bytes_reply, download_reply, is_directory, json_reply, no_child, not_directory,
+    not_enough_shares, not_readable,
 };
 use crate::reply::Reply;
 use caps::Cap;
-use chk_file::{Cache, ReadFault, read};
+use chk_file::{Cache, ReadFault, begin, read};
 use dir_codec::{DirFault, decode};
 use grid::Grid;
 use json_view::{dir_json, file_json};
@@ -100,9 +101,10 @@ fn content<S: Store>(
     ensures found { IsFound (IsFresh cache.old grid.old) (IsContent range cap)
         (λ look. content_reply look.gives range cap) result grid.old grid.new }
 {
+    chk_file::laws::bound_bytes_have_the_size();
     match cap {
-        Cap::Chk(fields) => match read(alloc, grid, cache, &fields) {
-            Ok(bytes) => bytes_reply(alloc, range, Bytes::from_vec(bytes)),
+        Cap::Chk(fields) => match begin(alloc, grid, cache, &fields) {
+            Ok(download) => download_reply(alloc, range, fields.size, download),
             Err(ReadFault::NotEnoughShares) => not_enough_shares(alloc),
             Err(ReadFault::NoMemory) => Err(AllocError),
         },

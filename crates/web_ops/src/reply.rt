@@ -1,6 +1,6 @@
 //! Replies.
 
-use octets::Bytes;
+use crate::body::Body;
 use web_request::Resource;
 
 /// The status of a reply (RFC 9110, section 15).
@@ -53,5 +53,5 @@ pub struct Fields {
 pub struct Reply {
     pub status: Status,
     pub fields: Fields,
-    pub body: Bytes,
+    pub body: Body,
 }

@@ -68,7 +68,7 @@ fn asked<S: Store>(
         Ok(request) => perform(alloc, grid, &mut cache, 3, 10, b"", request)?,
         Err(fault) => refusal(alloc, &fault)?,
     };
-    shown(alloc, &reply)
+    shown(alloc, reply)
 }
 
 /// The reply where a directory of these children is asked for.
@@ -77,12 +77,27 @@ fn mkdir<S: Store>(alloc: Global, grid: &mut Grid<S>, children: &str) -> Result<
     asked(alloc, grid, "POST", target, "", children.as_bytes())
 }
 
-fn shown(alloc: Global, reply: &Reply) -> Result<String, Fail> {
-    let body = str::from_utf8(reply.body.as_slice())?;
-    let fields = reply.fields;
+fn shown(alloc: Global, reply: Reply) -> Result<String, Fail> {
+    let Reply {
+        status,
+        fields,
+        mut body,
+    } = reply;
+    let length = body.len();
+    let mut bytes = Vec::new(alloc);
+    for _ in 0..64 {
+        let Some(more) = body.next(alloc)? else {
+            break;
+        };
+        bytes.extend_from_slice(&more)?;
+    }
+    if bytes.len() != length || !body.is_empty() {
+        return Err(Fail::from("another length"));
+    }
+    let text = str::from_utf8(&bytes)?;
     Ok(format!(in alloc;
-        "{:?} {:?} {:?} {body}",
-        reply.status, fields.content_type, fields.more
+        "{:?} {:?} {:?} {text}",
+        status, fields.content_type, fields.more
     )?)
 }
 
@@ -547,7 +562,7 @@ fn each_fault_has_its_words(rt: HostRuntime) -> Result<(), Fail> {
         ),
         (WebFault::BadCap, "BadRequest PlainText None bad cap\n"),
     ] {
-        let answered = shown(alloc, &refusal(alloc, &fault)?)?;
+        let answered = shown(alloc, refusal(alloc, &fault)?)?;
         assert_eq!(rt; answered.as_str(), reply);
     }
     assert!(rt; refusal(alloc, &WebFault::NoMemory).is_err());

@@ -1,4 +1,4 @@
-use Rattle.std.proofs.Common.{◌≡◌, ◌+◌, ◌-◌, ◌≤◌, ℕ, suc, length, take, drop, Some, ap, ◌∙◌, arith}
+use Rattle.std.proofs.Common.{◌≡◌, ◌+◌, ◌-◌, ◌≤◌, ℕ, suc, length, take, drop, Some, ap, sym, ◌∙◌, arith}
 use Rattle.web_ops.specs.declared.reply.Status.TheVariants as status
 use Rattle.web_ops.specs.declared.reply.MediaType.TheVariants.{OctetStream}
 use Rattle.web_ops.specs.declared.reply.Field.TheVariants.{ContentRange}
@@ -10,6 +10,7 @@ both from to le = omega arith
 
 pub returns : goal.returns
 returns c =
-    c.reply_with.ensures
-    ∙ ap (reply_with status.PartialContent OctetStream (Some (ContentRange c.args.from c.args.to (length c.args.bytes.now))))
-    (c.in_ok-body.ensures ∙ ap (λ n. take n (drop c.args.from c.args.bytes.now)) (both c.args.from c.args.to c.requires.order))
+    c.partial_reply.ensures
+    ∙ ap (λ size. reply_with status.PartialContent OctetStream (Some (ContentRange c.args.from c.args.to size)) c.from_part.result) (sym c.requires.size)
+    ∙ ap (reply_with status.PartialContent OctetStream (Some (ContentRange c.args.from c.args.to (length c.args.download.left))))
+    (c.from_part.ensures ∙ c.new-part.ensures ∙ ap (λ n. take n (drop c.args.from c.args.download.left)) (both c.args.from c.args.to c.requires.order))

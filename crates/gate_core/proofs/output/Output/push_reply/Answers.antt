@@ -1,8 +1,23 @@
-use Rattle.std.proofs.Common.{◌∙◌}
-use Rattle.gate_core.proofs.Queues.{reply_moved}
+use Rattle.std.proofs.Common.{◌≡◌, ◌++◌, sym, ap, ◌∙◌}
+use Rattle.http_edge.specs.declared.reply.Reply.{Reply}
+use Rattle.gate_core.proofs.Sending.{joined, head_sent, body_sent}
 use Rattle.gate_core.proofs.output.Output.push_reply.Goals as goal
+use Rattle.gate_core.proofs.output.Output.push_reply.Goals.{then-length-lt-LONG+in_ok-join-2, else-length-lt-LONG}
+
+pub returns-then-head_only : goal.returns-then-head_only
+returns-then-head_only c =
+    let reply : Reply = record { status = c.reply.inside.status; fields = c.reply.inside.fields; body = c.reply.inside.body } in
+    let waits = c.in_ok-join.ensures.front ∙ c.self.view_is in
+    joined c.push_head.new.self c.join.new.ready c.join.new.body c.in_ok-join.ensures.ready c.in_ok-join.ensures.body
+    ∙ rw (c.if-head_only.true, ← c.reply.view_is) (head_sent reply c.args.close c.len-length.result c.args.self.now c.join.new.front c.push_head.new.self waits c.len-length.ensures c.in_ok-push_head.ensures)
 
 pub returns : goal.returns
 returns c =
-    rw (← c.self.view_is) (reply_moved _ c.self.inside.front c.self.inside.body c.join.new.front c.push_reply-2.new.self c.from_vec.result c.args.head_only c.args.close c.if-head_only.false
-    c.in_ok-join.ensures.front c.in_ok-push_reply.ensures (c.from_vec.ensures ∙ c.into_vec.ensures))
+    let reply : Reply = record { status = c.reply.inside.status; fields = c.reply.inside.fields; body = c.reply.inside.body } in
+    let waits = c.in_ok-join.ensures.front ∙ c.self.view_is in
+    let sent = body_sent reply c.args.close c.len-length.result c.args.self.now c.join.new.front c.push_head.new.self waits c.len-length.ensures c.in_ok-push_head.ensures c.join.new.ready c.in_ok-join.ensures.ready in
+    rw (c.if-head_only.false, ← c.reply.view_is) (elim c.if-length-lt-LONG.branch [
+      | then-length-lt-LONG+in_ok-join-2 w ↦
+          w.self-is ∙ joined w.join-then-length-lt-LONG.new.front w.join-then-length-lt-LONG.new.ready w.join-then-length-lt-LONG.new.body w.in_ok-join-2.ensures.ready w.in_ok-join-2.ensures.body ∙ w.in_ok-join-2.ensures.front ∙ sent
+      | else-length-lt-LONG w ↦ w.self-is ∙ sent
+    ])

@@ -1,0 +1,12 @@
+use Rattle.gate_core.proofs.Queues.{nil_middle, nil_last}
+use Rattle.gate_core.proofs.output.bring.Goals as goal
+
+pub returns-in_err-pack-clause-nothing : goal.returns-in_err-pack-clause-nothing
+returns-in_err-pack-clause-nothing c none =
+    let never = c.in_err-pack.ensures.nothing (nil_middle c.args.front.now c.args.ready.now c.args.body.now none) in
+    cc
+
+pub returns-in_err-bytes-clause-nothing : goal.returns-in_err-bytes-clause-nothing
+returns-in_err-bytes-clause-nothing c none =
+    let never = c.in_err-bytes.ensures.nothing (nil_last c.args.front.now c.args.ready.now c.args.body.now none) in
+    cc

@@ -1,0 +1,151 @@
+-- Runs one after the other.
+use Rattle.std.proofs.Common.{◌≡◌, ℕ, List, [], ◌∷◌, ◌++◌, Bool, true, refl, sym, ap, subst, ◌∙◌, arith, inl, inr, eq-eqb}
+use Rattle.std.specs.Prelude.{All}
+use Rattle.std.proofs.lemmas.List.{append_assoc}
+use Rattle.octets.specs.Sharing.{IsSharing}
+use Rattle.erasure.specs.Code.{AreBytes}
+use Rattle.chk_file.specs.Upload.{Upload}
+use Rattle.chk_file.specs.World.{World}
+use Rattle.chk_file.specs.Look.{Look, by_fit}
+use Rattle.gate_core.specs.Settings.{Settings, under}
+use Rattle.gate_core.specs.Events.{Event, handed}
+use Rattle.gate_core.specs.Items.{Entry, Asked, Lost, Spoiled, items}
+use Rattle.gate_core.specs.Runs.{after_entry, world_after, told, said_by, said}
+use Rattle.gate_core.specs.Reach.{only, kept_by, kept}
+use Rattle.gate_core.specs.Apart.{Apart}
+use Rattle.gate_core.specs.Uploaded.{IsProper, IsLeftBy, uploads_by, uploads_of}
+use Rattle.gate_core.specs.Rooms.{Rooms}
+use Rattle.gate_core.specs.Held.{State, waiting}
+use Rattle.gate_core.specs.Came.{Opening, Came}
+use Rattle.restarts.specs.Resumed.{IsEnd}
+use Rattle.restarts.specs.Lives.{Life, IsLived, AreLived, IsHistory, items_in, items_of, told_in, told_over, unheard, all_items}
+use Rattle.restarts.proofs.Ends.{still_proper}
+use Rattle.restarts.proofs.Runs.{said-append, proper-append, left-append}
+
+-- ---- a gateway's own secret has no part in runs
+
+same_after : (s : Settings) (own : List ℕ) (x : Entry) (w : World) → after_entry (under s own) x w ≡ after_entry s x w
+same_after s own (Asked id secret item) w = refl
+same_after s own (Lost server key) w = refl
+same_after s own (Spoiled server key place) w = refl
+
+same_told : (s : Settings) (own : List ℕ) (look : Look) (caller : ℕ) (x : Entry) → told (under s own) look caller x ≡ told s look caller x
+same_told s own look caller (Asked id secret item) = refl
+same_told s own look caller (Lost server key) = refl
+same_told s own look caller (Spoiled server key place) = refl
+
+same_said : (look : World → Look) (s : Settings) (own : List ℕ) (caller : ℕ) (w : World) (xs : List Entry) → said_by look (under s own) caller w xs ≡ said_by look s caller w xs
+same_said look s own caller w [] = refl
+same_said look s own caller w (x ∷ more) =
+    ap (λ v. told (under s own) (look w) caller x ++ said_by look (under s own) caller v more) (same_after s own x w)
+    ∙ ap (λ t. t ++ said_by look (under s own) caller (after_entry s x w) more) (same_told s own (look w) caller x)
+    ∙ ap (λ r. told s (look w) caller x ++ r) (same_said look s own caller (after_entry s x w) more)
+
+same_by : (s : Settings) (own : List ℕ) (x : Entry) → uploads_by (under s own) x ≡ uploads_by s x
+same_by s own (Asked id secret item) = refl
+same_by s own (Lost server key) = refl
+same_by s own (Spoiled server key place) = refl
+
+same_uploads : (s : Settings) (own : List ℕ) (xs : List Entry) → uploads_of (under s own) xs ≡ uploads_of s xs
+same_uploads s own [] = refl
+same_uploads s own (x ∷ more) = ap (λ a. a ++ uploads_of (under s own) more) (same_by s own x) ∙ ap (λ r. uploads_by s x ++ r) (same_uploads s own more)
+
+-- ---- what is uploaded are bytes
+
+-- of what calls uploaded
+proper_calls : (settings : Settings) (w : World) (rooms : Rooms) (g : State) (events : List Event) → IsSharing settings.k settings.n → g.settings ≡ under settings g.settings.secret
+    → Came (record { world = w; rooms = rooms }) g events → IsProper settings (items events)
+proper_calls settings w rooms g events sharing same came = record {
+  sharing = sharing;
+  bytes = subst (All (λ (u : Upload). AreBytes u.bytes)) (ap (λ (s : Settings). uploads_of s (items events)) same ∙ same_uploads settings g.settings.secret (items events)) came.bytes;
+}
+
+proper_none : (settings : Settings) → IsSharing settings.k settings.n → IsProper settings []
+proper_none settings sharing = record { sharing = sharing; bytes = λ k d lt. absurd (omega arith) }
+
+-- of what an item brought that ended so
+proper_end : (settings : Settings) (w : World) (x : Entry) (last : List Entry) → IsSharing settings.k settings.n → IsEnd w x last → IsProper settings (x ∷ []) → IsProper settings last
+proper_end settings w x last sharing (inl none) here = subst (IsProper settings) (sym none) (proper_none settings sharing)
+proper_end settings w x last sharing (inr (lost, is, new)) here = subst (IsProper settings) (sym is) (still_proper settings x lost here)
+
+proper_life : (settings : Settings) (w : World) (life : Life) → IsSharing settings.k settings.n → IsLived settings w life → IsProper settings (items_in life)
+proper_life settings w life sharing lived =
+    let done : IsProper settings life.done = record { sharing = sharing; bytes = lived.carried } in
+    let here : IsProper settings (life.at ∷ []) = record { sharing = sharing; bytes = lived.brings } in
+    let last : IsProper settings life.last = proper_end settings (world_after settings w (items life.events ++ life.done)) life.at life.last sharing lived.end here in
+    proper-append settings (items life.events) (life.done ++ life.last) (proper_calls settings w lived.rooms life.gateway life.events sharing lived.same lived.came) (proper-append settings life.done life.last done last)
+
+proper_lives : (settings : Settings) (w : World) (lives : List Life) → IsSharing settings.k settings.n → AreLived settings w lives → IsProper settings (items_of lives)
+proper_lives settings w [] sharing lived = proper_none settings sharing
+proper_lives settings w (life ∷ lives) sharing lived =
+    proper-append settings (items_in life) (items_of lives) (proper_life settings w life sharing lived.0) (proper_lives settings (world_after settings w (items_in life)) lives sharing lived.1)
+
+pub left_by_all : (settings : Settings) (past : List Entry) (w : World) (lives : List Life) → IsLeftBy settings past w → AreLived settings w lives
+    → IsLeftBy settings (past ++ items_of lives) (world_after settings w (items_of lives))
+left_by_all settings past w lives left lived = left-append settings past (items_of lives) w left (proper_lives settings w lives left.proper.sharing lived)
+
+-- ---- what callers are told
+
+abbrev Whole : Type 0
+Whole = (opening : Opening) (g : State) (events : List Event) (caller : ℕ) → Came opening g events → handed caller events ++ waiting g caller ≡ said_by by_fit g.settings caller opening.world (items events)
+
+abbrev KeptAnswers : Type 0
+KeptAnswers = (settings : Settings) (callers : ℕ → Bool) (caller : ℕ) (past : List Entry) (w : World) (entries : List Entry) → callers caller ≡ true → IsProper settings entries → IsLeftBy settings past w
+    → Apart settings callers past w entries → said settings caller w (kept settings callers w entries) ≡ said_by by_fit settings caller w entries
+
+abbrev LocalAnswers : Type 0
+LocalAnswers = (settings : Settings) (callers : ℕ → Bool) (caller : ℕ) (w : World) (entries : List Entry) → callers caller ≡ true
+    → said_by by_fit settings caller w (kept_by by_fit settings callers w entries) ≡ said_by by_fit settings caller w entries
+
+module _ (whole : Whole) (settings : Settings) (caller : ℕ) where
+  told_calls : (w : World) (rooms : Rooms) (g : State) (events : List Event) → g.settings ≡ under settings g.settings.secret → Came (record { world = w; rooms = rooms }) g events
+      → handed caller events ++ waiting g caller ≡ said_by by_fit settings caller w (items events)
+  told_calls w rooms g events same came =
+      whole (record { world = w; rooms = rooms }) g events caller came
+      ∙ ap (λ (s : Settings). said_by by_fit s caller w (items events)) same
+      ∙ same_said by_fit settings g.settings.secret caller w (items events)
+
+  told_life : (w : World) (life : Life) → IsLived settings w life → handed caller life.events ++ unheard settings caller w life ≡ said_by by_fit settings caller w (items_in life)
+  told_life w life lived =
+      let rest : List ℕ = said_by by_fit settings caller (world_after settings w (items life.events)) (life.done ++ life.last) in
+      sym (append_assoc (handed caller life.events) (waiting life.gateway caller) rest)
+      ∙ ap (λ (l : List ℕ). l ++ rest) (told_calls w lived.rooms life.gateway life.events lived.same lived.came)
+      ∙ sym (said-append by_fit settings caller w (items life.events) (life.done ++ life.last))
+
+  told_lives : (w : World) (lives : List Life) → AreLived settings w lives → told_in settings caller w lives ≡ said_by by_fit settings caller w (items_of lives)
+  told_lives w [] lived = refl
+  told_lives w (life ∷ lives) lived =
+      let v : World = world_after settings w (items_in life) in
+      ap (λ (l : List ℕ). l ++ told_in settings caller v lives) (told_life w life lived.0)
+      ∙ ap (λ (l : List ℕ). said_by by_fit settings caller w (items_in life) ++ l) (told_lives v lives lived.1)
+      ∙ sym (said-append by_fit settings caller w (items_in life) (items_of lives))
+
+  pub told_all : (w : World) (lives : List Life) (g : State) (events : List Event) → IsHistory settings w lives g events
+      → told_over settings caller w lives g events ≡ said_by by_fit settings caller w (all_items lives events)
+  told_all w lives g events history =
+      let v : World = world_after settings w (items_of lives) in
+      ap (λ (l : List ℕ). l ++ (handed caller events ++ waiting g caller)) (told_lives w lives history.lived)
+      ∙ ap (λ (l : List ℕ). said_by by_fit settings caller w (items_of lives) ++ l) (told_calls v history.rooms g events history.same history.came)
+      ∙ sym (said-append by_fit settings caller w (items_of lives) (items events))
+
+  pub told_verified : LocalAnswers → (w : World) (lives : List Life) (g : State) (events : List Event) → IsHistory settings w lives g events
+      → told_over settings caller w lives g events ≡ said_by by_fit settings caller w (kept_by by_fit settings (only caller) w (all_items lives events))
+  told_verified local w lives g events history = told_all w lives g events history ∙ sym (local settings (only caller) caller w (all_items lives events) (eq-eqb caller caller refl))
+
+  module _ (answers : KeptAnswers) (past : List Entry) (w : World) (lives : List Life) (g : State) (events : List Event) (history : IsHistory settings w lives g events) (left : IsLeftBy settings past w) where
+    abbrev v : World
+    v = world_after settings w (items_of lives)
+
+    calls : IsProper settings (items events)
+    calls = proper_calls settings v history.rooms g events left.proper.sharing history.same history.came
+
+    all : IsProper settings (all_items lives events)
+    all = proper-append settings (items_of lives) (items events) (proper_lives settings w lives left.proper.sharing history.lived) calls
+
+    pub told_apart : Apart settings (only caller) past w (all_items lives events) → told_over settings caller w lives g events ≡ said settings caller w (kept settings (only caller) w (all_items lives events))
+    told_apart apart = told_all w lives g events history ∙ sym (answers settings (only caller) caller past w (all_items lives events) (eq-eqb caller caller refl) all left apart)
+
+    pub told_last : Apart settings (only caller) (past ++ items_of lives) v (items events) → handed caller events ++ waiting g caller ≡ said settings caller v (kept settings (only caller) v (items events))
+    told_last apart =
+        told_calls v history.rooms g events history.same history.came
+        ∙ sym (answers settings (only caller) caller (past ++ items_of lives) v (items events) (eq-eqb caller caller refl) calls (left_by_all settings past w lives left history.lived) apart)

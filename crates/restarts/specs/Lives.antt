@@ -1,0 +1,76 @@
+-- Runs of a gateway, one after the other, each of which a crash ended, and what callers were told in them.
+use Rattle.std.specs.Prelude.{◌≡◌, ℕ, List, [], ◌∷◌, ◌++◌, All}
+use Rattle.erasure.specs.Code.{AreBytes}
+use Rattle.chk_file.specs.World.{World}
+use Rattle.chk_file.specs.Look.{by_fit}
+use Rattle.gate_core.specs.Settings.{Settings, under}
+use Rattle.gate_core.specs.Events.{Event, handed}
+use Rattle.gate_core.specs.Items.{Entry, items}
+use Rattle.gate_core.specs.Runs.{world_after, said_by}
+use Rattle.gate_core.specs.Uploaded.{uploads_of}
+use Rattle.gate_core.specs.Rooms.{Rooms}
+use Rattle.gate_core.specs.Held.{State, waiting}
+use Rattle.gate_core.specs.Came.{Came}
+use Rattle.restarts.specs.Resumed.{IsEnd}
+
+-- A run that a crash ended: its calls that were answered, what the gateway held after them, the items that the call under
+-- way had carried out, the one at which the crash came, and how that one ended.
+pub record Life : Type 0 where
+  pub events : List Event
+  pub gateway : State
+  pub done : List Entry
+  pub at : Entry
+  pub last : List Entry
+
+-- its items, as one run that goes on
+abbrev pub items_in : Life → List Entry
+items_in life = items life.events ++ (life.done ++ life.last)
+
+-- those of several runs, one after the other
+abbrev pub items_of : List Life → List Entry
+items_of [] = []
+items_of (life ∷ lives) = items_in life ++ items_of lives
+
+-- The run began where this stood: with these k, n and servers, under any secret. What the call under way uploads are bytes.
+pub record IsLived (settings : Settings) (w : World) (life : Life) : Type 0 where
+  pub same : life.gateway.settings ≡ under settings life.gateway.settings.secret
+  pub rooms : Rooms
+  pub came : Came (record { world = w; rooms = rooms }) life.gateway life.events
+  pub end : IsEnd (world_after settings w (items life.events ++ life.done)) life.at life.last
+  pub carried : All (λ u. AreBytes u.bytes) (uploads_of settings life.done)
+  pub brings : All (λ u. AreBytes u.bytes) (uploads_of settings (life.at ∷ []))
+
+-- each run began where the one before it, and the crash, left off
+abbrev pub AreLived : Settings → World → List Life → Type 0
+AreLived settings w [] = Unit {0}
+AreLived settings w (life ∷ lives) = IsLived settings w life × AreLived settings (world_after settings w (items_in life)) lives
+
+-- What a caller didn't get at the crash: what waited for it, and the answers of the call under way.
+abbrev pub unheard : Settings → ℕ → World → Life → List ℕ
+unheard settings caller w life = waiting life.gateway caller ++ said_by by_fit settings caller (world_after settings w (items life.events)) (life.done ++ life.last)
+
+-- what a caller was handed in each run, and what it didn't get there
+abbrev pub told_in : Settings → ℕ → World → List Life → List ℕ
+told_in settings caller w [] = []
+told_in settings caller w (life ∷ lives) =
+    (handed caller life.events ++ unheard settings caller w life) ++ told_in settings caller (world_after settings w (items_in life)) lives
+
+-- After these runs there is a gateway of which these calls were made, and which began where the last of them left off.
+pub record IsHistory (settings : Settings) (w : World) (lives : List Life) (g : State) (events : List Event) : Type 0 where
+  pub lived : AreLived settings w lives
+  pub same : g.settings ≡ under settings g.settings.secret
+  pub rooms : Rooms
+  pub came : Came (record { world = world_after settings w (items_of lives); rooms = rooms }) g events
+
+-- the items of all of them
+abbrev pub all_items : List Life → List Event → List Entry
+all_items lives events = items_of lives ++ items events
+
+-- what a caller was handed and what waits for it, in all of them
+abbrev pub told_over : Settings → ℕ → World → List Life → State → List Event → List ℕ
+told_over settings caller w lives g events = told_in settings caller w lives ++ (handed caller events ++ waiting g caller)
+
+-- a crash in a call that had carried out these items, at x, ended a run, and the next one begins with this gateway
+pub record Restarted (settings : Settings) (w : World) (lives : List Life) (g : State) (events : List Event) (done : List Entry) (x : Entry) (h : State) : Type 0 where
+  pub last : List Entry
+  pub history : IsHistory settings w (lives ++ record { events = events; gateway = g; done = done; at = x; last = last } ∷ []) h []

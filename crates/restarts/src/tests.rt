@@ -1,0 +1,117 @@
+//! A crash at each moment of an upload, over shelves in memory, and a gateway that is resumed over what it left.
+
+use gate_core::Gateway;
+use kept_store::KeptStore;
+use share_shelf::MemShelf;
+use std::alloc::Global;
+use std::test::Fail;
+
+/// The cap of 56 times the letter a, as another program gives it.
+const LETTERS_CAP: &[u8] =
+    b"URI:CHK:xciehu7wkhrkdhseyznarsl6n4:ro65en3n4zxwl3gfinnekkeqado3jxpde7tfaj3sr7als57h4qoa:3:10:56";
+
+type Kept = Gateway<KeptStore<MemShelf>>;
+
+fn opened(alloc: Global, shelf: MemShelf) -> Result<KeptStore<MemShelf>, Fail> {
+    shelf.settled();
+    let store = KeptStore::open(alloc, shelf, 100_000);
+    Ok(store.ok().ok_or("not opened")?)
+}
+
+/// The store of a server as it is opened after a crash at this moment of its shelf.
+fn left(
+    alloc: Global,
+    gateway: &Kept,
+    server: usize,
+    moment: usize,
+) -> Result<KeptStore<MemShelf>, Fail> {
+    let store = gateway.servers().get(server).ok_or("no such server")?;
+    let shelf = store.shelf();
+    if moment <= shelf.moment() {
+        return opened(alloc, shelf.left_at(alloc, moment)?);
+    }
+    let none: Option<KeptStore<MemShelf>> = None;
+    Ok(none.ok_or("no such moment")?)
+}
+
+/// 3 of 10 on two servers, with an open connection 1.
+fn resumed(
+    alloc: Global,
+    first: KeptStore<MemShelf>,
+    second: KeptStore<MemShelf>,
+) -> Result<Kept, Fail> {
+    let mut stores = Vec::new(alloc);
+    stores.push(first)?;
+    stores.push(second)?;
+    let mut gateway = Gateway::resume(alloc, 3, 10, stores, b"")?;
+    gateway.open(1, None)?;
+    Ok(gateway)
+}
+
+/// Puts 56 times a letter, and gives the cap.
+fn put(alloc: Global, gateway: &mut Kept, letter: u8) -> Result<Vec<u8>, Fail> {
+    gateway.bytes(
+        1,
+        b"PUT /uri HTTP/1.1\r\nHost: g\r\nContent-Length: 56\r\n\r\n",
+    )?;
+    gateway.bytes(1, &[letter; 56])?;
+    let reply = gateway.take(1, 1_000)?;
+    let (_head, cap) = reply.split_at(reply.len().saturating_sub(95));
+    Ok(cap.to_vec(alloc)?)
+}
+
+/// Whether the cap gives 56 times a letter, or else is gone.
+fn is_given(gateway: &mut Kept, cap: &[u8], letter: u8) -> Result<bool, Fail> {
+    gateway.bytes(1, b"GET /uri/")?;
+    gateway.bytes(1, cap)?;
+    gateway.bytes(1, b" HTTP/1.1\r\nHost: g\r\n\r\n")?;
+    let reply = gateway.take(1, 1_000)?;
+    let is_whole = reply.starts_with(b"HTTP/1.1 200 ") && reply.ends_with(&[letter; 56]);
+    let is_gone = reply.starts_with(b"HTTP/1.1 410 ");
+    let answer = if is_whole || is_gone {
+        Some(is_whole)
+    } else {
+        None
+    };
+    Ok(answer.ok_or("neither whole nor gone")?)
+}
+
+/// Whether after a crash at these moments the first file is whole, and so is the second where three shares of it stand.
+fn is_as_left(
+    alloc: Global,
+    gateway: &Kept,
+    caps: (&[u8], &[u8]),
+    here: usize,
+    there: usize,
+) -> Result<bool, Fail> {
+    let mut again = resumed(
+        alloc,
+        left(alloc, gateway, 0, here)?,
+        left(alloc, gateway, 1, there)?,
+    )?;
+    let is_first = is_given(&mut again, caps.0, b'b')?;
+    let is_second = is_given(&mut again, caps.1, b'a')?;
+    Ok(is_first && is_second == (here.saturating_add(there) >= 13))
+}
+
+#[test]
+fn after_a_crash_a_file_is_whole_or_gone(rt: HostRuntime) -> Result<(), Fail> {
+    let alloc = rt.alloc();
+    let mut gateway = resumed(
+        alloc,
+        opened(alloc, MemShelf::new(alloc))?,
+        opened(alloc, MemShelf::new(alloc))?,
+    )?;
+    let first = put(alloc, &mut gateway, b'b')?;
+    let second = put(alloc, &mut gateway, b'a')?;
+    assert_eq!(rt; second.as_slice(), LETTERS_CAP);
+    for at in 0..36usize {
+        let here = 5 + at / 6;
+        let there = 5 + at % 6;
+        assert!(rt;
+            is_as_left(alloc, &gateway, (&first, &second), here, there)?,
+            "at {here} and {there}"
+        );
+    }
+    Ok(())
+}

@@ -1,0 +1,16 @@
+use Rattle.std.proofs.Common.{sym, subst}
+use Rattle.caps.specs.declared.cap.Cap.TheVariants.{Chk}
+use Rattle.chk_file.specs.Cached.{IsFresh}
+use Rattle.web_ops.specs.Replies.{bytes_reply}
+use Rattle.web_ops.specs.Answers.{content_reply}
+use Rattle.web_ops.specs.Replied.{IsContent}
+use Rattle.web_ops.specs.Calls.{IsFound}
+use Rattle.web_ops.proofs.Found.{read_found}
+use Rattle.web_ops.proofs.node.content.Goals as goal
+
+pub returns-in-Ok-clause-found : goal.returns-in-Ok-clause-found
+returns-in-Ok-clause-found g c =
+    subst (λ cap. IsFound (IsFresh c.args.cache.now c.args.grid.now) (IsContent c.args.range cap) (λ look. content_reply look.gives c.args.range cap) c.download_reply.result c.args.grid.now c.begin.new.grid)
+    (sym c.in-Chk.is)
+    (read_found _ (bytes_reply c.args.range) c.in-Chk.fields c.in-Ok.download.left c.download_reply.result c.args.grid.now c.begin.new.grid
+    c.download_reply.ensures c.begin.ensures.leaves c.begin.ensures.unchanged c.in-Ok.ensures.bound c.in-Ok.ensures.fit)

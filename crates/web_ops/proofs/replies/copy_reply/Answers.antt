@@ -1,0 +1,15 @@
+use Rattle.std.proofs.Common.{◌≡◌, ◌+◌, ◌-◌, ◌≤◌, ℕ, suc, length, take, drop, Some, ap, ◌∙◌, arith}
+use Rattle.web_ops.specs.declared.reply.Status.TheVariants as status
+use Rattle.web_ops.specs.declared.reply.MediaType.TheVariants.{OctetStream}
+use Rattle.web_ops.specs.declared.reply.Field.TheVariants.{ContentRange}
+use Rattle.web_ops.specs.Replies.{reply_with}
+use Rattle.web_ops.proofs.replies.copy_reply.Goals as goal
+
+both : (from to : ℕ) → from ≤ to → (to + 1) - from ≡ suc (to - from)
+both from to le = omega arith
+
+pub returns : goal.returns
+returns c =
+    c.partial_reply.ensures
+    ∙ ap (reply_with status.PartialContent OctetStream (Some (ContentRange c.args.from c.args.to (length c.args.bytes.now))))
+    (c.from_bytes-body.ensures ∙ c.in_ok-from_slice.ensures ∙ ap (λ n. take n (drop c.args.from c.args.bytes.now)) (both c.args.from c.args.to c.requires.order))

@@ -1,0 +1,99 @@
+//! Bodies of replies.
+ghost use Rattle.std.specs.Prelude.{◌≡◌, ◌<◌, [], ◌++◌, length, IfOk, OnErr, IsOk, IsTrue, ◌↔◌, MatchOption};
+
+use crate::part::Part;
+use octets::Bytes;
+use std::alloc::{AllocError, Global};
+use std::marker::Model;
+use std::mem;
+
+/// Where the bytes of a body come from.
+#[derive(Debug, Drop)]
+pub(crate) enum Source {
+    /// They are at hand.
+    Bytes(Bytes),
+    /// They are decoded as they are asked for.
+    Part(Part),
+}
+
+/// The bytes of a body that are left: they are at hand, or decoded as they are asked for. Contracts see them as bytes.
+#[derive(Debug, Drop)]
+pub struct Body {
+    source: Source,
+}
+
+impl Model for Body {
+    ghost use Rattle.std.specs.Prelude.{List, ℕ};
+    ghost use Rattle.web_ops.specs.Bodies.{bytes_of};
+
+    ghost Value = { List ℕ };
+
+    ghost view = { λ b. bytes_of b.source };
+}
+
+impl Body {
+    /// These bytes, which are moved.
+    pub fn from_bytes(bytes: Bytes) -> Self
+        ensures { result ≡ bytes }
+    {
+        Body {
+            source: Source::Bytes(bytes),
+        }
+    }
+
+    /// A part of a file.
+    pub fn from_part(part: Part) -> Self
+        ensures { result ≡ part }
+    {
+        Body {
+            source: Source::Part(part),
+        }
+    }
+
+    /// How many bytes are left.
+    pub fn len(&self) -> usize
+        ensures { result ≡ length self.now }
+    {
+        match &self.source {
+            Source::Bytes(bytes) => bytes.len(),
+            Source::Part(part) => part.len(),
+        }
+    }
+
+    /// Whether no byte is left.
+    pub fn is_empty(&self) -> bool
+        ensures { IsTrue result ↔ (self.now ≡ []) }
+    {
+        self.len() == 0
+    }
+
+    /// The next bytes, of which there is one at least, or none where no byte is left: all where they are at hand, and
+    /// else those of the next segment.
+    ///
+    /// # Errors
+    /// Only where memory is refused. Then the same bytes are left: the call can be made again.
+    pub fn next(&mut self, alloc: Global) -> Result<Option<Vec<u8>>, AllocError>
+        ensures given { IfOk result (λ given.
+            MatchOption given ((self.old ≡ []) × (self.new ≡ []))
+            (λ bytes. (0 < length bytes.items) × (self.old ≡ bytes.items ++ self.new))) }
+        ensures err { OnErr result (self.new ≡ self.old) }
+        ensures nothing { self.old ≡ [] → IsOk result }
+    {
+        match &mut self.source {
+            Source::Bytes(bytes) => Ok(all_of(alloc, bytes)),
+            Source::Part(part) => part.next(),
+        }
+    }
+}
+
+/// All of the bytes, which are moved, or none where there is none.
+fn all_of(alloc: Global, bytes: &mut Bytes) -> Option<Vec<u8>>
+    ensures { MatchOption result ((bytes.old ≡ []) × (bytes.new ≡ []))
+        (λ all. (0 < length all.items) × (bytes.old ≡ all.items ++ bytes.new)) }
+{
+    if bytes.is_empty() {
+        return None;
+    }
+    let all = mem::replace(bytes, Bytes::new(alloc));
+    Some(all.into_vec())
+}
