@@ -1,13 +1,29 @@
 -- Exit statuses.
 use Rattle.std.specs.Prelude.{ℕ}
+use Rattle.folder_shelf.specs.declared.fault.FolderFault.{FolderFault}
+use Rattle.folder_shelf.specs.declared.fault.FolderFault.TheVariants as folder
 use Rattle.wozhinnam.specs.declared.fault.ProgramFault.{ProgramFault}
-use Rattle.wozhinnam.specs.declared.fault.ProgramFault.TheVariants.{Serve, Arguments, Shares, NoAddress, AddressInUse, NotAllowed, NotBound, SecretUnread, SecretTooLong, FewHandles, NoMemory, NotPrinted}
+use Rattle.wozhinnam.specs.declared.fault.ProgramFault.TheVariants.{Serve, Arguments, Shares, Stores, NoAddress, AddressInUse, NotAllowed, NotBound, SecretUnread, SecretTooLong, FewHandles, NoMemory, NotPrinted, NotThere, Folder, DiskFull, NoRoom, NotEmpty, OtherCount, ImageUnread, BadImage, ImageUnwritten, NotWell}
 
--- the status of a fault; 0 is that of a run that was stopped
+-- the status where a folder was refused; 20 is between them, that of a full disk
+abbrev pub folder_status : FolderFault → ℕ
+folder_status folder.NotThere = 12
+folder_status folder.NotAFolder = 13
+folder_status folder.NotWritable = 14
+folder_status folder.InUse = 15
+folder_status folder.NoSettings = 16
+folder_status folder.SettingsRotten = 17
+folder_status (folder.OtherPlace place) = 18
+folder_status folder.OtherGrid = 19
+folder_status folder.Failed = 21
+folder_status folder.NoMemory = 10
+
+-- the status of a fault; 0 is that of a run that was stopped, or that did what it was asked
 abbrev pub status_of : ProgramFault → ℕ
 status_of (Serve fault) = 1
 status_of Arguments = 2
 status_of Shares = 2
+status_of Stores = 2
 status_of (NoAddress place) = 3
 status_of (AddressInUse place) = 4
 status_of (NotAllowed place) = 5
@@ -17,3 +33,13 @@ status_of SecretTooLong = 8
 status_of (FewHandles allowed needed) = 9
 status_of NoMemory = 10
 status_of NotPrinted = 11
+status_of NotThere = 12
+status_of (Folder fault) = folder_status fault
+status_of DiskFull = 20
+status_of NoRoom = 22
+status_of NotEmpty = 23
+status_of (OtherCount given servers) = 24
+status_of ImageUnread = 25
+status_of (BadImage place) = 26
+status_of ImageUnwritten = 27
+status_of NotWell = 28

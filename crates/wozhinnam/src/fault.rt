@@ -1,8 +1,12 @@
 //! Why the program ended before it was stopped.
 ghost use Rattle.std.specs.Prelude.{◌≡◌};
-ghost use Rattle.wozhinnam.specs.Status.{status_of};
+ghost use Rattle.wozhinnam.specs.Status.{status_of, folder_status};
 
+use folder_shelf::FolderFault;
 use gate_poll::ServeFault;
+use kept_store::OpenFault;
+use share_shelf::ShelfFault;
+use share_store::StoreFault;
 use std::alloc::{AllocError, AllocFailed};
 use thiserror::Error;
 
@@ -18,6 +22,9 @@ pub enum ProgramFault {
     /// `--shares` isn't two numbers as they are wanted.
     #[error("--shares wants K,N with 1 <= K <= N <= 256, as in 3,10")]
     Shares,
+    /// `--store` names no store, or stands too often.
+    #[error("--store wants dir:PATH, dir:PATH:BYTES or mem:BYTES, and stands 256 times at most")]
+    Stores,
     /// An address has no such host, or no port.
     #[error("the {0} address is none: HOST:PORT is wanted, and a host that there is")]
     NoAddress(&'static str),
@@ -37,17 +44,65 @@ pub enum ProgramFault {
     #[error("the secret file has more than 256 bytes")]
     SecretTooLong,
     /// Fewer handles are allowed than the connections need.
-    #[error("{0} open files are allowed, and the connections need {1}: raise the limit, or lower --connections")]
+    #[error("{0} open files are allowed, and {1} are needed: raise the limit, or lower --connections")]
     FewHandles(u64, u64),
     /// Memory was refused.
     #[error("out of memory")]
     NoMemory,
     /// Standard output is closed.
-    #[error("the address could not be printed")]
+    #[error("standard output is closed")]
     NotPrinted,
+    /// A folder isn't there.
+    #[error("the folder isn't there")]
+    NotThere,
+    /// A folder was refused.
+    #[error("{0}")]
+    Folder(FolderFault),
+    /// The disk of a folder has no room.
+    #[error("the disk is full")]
+    DiskFull,
+    /// The shares in a folder are more than the room of its server.
+    #[error("its shares are more than the room that it is given")]
+    NoRoom,
+    /// A folder that is to be new isn't empty.
+    #[error("the folder isn't empty: an image is restored into new ones")]
+    NotEmpty,
+    /// As many folders are wanted as the grid has servers.
+    #[error("{0} folders are given, and its grid has {1} servers: each wants one, in their order")]
+    OtherCount(usize, u16),
+    /// An image could not be read.
+    #[error("the image can't be read")]
+    ImageUnread,
+    /// An image has a fault at this byte.
+    #[error("it is no image of so many servers: the fault is at byte {0}")]
+    BadImage(u64),
+    /// An image could not be written.
+    #[error("the image can't be written")]
+    ImageUnwritten,
+    /// A folder that was looked through isn't as it is to be: it was told already.
+    #[error("not all is well")]
+    NotWell,
 }
 
 impl ProgramFault {
+    /// Whether it is of a folder, by whose name it is told where it comes.
+    pub fn is_of_a_folder(&self) -> bool {
+        match self {
+            ProgramFault::NotThere => true,
+            ProgramFault::Folder(_) => true,
+            ProgramFault::DiskFull => true,
+            ProgramFault::NoRoom => true,
+            ProgramFault::NotEmpty => true,
+            ProgramFault::OtherCount(_, _) => true,
+            _ => false,
+        }
+    }
+
+    /// Whether it was told already where it came.
+    pub fn is_told(&self) -> bool {
+        self.is_of_a_folder() || *self == ProgramFault::Arguments || *self == ProgramFault::NotWell
+    }
+
     /// The status with which the program exits.
     pub fn status(&self) -> u8
         ensures { result ≡ status_of self.now }
@@ -56,6 +111,7 @@ impl ProgramFault {
             ProgramFault::Serve(_) => 1,
             ProgramFault::Arguments => 2,
             ProgramFault::Shares => 2,
+            ProgramFault::Stores => 2,
             ProgramFault::NoAddress(_) => 3,
             ProgramFault::AddressInUse(_) => 4,
             ProgramFault::NotAllowed(_) => 5,
@@ -65,7 +121,35 @@ impl ProgramFault {
             ProgramFault::FewHandles(_, _) => 9,
             ProgramFault::NoMemory => 10,
             ProgramFault::NotPrinted => 11,
+            ProgramFault::NotThere => 12,
+            ProgramFault::Folder(fault) => status_of_folder(fault),
+            ProgramFault::DiskFull => 20,
+            ProgramFault::NoRoom => 22,
+            ProgramFault::NotEmpty => 23,
+            ProgramFault::OtherCount(_, _) => 24,
+            ProgramFault::ImageUnread => 25,
+            ProgramFault::BadImage(_) => 26,
+            ProgramFault::ImageUnwritten => 27,
+            ProgramFault::NotWell => 28,
         }
+    }
+}
+
+/// The status with which the program exits where a folder was refused.
+fn status_of_folder(fault: &FolderFault) -> u8
+    ensures { result ≡ folder_status fault.now }
+{
+    match fault {
+        FolderFault::NotThere => 12,
+        FolderFault::NotAFolder => 13,
+        FolderFault::NotWritable => 14,
+        FolderFault::InUse => 15,
+        FolderFault::NoSettings => 16,
+        FolderFault::SettingsRotten => 17,
+        FolderFault::OtherPlace(_) => 18,
+        FolderFault::OtherGrid => 19,
+        FolderFault::Failed => 21,
+        FolderFault::NoMemory => 10,
     }
 }
 
@@ -86,6 +170,27 @@ impl From<ServeFault> for ProgramFault {
         match fault {
             ServeFault::NoMemory => ProgramFault::NoMemory,
             ServeFault::PollFailed => ProgramFault::Serve(ServeFault::PollFailed),
+        }
+    }
+}
+
+impl From<FolderFault> for ProgramFault {
+    fn from(fault: FolderFault) -> ProgramFault {
+        match fault {
+            FolderFault::NoMemory => ProgramFault::NoMemory,
+            FolderFault::NotThere => ProgramFault::NotThere,
+            _ => ProgramFault::Folder(fault),
+        }
+    }
+}
+
+impl From<OpenFault> for ProgramFault {
+    fn from(fault: OpenFault) -> ProgramFault {
+        match fault {
+            OpenFault::Shelf(ShelfFault::NoMemory) => ProgramFault::NoMemory,
+            OpenFault::Store(StoreFault::NoMemory) => ProgramFault::NoMemory,
+            OpenFault::Store(StoreFault::Full) => ProgramFault::NoRoom,
+            _ => ProgramFault::Folder(FolderFault::Failed),
         }
     }
 }

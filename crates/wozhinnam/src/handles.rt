@@ -5,9 +5,11 @@ use std::rt::Files;
 /// How many handles the program needs besides those of its connections: its streams, listeners and control connections.
 const OTHERS: u64 = 32;
 
-/// How many handles so many connections need.
-pub fn needed_for(connections: usize) -> u64 {
-    (connections as u64).saturating_add(OTHERS)
+/// How many handles so many connections and so many folders need: a lock is kept of each folder.
+pub fn needed_for(connections: usize, folders: usize) -> u64 {
+    (connections as u64)
+        .saturating_add(folders as u64)
+        .saturating_add(OTHERS)
 }
 
 /// How many handles the system allows, if it says so.

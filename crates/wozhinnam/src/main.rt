@@ -1,17 +1,30 @@
-//! The web gateway as a program that runs until it is stopped.
+//! The web gateway as a program that runs until it is stopped, and the care of the folders in which it keeps shares.
 //!
-//!     wozhinnam serve [--listen ADDR] [--control ADDR] [--shares K,N] [--servers COUNT] [--room BYTES]
-//!                     [--secret-file PATH] [--connections MAX] [--idle SECONDS]
+//!     wozhinnam serve [--listen ADDR] [--control ADDR] [--shares K,N] [--store STORE].. [--servers COUNT]
+//!                     [--room BYTES] [--no-sync] [--secret-file PATH] [--connections MAX] [--idle SECONDS]
+//!     wozhinnam check PATH..
+//!     wozhinnam image PATH.. > FILE
+//!     wozhinnam restore [--shares K,N] [--secret-file PATH] [--no-sync] FILE PATH..
 #![tactic(auto)]
 
 /// Why the program ended before it was stopped.
 mod fault;
-/// The program's options.
+/// The program's command line.
+mod arguments;
+/// What the program is asked for.
 mod options;
 /// How many files and sockets the program may have open.
 mod handles;
+/// What a server keeps its shares on beside memory.
+mod server_shelf;
+/// Folders of servers.
+mod folders;
 /// The stores of the gateway.
 mod stores;
+/// Looking through folders.
+mod check;
+/// Images of a grid in folders.
+mod images;
 /// What is known of the stores.
 mod figures;
 /// Figures in the text format of Prometheus.
@@ -22,20 +35,24 @@ mod board;
 mod tests;
 
 use board::Board;
+use check::check;
 pub use fault::ProgramFault;
-use gate_core::Gateway;
+use folder_shelf::Settings;
+use folders::ServerStore;
+use gate_core::{Gateway, GatewayFault};
 use gate_poll::{Limits, serve_on};
+use images::{restore, write_image};
 use log::{Log, info};
 use mio::net::TcpListener;
-pub use options::{Options, Refusal, Shares, read_options};
-use share_store::MemStore;
+pub use options::{Options, Refusal, Restoring, Shares, StoreWanted, Task, read_words};
+use std::fs::File;
 use std::io::ErrorKind;
 use std::net::{Net, SocketAddr, ToSocketAddrs};
 use std::process::ExitCode;
 use std::rt::{Env, Files};
 use std::time::{Clock, CpuClock, Duration};
 use std::{env, fs};
-use stores::empty_stores;
+use stores::open_stores;
 
 /// How many bytes a secret may have.
 const MOST_SECRET: usize = 256;
@@ -45,7 +62,7 @@ fn main(rt: HostRuntime) -> ExitCode {
     match run(&rt) {
         Ok(()) => ExitCode::from(0),
         Err(fault) => {
-            if fault != ProgramFault::Arguments {
+            if !fault.is_told() {
                 let _ = eprintln!(rt; "wozhinnam: {fault}");
             }
             ExitCode::from(fault.status())
@@ -54,14 +71,34 @@ fn main(rt: HostRuntime) -> ExitCode {
 }
 
 /// Does what the words ask for.
-fn run<R: Env + Print + Eprint + AllocGlobal + Files + Clock + CpuClock + Net + Log>(
-    rt: &R,
-) -> Result<(), ProgramFault> {
-    let words = read_words(rt)?;
-    match read_options(rt.alloc(), &words) {
-        Ok(options) => serve(rt, &options),
+fn run<
+    R: Env
+        + Print
+        + Eprint
+        + AllocGlobal
+        + Files<File = File>
+        + Clock
+        + CpuClock
+        + Net
+        + Log
+        + Clone
+        + Drop,
+>(rt: &R) -> Result<(), ProgramFault> {
+    let words = arguments_of(rt)?;
+    match read_words(rt.alloc(), &words) {
+        Ok(Task::Serve(options)) => serve(rt, &options),
+        Ok(Task::Check(folders)) => check(rt, &folders),
+        Ok(Task::Image(folders)) => write_image(rt, &folders),
+        Ok(Task::Restore(wanted)) => {
+            let secret = read_secret(rt, wanted.secret_file)?;
+            restore(rt, &wanted, &secret)
+        }
         Err(Refusal::Shares) => Err(ProgramFault::Shares),
+        Err(Refusal::Stores) => Err(ProgramFault::Stores),
         Err(Refusal::Words(error)) => {
+            if error.kind() == clap::error::ErrorKind::OutOfMemory {
+                return Err(ProgramFault::NoMemory);
+            }
             let _ = error.print(rt);
             match error.exit_code() {
                 0 => Ok(()),
@@ -72,7 +109,7 @@ fn run<R: Env + Print + Eprint + AllocGlobal + Files + Clock + CpuClock + Net + 
 }
 
 /// The words of the command line, the program's name first.
-fn read_words(rt: &(impl Env + AllocGlobal)) -> Result<Vec<String>, ProgramFault> {
+fn arguments_of(rt: &(impl Env + AllocGlobal)) -> Result<Vec<String>, ProgramFault> {
     let Ok(arguments) = env::args(rt) else {
         return Err(ProgramFault::NoMemory);
     };
@@ -84,15 +121,23 @@ fn read_words(rt: &(impl Env + AllocGlobal)) -> Result<Vec<String>, ProgramFault
 }
 
 /// Serves connections until a control request stops it.
-fn serve<R: Print + AllocGlobal + Files + Clock + CpuClock + Net + Log>(
-    rt: &R,
-    options: &Options<'_>,
-) -> Result<(), ProgramFault> {
-    let mut gateway = open_gateway(rt, options)?;
-    let few = few_handles(rt, options.connections);
+fn serve<
+    R: Print
+        + Eprint
+        + AllocGlobal
+        + Files<File = File>
+        + Clock
+        + CpuClock
+        + Net
+        + Log
+        + Clone
+        + Drop,
+>(rt: &R, options: &Options<'_>) -> Result<(), ProgramFault> {
+    let few = few_handles(rt, options);
     if let Some(fault) = few {
         return Err(fault);
     }
+    let mut gateway = open_gateway(rt, options)?;
     let listener = listen(rt, options.listen, "listening")?;
     let control = match options.control {
         Some(address) => Some(listen(rt, address, "control")?),
@@ -109,25 +154,33 @@ fn serve<R: Print + AllocGlobal + Files + Clock + CpuClock + Net + Log>(
     Ok(())
 }
 
-/// A gateway over empty stores, with the secret that its file has.
-fn open_gateway<R: AllocGlobal + Files>(
+/// A gateway over the stores that are wanted, with the secret that its file has.
+fn open_gateway<R: AllocGlobal + Files<File = File> + Clone + Drop + Log + Eprint>(
     rt: &R,
     options: &Options<'_>,
-) -> Result<Gateway<MemStore>, ProgramFault> {
-    let secret = match options.secret_file {
-        Some(path) => read_secret(rt, path)?,
-        None => Vec::new(rt.alloc()),
+) -> Result<Gateway<ServerStore<R>>, ProgramFault> {
+    let secret = read_secret(rt, options.secret_file)?;
+    let Ok(servers) = u16::try_from(options.stores.len()) else {
+        return Err(ProgramFault::Stores);
     };
-    let stores = empty_stores(rt.alloc(), options.servers, options.room)?;
     let Shares { needed, made } = options.shares;
-    match Gateway::new(rt.alloc(), needed, made, stores, &secret) {
+    let first = Settings::new(0, servers, needed, made, &secret);
+    let stores = open_stores(rt, options, &first)?;
+    match Gateway::resume(rt.alloc(), needed, made, stores, &secret) {
         Ok(gateway) => Ok(gateway),
+        Err(GatewayFault::BadParameters) => Err(ProgramFault::Shares),
         Err(_) => Err(ProgramFault::NoMemory),
     }
 }
 
-/// The bytes of a secret's file.
-fn read_secret<R: AllocGlobal + Files>(rt: &R, path: &str) -> Result<Vec<u8>, ProgramFault> {
+/// The bytes of a secret's file, and none where there is no such file.
+fn read_secret<R: AllocGlobal + Files>(
+    rt: &R,
+    path: Option<&str>,
+) -> Result<Vec<u8>, ProgramFault> {
+    let Some(path) = path else {
+        return Ok(Vec::new(rt.alloc()));
+    };
     let Ok(secret) = fs::read(rt, path) else {
         return Err(ProgramFault::SecretUnread);
     };
@@ -137,9 +190,9 @@ fn read_secret<R: AllocGlobal + Files>(rt: &R, path: &str) -> Result<Vec<u8>, Pr
     Ok(secret)
 }
 
-/// The fault that there are fewer handles than so many connections need, if the system says so.
-fn few_handles<R: AllocGlobal + Files>(rt: &R, connections: usize) -> Option<ProgramFault> {
-    let needed = handles::needed_for(connections);
+/// The fault that there are fewer handles than connections and locks of folders need, if the system says so.
+fn few_handles<R: AllocGlobal + Files>(rt: &R, options: &Options<'_>) -> Option<ProgramFault> {
+    let needed = handles::needed_for(options.connections, options.folders());
     let allowed = handles::allowed(rt)?;
     if allowed < needed {
         Some(ProgramFault::FewHandles(allowed, needed))

@@ -1,13 +1,30 @@
-//! The program's options.
+//! What the program is asked for.
 ghost use Rattle.std.specs.Prelude.{IfOk, IfSome};
 ghost use Rattle.octets.specs.Sharing.{IsSharing};
 
-use clap::{Arg, ArgAction, Command, Error};
+use crate::arguments::program;
+use clap::{ArgMatches, Error};
 use octets::is_sharing;
-use std::alloc::{AllocError, Global};
+use std::alloc::{AllocError, AllocFailed, Global};
+
+/// How many stores there may be.
+const MOST_STORES: usize = 256;
 
 /// What the program is asked for.
-#[derive(Clone, Copy, Debug)]
+#[derive(Debug, Drop)]
+pub enum Task<'a> {
+    /// To serve connections.
+    Serve(Options<'a>),
+    /// To look through these folders.
+    Check(Vec<&'a str>),
+    /// To write the image of the grid in these folders.
+    Image(Vec<&'a str>),
+    /// To lay an image into new folders.
+    Restore(Restoring<'a>),
+}
+
+/// How connections are to be served.
+#[derive(Debug, Drop)]
 pub struct Options<'a> {
     /// Where connections are accepted.
     pub listen: &'a str,
@@ -15,16 +32,60 @@ pub struct Options<'a> {
     pub control: Option<&'a str>,
     /// How many of a file's shares give it back, and how many are made of it.
     pub shares: Shares,
-    /// How many stores there are.
-    pub servers: u16,
-    /// For how many bytes each of them has room.
-    pub room: u64,
+    /// The stores, in the order of the servers.
+    pub stores: Vec<StoreWanted<'a>>,
+    /// Whether changes in folders are synced.
+    pub synced: bool,
     /// The file whose bytes are the gateway's secret.
     pub secret_file: Option<&'a str>,
     /// How many connections may be open at once.
     pub connections: usize,
     /// For how many seconds one may be silent.
     pub idle: u64,
+}
+
+impl Options<'_> {
+    /// How many of the stores are in folders.
+    pub fn folders(&self) -> usize {
+        self.stores
+            .iter()
+            .filter(|store| store.is_in_folder())
+            .count()
+    }
+}
+
+/// A store that is wanted, with the bytes for which it has room.
+#[derive(Clone, Copy, Debug, PartialEq, Eq)]
+pub enum StoreWanted<'a> {
+    /// One in memory alone.
+    Memory(u64),
+    /// One that keeps its shares in this folder too.
+    Folder(&'a str, u64),
+}
+
+impl StoreWanted<'_> {
+    /// Whether it keeps its shares in a folder.
+    pub fn is_in_folder(&self) -> bool {
+        match self {
+            StoreWanted::Memory(_) => false,
+            StoreWanted::Folder(_, _) => true,
+        }
+    }
+}
+
+/// What an image is to be laid into.
+#[derive(Debug, Drop)]
+pub struct Restoring<'a> {
+    /// The image.
+    pub file: &'a str,
+    /// The folders, in the order of the servers.
+    pub folders: Vec<&'a str>,
+    /// How many of a file's shares give it back, and how many are made of it.
+    pub shares: Shares,
+    /// Whether changes in folders are synced.
+    pub synced: bool,
+    /// The file whose bytes are the gateway's secret.
+    pub secret_file: Option<&'a str>,
 }
 
 /// How many of a file's shares give it back, and how many are made of it.
@@ -41,6 +102,8 @@ pub enum Refusal {
     Words(Error),
     /// `--shares` isn't two numbers as they are wanted.
     Shares,
+    /// `--store` names no store, or stands too often.
+    Stores,
 }
 
 impl From<Error> for Refusal {
@@ -55,14 +118,32 @@ impl From<AllocError> for Refusal {
     }
 }
 
+impl<T: Drop> From<AllocFailed<T>> for Refusal {
+    fn from(error: AllocFailed<T>) -> Refusal {
+        Refusal::from(AllocError::from(error))
+    }
+}
+
 /// Reads the words of a command line, the program's name first.
-pub fn read_options<'a>(alloc: Global, words: &'a [String]) -> Result<Options<'a>, Refusal>
+pub fn read_words<'a>(alloc: Global, words: &'a [String]) -> Result<Task<'a>, Refusal> {
+    let matches = program(alloc)?.try_get_matches_from(words)?;
+    if let Some(given) = matches.subcommand_matches("check") {
+        Ok(Task::Check(texts_of(alloc, given, "paths")?))
+    } else if let Some(given) = matches.subcommand_matches("image") {
+        Ok(Task::Image(texts_of(alloc, given, "paths")?))
+    } else if let Some(given) = matches.subcommand_matches("restore") {
+        Ok(Task::Restore(read_restoring(alloc, given)?))
+    } else if let Some(given) = matches.subcommand_matches("serve") {
+        Ok(Task::Serve(read_options(alloc, given)?))
+    } else {
+        Err(Refusal::Shares)
+    }
+}
+
+/// Reads what was given with `serve`.
+fn read_options<'a>(alloc: Global, given: &ArgMatches<'a>) -> Result<Options<'a>, Refusal>
     ensures shares { IfOk result (λ o. IsSharing o.shares.needed o.shares.made) }
 {
-    let matches = program(alloc)?.try_get_matches_from(words)?;
-    let Some(given) = matches.subcommand_matches("serve") else {
-        return Err(Refusal::Shares);
-    };
     let Some(shares) = read_shares(given.get_str("shares").unwrap_or("")) else {
         return Err(Refusal::Shares);
     };
@@ -70,12 +151,82 @@ pub fn read_options<'a>(alloc: Global, words: &'a [String]) -> Result<Options<'a
         listen: given.get_str("listen").unwrap_or(""),
         control: given.get_str("control"),
         shares,
-        servers: given.get_one::<u16>("servers").unwrap_or(5),
-        room: given.get_one::<u64>("room").unwrap_or(0),
+        stores: read_stores(alloc, given)?,
+        synced: !given.get_flag("no-sync"),
         secret_file: given.get_str("secret-file"),
         connections: given.get_one::<usize>("connections").unwrap_or(1),
         idle: given.get_one::<u64>("idle").unwrap_or(60),
     })
+}
+
+/// Reads what was given with `restore`.
+fn read_restoring<'a>(alloc: Global, given: &ArgMatches<'a>) -> Result<Restoring<'a>, Refusal>
+    ensures shares { IfOk result (λ o. IsSharing o.shares.needed o.shares.made) }
+{
+    let Some(shares) = read_shares(given.get_str("shares").unwrap_or("")) else {
+        return Err(Refusal::Shares);
+    };
+    Ok(Restoring {
+        file: given.get_str("file").unwrap_or(""),
+        folders: texts_of(alloc, given, "paths")?,
+        shares,
+        synced: !given.get_flag("no-sync"),
+        secret_file: given.get_str("secret-file"),
+    })
+}
+
+/// The values of an argument.
+fn texts_of<'a>(
+    alloc: Global,
+    given: &ArgMatches<'a>,
+    name: &str,
+) -> Result<Vec<&'a str>, AllocError> {
+    let mut texts = Vec::new(alloc);
+    if let Some(values) = given.get_strs(name) {
+        for value in values {
+            texts.push(*value)?;
+        }
+    }
+    Ok(texts)
+}
+
+/// The stores that are wanted: those that are named, and else so many in memory.
+fn read_stores<'a>(alloc: Global, given: &ArgMatches<'a>) -> Result<Vec<StoreWanted<'a>>, Refusal> {
+    let room = given.get_one::<u64>("room").unwrap_or(0);
+    let mut stores = Vec::new(alloc);
+    if let Some(names) = given.get_strs("store") {
+        for name in names {
+            let Some(store) = read_store(*name, room) else {
+                return Err(Refusal::Stores);
+            };
+            stores.push(store)?;
+        }
+    }
+    if stores.len() > MOST_STORES {
+        return Err(Refusal::Stores);
+    }
+    if stores.is_empty() {
+        let servers = given.get_one::<u16>("servers").unwrap_or(5);
+        return Ok(vec![in alloc; StoreWanted::Memory(room); usize::from(servers)]?);
+    }
+    Ok(stores)
+}
+
+/// A store by its name: `mem:BYTES`, `dir:PATH` or `dir:PATH:BYTES`. A path with a colon in it wants the bytes behind it.
+pub fn read_store(name: &str, room: u64) -> Option<StoreWanted<'_>> {
+    if let Some(bytes) = name.strip_prefix("mem:") {
+        return Some(StoreWanted::Memory(bytes.parse::<u64>().ok()?));
+    }
+    let rest = name.strip_prefix("dir:")?;
+    let (path, room) = match rest.rsplit_once(':') {
+        Some((path, bytes)) => (path, bytes.parse::<u64>().ok()?),
+        None => (rest, room),
+    };
+    if path.is_empty() {
+        None
+    } else {
+        Some(StoreWanted::Folder(path, room))
+    }
 }
 
 /// Two numbers with a comma between them, which say how many of a file's shares give it back, and how many are made.
@@ -90,80 +241,4 @@ fn read_shares(text: &str) -> Option<Shares>
     } else {
         None
     }
-}
-
-/// The program's command line.
-fn program<'a>(alloc: Global) -> Result<Command<'a>, AllocError> {
-    Command::new(alloc, "wozhinnam")
-        .version("0.1.0")
-        .about("A web gateway for capability-addressed storage, over stores in memory.")
-        .subcommand_required(true)
-        .subcommand(serving(alloc)?)
-}
-
-/// The command line of `serve`.
-fn serving<'a>(alloc: Global) -> Result<Command<'a>, AllocError> {
-    Command::new(alloc, "serve")
-        .about("Serves connections until it is stopped.")
-        .arg(option(alloc, "listen", "ADDR", "where connections are accepted").default_value(
-            "127.0.0.1:3456",
-        ))?
-        .arg(option(
-            alloc,
-            "control",
-            "ADDR",
-            "where GET /status, GET /metrics and POST /stop are answered",
-        ))?
-        .arg(option(
-            alloc,
-            "shares",
-            "K,N",
-            "how many of a file's N shares give it back",
-        )
-        .default_value("3,10"))?
-        .arg(
-            option(alloc, "servers", "COUNT", "how many stores there are")
-                .value_parser(clap::builder::ValueParser::unsigned(1, 256))
-                .default_value("5"),
-        )?
-        .arg(
-            option(alloc, "room", "BYTES", "how many bytes each store takes")
-                .value_parser(clap::builder::ValueParser::unsigned(0, u64::MAX))
-                .default_value("1073741824"),
-        )?
-        .arg(option(
-            alloc,
-            "secret-file",
-            "PATH",
-            "a file whose bytes, at most 256, go into the key of each stored file",
-        ))?
-        .arg(
-            option(
-                alloc,
-                "connections",
-                "MAX",
-                "how many connections may be open at once",
-            )
-            .value_parser(clap::builder::ValueParser::unsigned(1, 1_000_000))
-            .default_value("900"),
-        )?
-        .arg(
-            option(
-                alloc,
-                "idle",
-                "SECONDS",
-                "for how long a connection may be silent",
-            )
-            .value_parser(clap::builder::ValueParser::unsigned(1, 86_400))
-            .default_value("60"),
-        )
-}
-
-/// An option with a value.
-fn option<'a>(alloc: Global, name: &'a str, value: &'a str, help: &'a str) -> Arg<'a> {
-    Arg::new(alloc, name)
-        .long(name)
-        .value_name(value)
-        .help(help)
-        .action(ArgAction::Set)
 }

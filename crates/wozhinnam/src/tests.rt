@@ -1,9 +1,20 @@
+//! Words, control requests, figures, and one folder.
+ghost use Rattle.std.specs.Prelude.{◌<◌, length, IfOk};
+ghost use Rattle.std.specs.Rc.{rc_slice_items};
+
 use super::*;
 use crate::board::{Asked, Method, asked_by, status_text};
 use crate::figures::StoreFigures;
+use crate::folders::{Found, Opening, look, open_folder};
 use crate::metrics::metrics_text;
+use crate::options::read_store;
+use folder_shelf::FolderFault;
 use gate_core::Tally;
 use gate_poll::Counts;
+use share_store::Store;
+use std::alloc::Global;
+use std::process;
+use std::rc::RcSlice;
 use std::test::Fail;
 
 /// Two lines of a system's file of limits.
@@ -20,16 +31,23 @@ fn the_limit_of_handles_is_read(rt: HostRuntime) {
         None
     );
     assert_eq!(rt; handles::soft_limit("Max processes 1 2 processes\n"), None);
-    assert_eq!(rt; handles::needed_for(900), 932);
+    assert_eq!(rt; handles::needed_for(900, 5), 937);
+}
+
+/// What the program is asked for with these words behind its name, or the refusal of them.
+fn words_of(alloc: Global, given: &[&str]) -> Result<Vec<String>, Fail> {
+    let mut words = Vec::new(alloc);
+    words.push(String::from_str(alloc, "wozhinnam")?)?;
+    for word in given {
+        words.push(String::from_str(alloc, *word)?)?;
+    }
+    Ok(words)
 }
 
 #[test]
 fn options_have_defaults(rt: HostRuntime) -> Result<(), Fail> {
-    let mut words = Vec::new(rt.alloc());
-    for word in &["wozhinnam", "serve"] {
-        words.push(String::from_str(rt.alloc(), *word)?)?;
-    }
-    let Ok(options) = read_options(rt.alloc(), &words) else {
+    let words = words_of(rt.alloc(), &["serve"])?;
+    let Ok(Task::Serve(options)) = read_words(rt.alloc(), &words) else {
         return Err(Fail::from("no options"));
     };
     assert!(rt; options.listen == "127.0.0.1:3456");
@@ -41,8 +59,11 @@ fn options_have_defaults(rt: HostRuntime) -> Result<(), Fail> {
             made: 10
         }
     );
-    assert_eq!(rt; options.servers, 5);
-    assert_eq!(rt; options.room, 1_073_741_824);
+    assert_eq!(rt;
+        options.stores.as_slice(),
+        [StoreWanted::Memory(1_073_741_824); 5].as_slice()
+    );
+    assert!(rt; options.synced);
     assert!(rt; options.secret_file.is_none());
     assert_eq!(rt; options.connections, 900);
     assert_eq!(rt; options.idle, 60);
@@ -50,26 +71,83 @@ fn options_have_defaults(rt: HostRuntime) -> Result<(), Fail> {
 }
 
 #[test]
-fn wrong_options_are_refused(rt: HostRuntime) -> Result<(), Fail> {
-    let wrong = [
-        ("--shares", "4,3"),
-        ("--shares", "0,3"),
-        ("--shares", "3"),
-        ("--shares", "3,257"),
-        ("--servers", "0"),
-        ("--servers", "257"),
-        ("--room", "much"),
-        ("--connections", "0"),
-        ("--idle", "0"),
-        ("--port", "80"),
+fn wrong_words_are_refused(rt: HostRuntime) -> Result<(), Fail> {
+    let wrong: [&[&str]; 16] = [
+        &["serve", "--shares", "4,3"],
+        &["serve", "--shares", "0,3"],
+        &["serve", "--shares", "3"],
+        &["serve", "--shares", "3,257"],
+        &["serve", "--servers", "0"],
+        &["serve", "--servers", "257"],
+        &["serve", "--room", "much"],
+        &["serve", "--connections", "0"],
+        &["serve", "--idle", "0"],
+        &["serve", "--port", "80"],
+        &["serve", "--store", "disk:/a"],
+        &["serve", "--store", "mem:1", "--servers", "2"],
+        &["check"],
+        &["image"],
+        &["restore", "image"],
+        &["restore", "--shares", "4,3", "image", "/a"],
     ];
-    for (name, value) in &wrong {
-        let mut words = Vec::new(rt.alloc());
-        for word in &["wozhinnam", "serve", *name, *value] {
-            words.push(String::from_str(rt.alloc(), *word)?)?;
-        }
-        assert!(rt; read_options(rt.alloc(), &words).is_err());
+    for given in &wrong {
+        let words = words_of(rt.alloc(), *given)?;
+        assert!(rt; read_words(rt.alloc(), &words).is_err());
     }
+    Ok(())
+}
+
+#[test]
+fn stores_are_named(rt: HostRuntime) {
+    for (name, wanted) in [
+        ("mem:0", Some(StoreWanted::Memory(0))),
+        ("dir:/a/b", Some(StoreWanted::Folder("/a/b", 7))),
+        ("dir:a:12", Some(StoreWanted::Folder("a", 12))),
+        ("dir:a:b:12", Some(StoreWanted::Folder("a:b", 12))),
+        ("mem:", None),
+        ("mem:1k", None),
+        ("dir:", None),
+        ("dir::12", None),
+        ("dir:a:12k", None),
+        ("/a", None),
+    ] {
+        assert!(rt; read_store(name, 7) == wanted, "at {name}");
+    }
+}
+
+/// A share's bytes.
+fn share(alloc: Global) -> Result<RcSlice<u8>, Fail>
+    ensures { IfOk result (λ share. 0 < length (rc_slice_items share)) }
+{
+    Ok(RcSlice::from_vec(vec![in alloc; 9u8; 3usize]?)?)
+}
+
+/// A folder is made, served, and given up, and has what was put into it. It stands in the system's folder for such.
+#[test]
+fn a_folder_outlives_the_store_over_it(rt: HostRuntime) -> Result<(), Fail> {
+    let alloc = rt.alloc();
+    let top = env::temp_dir(&rt)?;
+    let folder = format!(in alloc; "{}/wozhinnam-{}", top.as_str(), process::id(rt.process()))?;
+    let folder = folder.as_str();
+    let opening = Opening {
+        settings: Settings::new(0, 1, 1, 1, b"secret"),
+        room: 1000,
+        synced: false,
+    };
+    assert!(rt; look(&rt, folder, &opening.settings)? == Found::New);
+    {
+        let mut store = open_folder(&rt, folder, &opening)?;
+        assert!(rt; store.put([7; 16], 0, share(alloc)?)?);
+        let again = open_folder(&rt, folder, &opening);
+        assert!(rt; again.err() == Some(ProgramFault::Folder(FolderFault::InUse)));
+    }
+    let other = Settings::new(0, 1, 1, 1, b"other");
+    assert!(rt; look(&rt, folder, &other) == Err(FolderFault::OtherGrid));
+    assert!(rt; look(&rt, folder, &opening.settings)? == Found::Ours);
+    let store = open_folder(&rt, folder, &opening)?;
+    assert_eq!(rt; store.held(), 3);
+    check(&rt, &[folder])?;
+    fs::remove_dir_all(&rt, folder)?;
     Ok(())
 }
 

@@ -1,0 +1,178 @@
+//! The program's command line.
+use clap::builder::ValueParser;
+use clap::{Arg, ArgAction, Command};
+use std::alloc::{AllocError, Global};
+
+/// The program's command line.
+pub fn program<'a>(alloc: Global) -> Result<Command<'a>, AllocError> {
+    Command::new(alloc, "wozhinnam")
+        .version("0.1.0")
+        .about(
+            "A web gateway for capability-addressed storage, over stores in memory and in folders.",
+        )
+        .subcommand_required(true)
+        .subcommand(serving(alloc)?)?
+        .subcommand(checking(alloc)?)?
+        .subcommand(imaging(alloc)?)?
+        .subcommand(restoring(alloc)?)
+}
+
+/// The command line of `serve`.
+fn serving<'a>(alloc: Global) -> Result<Command<'a>, AllocError> {
+    let command = Command::new(alloc, "serve")
+        .about("Serves connections until it is stopped.")
+        .arg(option(alloc, "listen", "ADDR", "where connections are accepted").default_value(
+            "127.0.0.1:3456",
+        ))?
+        .arg(option(
+            alloc,
+            "control",
+            "ADDR",
+            "where GET /status, GET /metrics and POST /stop are answered",
+        ))?
+        .arg(shares(alloc))?;
+    with_limits(alloc, with_stores(alloc, command)?)
+}
+
+/// Adds the options of stores.
+fn with_stores<'a>(alloc: Global, command: Command<'a>) -> Result<Command<'a>, AllocError> {
+    command
+        .arg(option(
+            alloc,
+            "store",
+            "STORE",
+            "a store: dir:PATH or dir:PATH:BYTES keeps its shares in a folder, mem:BYTES doesn't; one for each server, in their order",
+        )
+        .action(ArgAction::Append))?
+        .arg(
+            option(
+                alloc,
+                "servers",
+                "COUNT",
+                "how many stores there are, in memory, where no --store names one",
+            )
+            .value_parser(ValueParser::unsigned(1, 256))
+            .default_value("5")
+            .conflicts_with("store")?,
+        )?
+        .arg(
+            option(
+                alloc,
+                "room",
+                "BYTES",
+                "how many bytes each store takes that doesn't say it",
+            )
+            .value_parser(ValueParser::unsigned(0, u64::MAX))
+            .default_value("1073741824"),
+        )?
+        .arg(no_sync(alloc))?
+        .arg(secret_file(alloc))
+}
+
+/// Adds the options of connections.
+fn with_limits<'a>(alloc: Global, command: Command<'a>) -> Result<Command<'a>, AllocError> {
+    command
+        .arg(
+            option(
+                alloc,
+                "connections",
+                "MAX",
+                "how many connections may be open at once",
+            )
+            .value_parser(ValueParser::unsigned(1, 1_000_000))
+            .default_value("900"),
+        )?
+        .arg(
+            option(
+                alloc,
+                "idle",
+                "SECONDS",
+                "for how long a connection may be silent",
+            )
+            .value_parser(ValueParser::unsigned(1, 86_400))
+            .default_value("60"),
+        )
+}
+
+/// The command line of `check`.
+fn checking<'a>(alloc: Global) -> Result<Command<'a>, AllocError> {
+    Command::new(alloc, "check")
+        .about(
+            "Reads folders of a grid, and tells what stands in each; status 0 only if all is well.",
+        )
+        .arg(paths(alloc))
+}
+
+/// The command line of `image`.
+fn imaging<'a>(alloc: Global) -> Result<Command<'a>, AllocError> {
+    Command::new(alloc, "image")
+        .about("Writes the image of the grid in its folders, in their order, on standard output.")
+        .arg(paths(alloc))
+}
+
+/// The command line of `restore`.
+fn restoring<'a>(alloc: Global) -> Result<Command<'a>, AllocError> {
+    Command::new(alloc, "restore")
+        .about("Lays an image into new folders, one for each of its servers, in their order.")
+        .arg(shares(alloc))?
+        .arg(secret_file(alloc))?
+        .arg(no_sync(alloc))?
+        .arg(
+            Arg::new(alloc, "file")
+                .value_name("FILE")
+                .help("the image")
+                .required(true)
+                .action(ArgAction::Set),
+        )?
+        .arg(paths(alloc))
+}
+
+/// The folders of a grid.
+fn paths<'a>(alloc: Global) -> Arg<'a> {
+    Arg::new(alloc, "paths")
+        .value_name("PATH")
+        .help("a folder")
+        .required(true)
+        .num_args(1..257)
+        .action(ArgAction::Append)
+}
+
+/// `--shares`.
+fn shares<'a>(alloc: Global) -> Arg<'a> {
+    option(
+        alloc,
+        "shares",
+        "K,N",
+        "how many of a file's N shares give it back",
+    )
+    .default_value("3,10")
+}
+
+/// `--secret-file`.
+fn secret_file<'a>(alloc: Global) -> Arg<'a> {
+    option(
+        alloc,
+        "secret-file",
+        "PATH",
+        "a file whose bytes, at most 256, go into the key of each stored file",
+    )
+}
+
+/// `--no-sync`.
+fn no_sync<'a>(alloc: Global) -> Arg<'a> {
+    Arg::new(alloc, "no-sync")
+        .long("no-sync")
+        .help(
+            "doesn't wait for disks: faster, but a crash of the machine, not of the program, may lose the last seconds or leave files of them rotten",
+        )
+        .action(ArgAction::SetTrue)
+}
+
+/// An option with a value.
+fn option<'a>(alloc: Global, name: &'a str, value: &'a str, help: &'a str) -> Arg<'a> {
+    Arg::new(alloc, name)
+        .long(name)
+        .value_name(value)
+        .help(help)
+        .action(ArgAction::Set)
+}

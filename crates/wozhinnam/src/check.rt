@@ -1,0 +1,191 @@
+//! Looking through the folders of servers.
+use crate::fault::ProgramFault;
+use crate::folders::{named, names_in, settings_in};
+use folder_shelf::{FolderFault, Settings, read_name, unsealed};
+use log::{Log, warn};
+use std::fs;
+use std::io::ErrorKind;
+use std::rt::Files;
+
+/// How many folders of shares there are in a server's folder: one for each value of an index's first four bits.
+const FOLDERS: u8 = 16;
+
+/// What stands in a server's folder.
+#[derive(Clone, Copy, Debug, PartialEq, Eq)]
+struct Contents {
+    /// Shares, and their bytes.
+    shares: u64,
+    bytes: u64,
+    /// Files of shares that are not what was written.
+    rotten: u64,
+    /// Files that are no shares'.
+    strangers: u64,
+    /// Files that were being written when the folder was last served.
+    unfinished: u64,
+}
+
+/// Looks through folders, tells on standard output what stands in each, and refuses them where a file is rotten or a
+/// stranger's, or where they aren't of one grid. Nothing is written.
+pub fn check<R: Files + AllocGlobal + Clone + Drop + Log + Print + Eprint>(
+    rt: &R,
+    folders: &[&str],
+) -> Result<(), ProgramFault> {
+    let mut seen = Vec::with_capacity(rt.alloc(), folders.len())?;
+    let mut are_well = true;
+    for folder in folders {
+        match check_folder(rt, *folder, &mut seen) {
+            Ok(is_well) => are_well = are_well && is_well,
+            Err(fault) if fault.is_of_a_folder() => {
+                named(rt, *folder, fault);
+                are_well = false;
+            }
+            Err(fault) => return Err(fault),
+        }
+    }
+    if are_well {
+        Ok(())
+    } else {
+        Err(ProgramFault::NotWell)
+    }
+}
+
+/// Looks through a folder, and whether it is of one grid with those that were seen before it.
+fn check_folder<R: Files + AllocGlobal + Clone + Drop + Log + Print + Eprint>(
+    rt: &R,
+    folder: &str,
+    seen: &mut Vec<Settings>,
+) -> Result<bool, ProgramFault> {
+    let settings = settings_in(rt, folder)?;
+    let contents = look_through(rt, folder)?;
+    let Settings {
+        place,
+        servers,
+        needed,
+        made,
+        ..
+    } = settings;
+    let Contents {
+        shares,
+        bytes,
+        rotten,
+        strangers,
+        unfinished,
+    } = contents;
+    let told = println!(rt;
+        "{folder}: server {place} of {servers}, {needed} of {made}: {shares} shares, {bytes} bytes, {rotten} rotten, {strangers} strangers, {unfinished} unfinished"
+    );
+    if told.is_err() {
+        return Err(ProgramFault::NotPrinted);
+    }
+    let goes_with = go_together(rt, folder, &settings, seen);
+    seen.push(settings)?;
+    Ok(goes_with && rotten == 0 && strangers == 0)
+}
+
+/// Whether a folder is of another server of the grid whose folders were seen. If not, it is told why.
+fn go_together<R: Eprint>(rt: &R, folder: &str, settings: &Settings, seen: &[Settings]) -> bool {
+    for other in seen {
+        let there = Settings {
+            place: settings.place,
+            ..*other
+        };
+        if there != *settings {
+            let _ = named(rt, folder, ProgramFault::Folder(FolderFault::OtherGrid));
+            return false;
+        }
+        if *other == *settings {
+            let place = other.place;
+            let _ = named(
+                rt,
+                folder,
+                ProgramFault::Folder(FolderFault::OtherPlace(place)),
+            );
+            return false;
+        }
+    }
+    true
+}
+
+/// What stands in a folder. Each file that is rotten, and each stranger's, is logged.
+fn look_through<R: Files + AllocGlobal + Clone + Drop + Log>(
+    rt: &R,
+    folder: &str,
+) -> Result<Contents, FolderFault> {
+    let unfinished = format!(in rt.alloc(); "{folder}/new")?;
+    let mut contents = Contents {
+        shares: 0,
+        bytes: 0,
+        rotten: 0,
+        strangers: 0,
+        unfinished: names_in(rt, unfinished.as_str())?.len() as u64,
+    };
+    for number in 0..FOLDERS {
+        contents.look_in(rt, folder, number)?;
+    }
+    Ok(contents)
+}
+
+impl Contents {
+    /// Looks through the folder of shares of this number.
+    fn look_in<R: Files + AllocGlobal + Clone + Drop + Log>(
+        &mut self,
+        rt: &R,
+        folder: &str,
+        number: u8,
+    ) -> Result<(), FolderFault> {
+        let place = format!(in rt.alloc(); "{folder}/{number}")?;
+        let names = names_in(rt, place.as_str())?;
+        for name in &names {
+            self.look_at_name(rt, place.as_str(), number, name.as_str())?;
+        }
+        Ok(())
+    }
+
+    /// Looks at a name in the folder of shares of this number.
+    fn look_at_name<R: Files + AllocGlobal + Log>(
+        &mut self,
+        rt: &R,
+        folder: &str,
+        number: u8,
+        name: &str,
+    ) -> Result<(), FolderFault> {
+        let path = format!(in rt.alloc(); "{folder}/{name}")?;
+        if let Some(share) = read_name(rt.alloc(), name)? {
+            let index = share.0;
+            if index[0] / FOLDERS == number {
+                return self.look_at(rt, path.as_str());
+            }
+        }
+        warn!(rt; "no share: {path}");
+        self.strangers = self.strangers.saturating_add(1);
+        Ok(())
+    }
+
+    /// Looks at the file of a share.
+    fn look_at<R: Files + AllocGlobal + Log>(
+        &mut self,
+        rt: &R,
+        path: &str,
+    ) -> Result<(), FolderFault> {
+        match fs::read(rt, path) {
+            Ok(text) => {
+                if let Some(bytes) = unsealed(text) {
+                    if !bytes.is_empty() {
+                        self.shares = self.shares.saturating_add(1);
+                        self.bytes = self.bytes.saturating_add(bytes.len() as u64);
+                        return Ok(());
+                    }
+                }
+            }
+            // who serves the folder took it away
+            Err(error) if error.kind() == ErrorKind::NotFound => return Ok(()),
+            Err(error) if error.kind() == ErrorKind::OutOfMemory => {
+                return Err(FolderFault::NoMemory);
+            }
+            Err(_) => {}
+        }
+        warn!(rt; "rotten: {path}");
+        self.rotten = self.rotten.saturating_add(1);
+        Ok(())
+    }
+}

@@ -1,0 +1,271 @@
+//! Folders of servers: what stands in them before they are opened, and opening them.
+use crate::fault::ProgramFault;
+use crate::server_shelf::ServerShelf;
+use folder_shelf::{FolderFault, FolderLock, FolderShelf, Settings, check_settings, read_settings};
+use kept_store::KeptStore;
+use log::{Log, info, warn};
+use share_store::Store;
+use std::alloc::{AllocError, Global};
+use std::fs::File;
+use std::io::ErrorKind;
+use std::rt::Files;
+use std::{fs, io};
+
+/// How many bytes a folder's disk is to have room for at least when it is opened.
+const PROBE: usize = 65_536;
+
+/// A server's store: it answers from memory, and keeps its shares in a folder too where it has one.
+pub type ServerStore<R> = KeptStore<ServerShelf<R>>;
+
+/// What stands in a folder before it is opened.
+#[derive(Clone, Copy, Debug, PartialEq, Eq)]
+pub enum Found {
+    /// It isn't there, or has no more in it than a lock and unfinished files.
+    New,
+    /// The settings that are wanted.
+    Ours,
+}
+
+/// How a folder is opened.
+#[derive(Clone, Copy, Debug, PartialEq, Eq)]
+pub struct Opening {
+    /// Whose it is to be.
+    pub settings: Settings,
+    /// How many bytes of shares it takes.
+    pub room: u64,
+    /// Whether each change is synced.
+    pub synced: bool,
+}
+
+/// Tells a fault of a folder by the folder's name on standard error.
+pub fn named<R: Eprint>(rt: &R, folder: &str, fault: ProgramFault) -> ProgramFault {
+    if fault.is_of_a_folder() {
+        let _ = eprintln!(rt; "wozhinnam: {folder}: {fault}");
+    }
+    fault
+}
+
+/// The text of a folder's settings file. `None` where there is none.
+fn settings_text_in<R: Files + AllocGlobal>(
+    rt: &R,
+    folder: &str,
+) -> Result<Option<Vec<u8>>, FolderFault> {
+    let path = format!(in rt.alloc(); "{folder}/grid")?;
+    match fs::read(rt, path.as_str()) {
+        Ok(text) => Ok(Some(text)),
+        Err(error) if error.kind() == ErrorKind::NotFound => Ok(None),
+        Err(error) => Err(FolderFault::from(error)),
+    }
+}
+
+/// The settings of a folder. Nothing is written.
+pub fn settings_in<R: Files + AllocGlobal>(rt: &R, folder: &str) -> Result<Settings, FolderFault> {
+    match settings_text_in(rt, folder)? {
+        Some(text) => match read_settings(rt.alloc(), &text)? {
+            Some(settings) => Ok(settings),
+            None => Err(FolderFault::SettingsRotten),
+        },
+        None => {
+            fs::metadata(rt, folder)?;
+            Err(FolderFault::NoSettings)
+        }
+    }
+}
+
+/// What stands in a folder that is to have these settings. It is refused where it has others, or files and none.
+/// Nothing is written.
+pub fn look<R: Files + AllocGlobal + Clone + Drop>(
+    rt: &R,
+    folder: &str,
+    settings: &Settings,
+) -> Result<Found, FolderFault> {
+    match settings_text_in(rt, folder)? {
+        Some(text) => {
+            check_settings(rt.alloc(), &text, settings)?;
+            Ok(Found::Ours)
+        }
+        None => {
+            if is_new(rt, folder)? {
+                Ok(Found::New)
+            } else {
+                Err(FolderFault::NoSettings)
+            }
+        }
+    }
+}
+
+/// Refuses a folder that isn't new, by its name. Nothing is written.
+pub fn look_at_new<R: Files + AllocGlobal + Clone + Drop + Eprint>(
+    rt: &R,
+    folder: &str,
+) -> Result<(), ProgramFault> {
+    match is_new(rt, folder) {
+        Ok(true) => Ok(()),
+        Ok(false) => Err(named(rt, folder, ProgramFault::NotEmpty)),
+        Err(fault) => Err(named(rt, folder, ProgramFault::from(fault))),
+    }
+}
+
+/// Refuses a folder that hasn't these settings, by its name. Nothing is written.
+pub fn look_at_old<R: Files + AllocGlobal + Eprint>(
+    rt: &R,
+    folder: &str,
+    settings: &Settings,
+) -> Result<(), ProgramFault> {
+    match has_settings(rt, folder, settings) {
+        Ok(()) => Ok(()),
+        Err(fault) => Err(named(rt, folder, ProgramFault::from(fault))),
+    }
+}
+
+/// Refuses a folder that hasn't these settings. Nothing is written.
+fn has_settings<R: Files + AllocGlobal>(
+    rt: &R,
+    folder: &str,
+    settings: &Settings,
+) -> Result<(), FolderFault> {
+    match settings_text_in(rt, folder)? {
+        Some(text) => check_settings(rt.alloc(), &text, settings),
+        None => {
+            fs::metadata(rt, folder)?;
+            Err(FolderFault::NoSettings)
+        }
+    }
+}
+
+/// Whether a folder isn't there, or has no more in it than a lock and unfinished files.
+fn is_new<R: Files + AllocGlobal + Clone + Drop>(
+    rt: &R,
+    folder: &str,
+) -> Result<bool, FolderFault> {
+    let entries = match fs::read_dir(rt, folder) {
+        Ok(entries) => entries,
+        Err(error) if error.kind() == ErrorKind::NotFound => return Ok(true),
+        Err(error) => return Err(FolderFault::from(error)),
+    };
+    for entry in entries {
+        match entry {
+            Ok(entry) => {
+                if entry.file_name() != "lock" && entry.file_name() != "new" {
+                    return Ok(false);
+                }
+            }
+            Err(error) if error.kind() == ErrorKind::InvalidFilename => return Ok(false),
+            Err(error) => return Err(FolderFault::from(error)),
+        }
+    }
+    Ok(true)
+}
+
+/// The names in a folder, and none where it isn't there. One that is no text is left out.
+pub fn names_in<R: Files + AllocGlobal + Clone + Drop>(
+    rt: &R,
+    folder: &str,
+) -> Result<Vec<String>, FolderFault> {
+    let mut names = Vec::new(rt.alloc());
+    let entries = match fs::read_dir(rt, folder) {
+        Ok(entries) => entries,
+        Err(error) if error.kind() == ErrorKind::NotFound => return Ok(names),
+        Err(error) => return Err(FolderFault::from(error)),
+    };
+    for entry in entries {
+        match entry {
+            Ok(entry) => names.push(String::from_str(rt.alloc(), entry.file_name())?)?,
+            Err(error) if error.kind() == ErrorKind::InvalidFilename => {}
+            Err(error) => return Err(FolderFault::from(error)),
+        }
+    }
+    Ok(names)
+}
+
+/// Opens a folder: takes its lock, reads its shares, and logs what of it is left alone. A fault is told by its name.
+pub fn open_folder<R: Files<File = File> + AllocGlobal + Clone + Drop + Log + Eprint>(
+    rt: &R,
+    folder: &str,
+    opening: &Opening,
+) -> Result<ServerStore<R>, ProgramFault> {
+    match open_store(rt, folder, opening) {
+        Ok(store) => {
+            info!(rt; "{folder}: {} bytes of shares", store.held());
+            if let Some(shelf) = store.shelf().folder() {
+                log_each(rt, "rotten and left alone", shelf.rotten());
+                log_each(rt, "no share and left alone", shelf.strangers());
+            }
+            Ok(store)
+        }
+        Err(fault) => Err(named(rt, folder, fault)),
+    }
+}
+
+/// Logs files of a folder.
+pub fn log_each<R: Log>(rt: &R, words: &str, paths: &[String]) {
+    for path in paths {
+        warn!(rt; "{words}: {path}");
+    }
+}
+
+/// The store over a folder.
+fn open_store<R: Files<File = File> + AllocGlobal + Clone + Drop>(
+    rt: &R,
+    folder: &str,
+    opening: &Opening,
+) -> Result<ServerStore<R>, ProgramFault> {
+    match open_shelf(rt, folder, opening) {
+        Ok(shelf) => {
+            if is_full(rt, folder)? {
+                return Err(ProgramFault::DiskFull);
+            }
+            Ok(KeptStore::open(rt.alloc(), shelf, opening.room)?)
+        }
+        Err(FolderFault::Failed) => {
+            if is_full(rt, folder)? {
+                Err(ProgramFault::DiskFull)
+            } else {
+                Err(ProgramFault::Folder(FolderFault::Failed))
+            }
+        }
+        Err(fault) => Err(ProgramFault::from(fault)),
+    }
+}
+
+/// The shelf in a folder, with its lock.
+fn open_shelf<R: Files<File = File> + AllocGlobal + Clone + Drop>(
+    rt: &R,
+    folder: &str,
+    opening: &Opening,
+) -> Result<ServerShelf<R>, FolderFault> {
+    let lock = FolderLock::take(rt, folder)?;
+    let shelf = FolderShelf::open(rt.clone()?, folder, &opening.settings, opening.synced)?;
+    Ok(ServerShelf::in_folder(lock, shelf))
+}
+
+/// Whether a folder's disk has no room for some bytes: they are written to an unfinished file, which is taken away.
+pub fn is_full<R: Files + AllocGlobal>(rt: &R, folder: &str) -> Result<bool, AllocError> {
+    let unfinished = format!(in rt.alloc(); "{folder}/new")?;
+    if is_for_want_of_room(&fs::create_dir(rt, unfinished.as_str())) {
+        return Ok(true);
+    }
+    let probe = format!(in rt.alloc(); "{unfinished}/probe")?;
+    let bytes = vec![in rt.alloc(); 0u8; PROBE]?;
+    let written = fs::write(rt, probe.as_str(), &bytes);
+    let _ = fs::remove_file(rt, probe.as_str());
+    Ok(is_for_want_of_room(&written))
+}
+
+/// Whether a call failed because a disk is full.
+fn is_for_want_of_room(answer: &io::Result<()>) -> bool {
+    match answer {
+        Ok(()) => false,
+        Err(error) => {
+            error.kind() == ErrorKind::StorageFull || error.kind() == ErrorKind::QuotaExceeded
+        }
+    }
+}
+
+/// A store in memory alone.
+pub fn memory_store<R: Files + AllocGlobal + Clone + Drop>(
+    alloc: Global,
+    room: u64,
+) -> Result<ServerStore<R>, ProgramFault> {
+    Ok(KeptStore::open(alloc, ServerShelf::nothing(), room)?)
+}

@@ -1,0 +1,262 @@
+//! Images of a grid in folders: writing one, and laying one into new folders.
+ghost use Rattle.std.specs.Prelude.{◌≡◌, ◌<◌, ◌≤◌, All, IfOk, IsTrue, length, vec_len};
+
+use crate::fault::ProgramFault;
+use crate::folders::{
+    Opening, ServerStore, is_full, look_at_new, look_at_old, named, open_folder, settings_in,
+};
+use crate::options::Restoring;
+use crate::server_shelf::ServerShelf;
+use crate::stores::empty_stores;
+use folder_shelf::{FolderFault, Settings};
+use grid::{Grid, GridFault};
+use kept_store::KeptStore;
+use log::{Log, info};
+use share_store::Store;
+use std::alloc::AllocError;
+use std::fs::File;
+use std::io::{BufReader, BufWriter, Write};
+use std::rt::Files;
+use std::{fs, io};
+
+/// How many bytes of an image are read or written at once.
+const BUFFER: usize = 65_536;
+
+/// Writes the image of the grid in these folders, which are given in the order of its servers, on standard output.
+pub fn write_image<R: Files<File = File> + AllocGlobal + Clone + Drop + Log + Print + Eprint>(
+    rt: &R,
+    folders: &[&str],
+) -> Result<(), ProgramFault> {
+    let Some(folder) = folders.first() else {
+        return Err(ProgramFault::Arguments);
+    };
+    let first = match settings_in(rt, *folder) {
+        Ok(first) => first,
+        Err(fault) => return Err(named(rt, *folder, ProgramFault::from(fault))),
+    };
+    if usize::from(first.servers) != folders.len() {
+        let fault = ProgramFault::OtherCount(folders.len(), first.servers);
+        return Err(named(rt, *folder, fault));
+    }
+    if first.servers > 256 {
+        let fault = ProgramFault::Folder(FolderFault::SettingsRotten);
+        return Err(named(rt, *folder, fault));
+    }
+    for (place, folder) in (0..first.servers).zip(folders) {
+        look_at_old(rt, *folder, &Settings { place, ..first })?;
+    }
+    let mut grid = Grid::new(open_all(rt, folders, &first, true)?);
+    put_image(rt, &mut grid)
+}
+
+/// Writes the image of a grid on standard output.
+fn put_image<R: Files + AllocGlobal + Clone + Drop + Print>(
+    rt: &R,
+    grid: &mut Grid<ServerStore<R>>,
+) -> Result<(), ProgramFault> {
+    let Ok(mut writer) = BufWriter::with_capacity(rt.alloc(), BUFFER, io::writer(rt)) else {
+        return Err(ProgramFault::NoMemory);
+    };
+    match grid.write_image(&mut writer) {
+        Ok(()) => match writer.flush() {
+            Ok(()) => Ok(()),
+            Err(_) => Err(ProgramFault::ImageUnwritten),
+        },
+        Err(GridFault::NoMemory) => Err(ProgramFault::NoMemory),
+        Err(_) => Err(ProgramFault::ImageUnwritten),
+    }
+}
+
+/// Opens these folders as those of a grid's servers, in their order: the settings are those of the first server.
+fn open_all<R: Files<File = File> + AllocGlobal + Clone + Drop + Log + Eprint>(
+    rt: &R,
+    folders: &[&str],
+    first: &Settings,
+    synced: bool,
+) -> Result<Vec<ServerStore<R>>, ProgramFault>
+    requires { length folders.now ≡ first.now.servers }
+    ensures { IfOk result (λ stores. vec_len stores ≡ first.now.servers) }
+{
+    let mut stores = Vec::with_capacity(rt.alloc(), folders.len())?;
+    for place in 0..first.servers {
+        let opening = Opening {
+            settings: Settings { place, ..*first },
+            room: u64::MAX,
+            synced,
+        };
+        stores.push(open_folder(rt, folders[usize::from(place)], &opening)?)?;
+    }
+    Ok(stores)
+}
+
+/// Lays an image into new folders, as those of a grid with this secret. Nothing is written before each folder was found
+/// new and the image was read to its end. Until the last share stands, the folders have no settings: so what a crash
+/// leaves of a grid is not served.
+pub fn restore<R: Files<File = File> + AllocGlobal + Clone + Drop + Log + Eprint>(
+    rt: &R,
+    wanted: &Restoring<'_>,
+    secret: &[u8],
+) -> Result<(), ProgramFault> {
+    let folders = wanted.folders.as_slice();
+    let Ok(servers) = u16::try_from(folders.len()) else {
+        return Err(ProgramFault::Arguments);
+    };
+    if servers == 0 || servers > 256 {
+        return Err(ProgramFault::Arguments);
+    }
+    look_at_each(rt, folders)?;
+    try_image(rt, wanted.file, servers)?;
+    let shares = wanted.shares;
+    let first = Settings::new(0, servers, shares.needed, shares.made, secret);
+    let stores = open_all(rt, folders, &first, wanted.synced)?;
+    if !hold_nothing(&stores) {
+        return Err(tell_filled(rt, folders, &stores));
+    }
+    move_settings(rt, folders, "grid", "restoring")?;
+    let grid = lay_image(rt, wanted, stores)?;
+    move_settings(rt, folders, "restoring", "grid")?;
+    log_restored(rt, folders, grid.stores());
+    Ok(())
+}
+
+/// Refuses a folder that isn't new, by its name. Nothing is written.
+fn look_at_each<R: Files + AllocGlobal + Clone + Drop + Eprint>(
+    rt: &R,
+    folders: &[&str],
+) -> Result<(), ProgramFault> {
+    for folder in folders {
+        look_at_new(rt, *folder)?;
+    }
+    Ok(())
+}
+
+/// Logs what stands in each folder.
+fn log_restored<R: Files + AllocGlobal + Clone + Drop + Log>(
+    rt: &R,
+    folders: &[&str],
+    stores: &[ServerStore<R>],
+) {
+    for (folder, store) in folders.iter().zip(stores) {
+        info!(rt; "{}: {} bytes of shares were laid in", *folder, store.held());
+    }
+}
+
+/// Reads an image to its end, and refuses what is no image of so many servers.
+fn try_image<R: Files + AllocGlobal>(rt: &R, file: &str, servers: u16) -> Result<(), ProgramFault>
+    requires some { 0 < servers }
+    requires few { servers ≤ 256 }
+{
+    let mut reader = open_image(rt, file)?;
+    let stores = empty_stores(rt.alloc(), servers, u64::MAX)?;
+    match Grid::read_image(rt.alloc(), stores, &mut reader) {
+        Ok(_grid) => Ok(()),
+        Err((fault, _stores)) => Err(why_not_read(fault)),
+    }
+}
+
+/// The file of an image, from its first byte on.
+fn open_image<R: Files + AllocGlobal>(
+    rt: &R,
+    file: &str,
+) -> Result<BufReader<R::File>, ProgramFault> {
+    let Ok(file) = fs::open(rt, file) else {
+        return Err(ProgramFault::ImageUnread);
+    };
+    match BufReader::with_capacity(rt.alloc(), BUFFER, file) {
+        Ok(reader) => Ok(reader),
+        Err(_) => Err(ProgramFault::NoMemory),
+    }
+}
+
+/// Why an image was not read.
+fn why_not_read(fault: GridFault) -> ProgramFault {
+    match fault {
+        GridFault::NoMemory => ProgramFault::NoMemory,
+        GridFault::BadImage(place) => ProgramFault::BadImage(place),
+        _ => ProgramFault::ImageUnread,
+    }
+}
+
+/// Whether no store holds a byte.
+fn hold_nothing<R: Files + AllocGlobal + Clone + Drop>(stores: &[ServerStore<R>]) -> bool
+    ensures { IsTrue result →
+        All (λ store. ⟦<KeptStore<ServerShelf<R>> as Store>⟧.held store ≡ 0) stores.now }
+{
+    for store in stores {
+        if store.held() != 0 {
+            return false;
+        }
+    }
+    true
+}
+
+/// Tells the first folder whose store holds a byte by its name.
+fn tell_filled<R: Files + AllocGlobal + Clone + Drop + Eprint>(
+    rt: &R,
+    folders: &[&str],
+    stores: &[ServerStore<R>],
+) -> ProgramFault {
+    for (folder, store) in folders.iter().zip(stores) {
+        if store.held() > 0 {
+            return named(rt, *folder, ProgramFault::NotEmpty);
+        }
+    }
+    ProgramFault::NotEmpty
+}
+
+/// The grid that an image has, in stores that hold nothing. A folder that failed is told by its name.
+fn lay_image<R: Files + AllocGlobal + Clone + Drop + Eprint>(
+    rt: &R,
+    wanted: &Restoring<'_>,
+    stores: Vec<ServerStore<R>>,
+) -> Result<Grid<ServerStore<R>>, ProgramFault>
+    requires some { 0 < vec_len stores }
+    requires few { vec_len stores ≤ 256 }
+    requires empty { All (λ store. ⟦<KeptStore<ServerShelf<R>> as Store>⟧.held store ≡ 0) stores.items }
+{
+    let mut reader = open_image(rt, wanted.file)?;
+    match Grid::read_image(rt.alloc(), stores, &mut reader) {
+        Ok(grid) => Ok(grid),
+        Err((GridFault::Down(server), _stores)) => match wanted.folders.get(server) {
+            Some(folder) => Err(why_failed(rt, *folder)?),
+            None => Err(ProgramFault::ImageUnread),
+        },
+        Err((fault, _stores)) => Err(why_not_read(fault)),
+    }
+}
+
+/// Why a folder failed, told by its name.
+fn why_failed<R: Files + AllocGlobal + Eprint>(
+    rt: &R,
+    folder: &str,
+) -> Result<ProgramFault, AllocError> {
+    let fault = if is_full(rt, folder)? {
+        ProgramFault::DiskFull
+    } else {
+        ProgramFault::Folder(FolderFault::Failed)
+    };
+    Ok(named(rt, folder, fault))
+}
+
+/// Gives the settings file of each folder another name, and syncs that.
+fn move_settings<R: Files<File = File> + AllocGlobal + Eprint>(
+    rt: &R,
+    folders: &[&str],
+    from: &str,
+    to: &str,
+) -> Result<(), ProgramFault> {
+    for folder in folders {
+        let path = *folder;
+        let from = format!(in rt.alloc(); "{path}/{from}")?;
+        let to = format!(in rt.alloc(); "{path}/{to}")?;
+        if fs::rename(rt, from.as_str(), to.as_str()).is_err() || sync(rt, path).is_err() {
+            return Err(why_failed(rt, path)?);
+        }
+    }
+    Ok(())
+}
+
+/// Syncs the names in a folder.
+fn sync<R: Files<File = File>>(rt: &R, folder: &str) -> io::Result<()> {
+    File::open(rt, folder)?.sync_all()
+}
