@@ -27,36 +27,65 @@ fn is_given_after_a_loss(alloc: Global, size: usize) -> Result<bool, Fail> {
     let mut gateway = gateway(alloc, 10_000_000)?;
     let file = counted_bytes(alloc, size)?;
     let cap = cap_of(alloc, &mut gateway, &file)?;
-    let get = joined(alloc, &[GET, &cap, HTTP])?;
-    send(
-        &mut gateway,
-        1,
-        &joined(alloc, &[&get, &get, GET, &cap, PART])?,
-    )?;
+    let taken = taken_around_a_loss(alloc, &mut gateway, &cap)?;
+    let is_gone = is_answered(alloc, &mut gateway, (&[GET, &cap, HTTP], NOT_FOUND.1))?;
+    Ok(is_gone && is_whole(alloc, &taken, &file)?)
+}
+
+/// What is taken of three replies, of which the first bytes are taken before the shares are lost.
+fn taken_around_a_loss(
+    alloc: Global,
+    gateway: &mut Gateway<MemStore>,
+    cap: &[u8],
+) -> Result<Vec<u8>, Fail> {
+    ask_thrice(alloc, gateway, cap)?;
     let mut taken = Vec::new(alloc);
-    take_many(&mut gateway, &mut taken, 200, 1)?;
-    open(&mut gateway, 2)?;
-    send(&mut gateway, 2, &joined(alloc, PUT_LETTERS)?)?;
-    let index = index_of(alloc, &cap)?;
+    take_many(gateway, &mut taken, 200, 1)?;
+    store_letters(alloc, gateway)?;
+    lose_each(alloc, gateway, cap)?;
+    take_many(gateway, &mut taken, 40, 131_073)?;
+    Ok(taken)
+}
+
+/// Connection 1 asks for a file, twice, and for a part of it, in one piece.
+fn ask_thrice(alloc: Global, gateway: &mut Gateway<MemStore>, cap: &[u8]) -> Result<(), Fail> {
+    let piece = joined(alloc, &[GET, cap, HTTP, GET, cap, HTTP, GET, cap, PART])?;
+    send(gateway, 1, &piece)
+}
+
+/// Connection 2 stores another file.
+fn store_letters(alloc: Global, gateway: &mut Gateway<MemStore>) -> Result<(), Fail> {
+    open(gateway, 2)?;
+    let piece = joined(alloc, PUT_LETTERS)?;
+    send(gateway, 2, &piece)
+}
+
+/// The shares of a cap are lost.
+fn lose_each(alloc: Global, gateway: &mut Gateway<MemStore>, cap: &[u8]) -> Result<(), Fail> {
+    let index = index_of(alloc, cap)?;
     for number in 0..10 {
         let _ = gateway.lose(0, index, number)?;
     }
-    take_many(&mut gateway, &mut taken, 40, 131_073)?;
-    let whole = message(alloc, FILE, &file)?;
-    let digits = size.to_string(alloc)?;
-    let part = &file[131_000..132_000];
-    let is_whole = is_joined(
-        &taken,
+    Ok(())
+}
+
+/// Whether these are the replies to the three requests.
+fn is_whole(alloc: Global, taken: &[u8], file: &[u8]) -> Result<bool, Fail> {
+    let whole = message(alloc, FILE, file)?;
+    let reply = whole.as_slice();
+    let digits = file.len().to_string(alloc)?;
+    let part = file.get(131_000..132_000).ok_or("no part")?;
+    Ok(is_joined(
+        taken,
         &[
-            &whole,
-            &whole,
+            reply,
+            reply,
             PART_HEAD,
             digits.as_bytes(),
             b"\r\n\r\n",
             part,
         ],
-    );
-    Ok(is_whole && is_answered(alloc, &mut gateway, (&[&get], NOT_FOUND.1))?)
+    ))
 }
 
 /// The cap that connection 1 is given of a file that it puts.
