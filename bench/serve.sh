@@ -52,12 +52,24 @@ ends 2
 ends 3 serve --listen nobody.invalid:80
 ends 3 serve --listen 127.0.0.1
 ends 4 serve --listen "$(address 'listening on')"
+ends 6 serve --listen 203.0.113.1:80
+if test "$(id -u)" = 0 && test "$(cat /proc/sys/net/ipv4/ip_unprivileged_port_start)" -gt 80; then
+    chmod 711 "$folder"
+    install -m 755 "$program" "$folder/program"
+    status=0
+    setpriv --reuid=65534 --regid=65534 --clear-groups --no-new-privs timeout 20 "$folder/program" serve --listen 127.0.0.1:80 \
+        > "$folder/nothing" 2> "$folder/why" || status=$?
+    test "$status" = 5 || fail "no right to listen ends with $status"
+fi
 ends 7 serve --secret-file "$folder/none"
 head -c 257 /dev/zero > "$folder/long"
 ends 8 serve --secret-file "$folder/long"
 status=0
 (ulimit -n 100 && timeout 20 "$program" serve --connections 100) > "$folder/nothing" 2> "$folder/why" || status=$?
 test "$status" = 9 || fail "few handles end with $status"
+status=0
+timeout 20 "$program" serve --listen 127.0.0.1:0 > /dev/full 2> "$folder/why" || status=$?
+test "$status" = 11 || fail "a full output ends with $status"
 
 # curl and wget, eight runs at once
 runs=

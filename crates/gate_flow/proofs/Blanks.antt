@@ -15,6 +15,7 @@ last_is l n i e is =
   where
     lengths : length n ≡ length l - (length l - length n)
     lengths = ap length is ∙ length-drop (length l - length n) l
+
     at : length l - 1 ≡ (length l - length n) + i
     at = grind arith
 
@@ -23,8 +24,8 @@ last_of_blank l is = ⊎_elim
     (λ e. last_is l (10 ∷ 10 ∷ []) 1 refl e)
     (λ e. last_is l (10 ∷ 13 ∷ 10 ∷ []) 2 refl e)
     ((Decides-or (ends_with nat_eq l (10 ∷ 10 ∷ [])) (ends_with nat_eq l (10 ∷ 13 ∷ 10 ∷ []))
-        (slice_eq-Decides Decides-eqb (10 ∷ 10 ∷ []) (drop (length l - 2) l) (ends_with nat_eq l (10 ∷ 10 ∷ [])) refl)
-        (slice_eq-Decides Decides-eqb (10 ∷ 13 ∷ 10 ∷ []) (drop (length l - 3) l) (ends_with nat_eq l (10 ∷ 13 ∷ 10 ∷ [])) refl)).0 is)
+    (slice_eq-Decides Decides-eqb (10 ∷ 10 ∷ []) (drop (length l - 2) l) (ends_with nat_eq l (10 ∷ 10 ∷ [])) refl)
+    (slice_eq-Decides Decides-eqb (10 ∷ 13 ∷ 10 ∷ []) (drop (length l - 3) l) (ends_with nat_eq l (10 ∷ 13 ∷ 10 ∷ [])) refl)).0 is)
 
 -- where the byte before place m is another, no blank line ends there
 pub no_blank : (bytes : List ℕ) (m : ℕ) → 0 < m → m ≤ length bytes → (get_or bytes (m - 1) 0 ≡ 10 → ⊥) → ends_in_empty_line (take m bytes) ≡ false
@@ -46,5 +47,6 @@ none_yet bytes end n before nowhere within m least le =
       where
         place : end + (m - 1 - end) ≡ m - 1
         place = omega arith
+
         at : get_or (take (length bytes - end) (drop end bytes)) (m - 1 - end) 0 ≡ get_or bytes (m - 1) 0
         at = get_or-take (length bytes - end) (drop end bytes) (m - 1 - end) 0 (omega arith) ∙ (get_or-drop end bytes (m - 1 - end) 0 ∙ ap (λ k. get_or bytes k 0) place)

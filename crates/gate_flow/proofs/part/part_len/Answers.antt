@@ -15,10 +15,11 @@ rest bytes end = length-take-le (length bytes - end) (drop end bytes) (omega (le
 -- src/part.rt:20:13
 pub returns-then-ends_blank : goal.returns-then-ends_blank
 returns-then-ends_blank c = record {
-    some = omega arith;
-    within = omega (rest c.args.bytes.now c.lines.end, c.in-Some.ensures.0.high, c.lines.invariant.0, arith);
-    first = λ m least le. none_yet c.args.bytes.now c.lines.end c.in-Some.at (c.lines.invariant.1) (c.in-Some.ensures.0.before) (omega (rest c.args.bytes.now c.lines.end, c.in-Some.ensures.0.high, c.lines.invariant.0, arith)) m least (omega (le, arith));
-    end = inr (c.if-end-ge-LEAST.true, sym c.if-ends_blank.ensures) }
+  some = omega arith;
+  within = omega (rest c.args.bytes.now c.lines.end, c.in-Some.ensures.0.high, c.lines.invariant.0, arith);
+  first = λ m least le. none_yet c.args.bytes.now c.lines.end c.in-Some.at (c.lines.invariant.1) (c.in-Some.ensures.0.before) (omega (rest c.args.bytes.now c.lines.end, c.in-Some.ensures.0.high, c.lines.invariant.0, arith)) m least (omega (le, arith));
+  end = inr (c.if-end-ge-LEAST.true, sym c.if-ends_blank.ensures);
+}
 
 -- src/part.rt:17:5
 pub lines-preserved : goal.lines-preserved
@@ -26,12 +27,16 @@ lines-preserved c = (within, none)
   where
     end : ℕ
     end = c.lines.end + (c.in-Some.at + 1)
+
     within : end ≤ length c.args.bytes.now
     within = omega (rest c.args.bytes.now c.lines.end, c.in-Some.ensures.0.high, c.lines.invariant.0, arith)
+
     last : 128 ≤ end → ends_in_empty_line (take end c.args.bytes.now) ≡ false
     last least = elim c.else-end-ge-LEAST.branch [
-        else-end-ge-LEAST-via-then-end-ge-LEAST+else-ends_blank w ↦ sym w.ends_blank.ensures ∙ w.if-ends_blank.false
-      | else-end-ge-LEAST-via-else-end-ge-LEAST w ↦ absurd (omega (w.if-end-ge-LEAST.false, least, arith)) ]
+      | else-end-ge-LEAST-via-then-end-ge-LEAST+else-ends_blank w ↦ sym w.ends_blank.ensures ∙ w.if-ends_blank.false
+      | else-end-ge-LEAST-via-else-end-ge-LEAST w ↦ absurd (omega (w.if-end-ge-LEAST.false, least, arith))
+    ]
+
     none : (m : ℕ) → 128 ≤ m → m ≤ end → ends_in_empty_line (take m c.args.bytes.now) ≡ false
     none m least le = ⊎_elim
         (λ t. none_yet c.args.bytes.now c.lines.end c.in-Some.at (c.lines.invariant.1) (c.in-Some.ensures.0.before) (omega (within, arith)) m least (t.1))
@@ -41,8 +46,9 @@ lines-preserved c = (within, none)
 -- src/part.rt:12:1
 pub returns : goal.returns
 returns c = record {
-    some = c.requires;
-    within = omega arith;
-    first = λ m least le. none_yet c.args.bytes.now c.lines.end (length c.args.bytes.now - c.lines.end) (c.lines.invariant.1)
-        (λ k low high. c.in_default.ensures k low (omega (rest c.args.bytes.now c.lines.end, high, arith))) (omega (c.lines.invariant.0, arith)) m least (omega (le, c.lines.invariant.0, arith));
-    end = inl refl }
+  some = c.requires;
+  within = omega arith;
+  first = λ m least le. none_yet c.args.bytes.now c.lines.end (length c.args.bytes.now - c.lines.end) (c.lines.invariant.1)
+      (λ k low high. c.in_default.ensures k low (omega (rest c.args.bytes.now c.lines.end, high, arith))) (omega (c.lines.invariant.0, arith)) m least (omega (le, c.lines.invariant.0, arith));
+  end = inl refl;
+}
