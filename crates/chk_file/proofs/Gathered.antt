@@ -85,7 +85,7 @@ rows_more n fs f below =
 -- ---- all stores
 
 -- what is found of a number is what stands of it
-of_standing : FoundLaws → (number : ℕ) (maps : List Shares) (index : List ℕ) → length maps ≤ 256
+pub of_standing : FoundLaws → (number : ℕ) (maps : List Shares) (index : List ℕ) → length maps ≤ 256
     → of_number number (found_below maps index (length maps)) ≡ places (row_of (standing maps) index) number
 unfolding most_servers
 of_standing laws number maps index few =
@@ -93,17 +93,14 @@ of_standing laws number maps index few =
     ∙ sym (none_past (λ server. option_map (λ s. (server, s)) (standing maps server (index, number))) (length maps) 256 few
     (λ server past. ap (λ (o : Option Shares). option_map (λ s. (server, s)) (option_and_then (λ shares. get shares (index, number)) o)) (slice_get_past maps server past)))
 
--- ---- what is made of the rows is made of the row of the index
+-- ---- what is made of the rows is made of the row of which they are
 
-module _ (laws : FoundLaws) (maps : List Shares) (index : List ℕ) (few : length maps ≤ 256) (n : ℕ) where
+module _ (found : List Found) (row : Row) (same : (number : ℕ) → of_number number found ≡ places row number) (n : ℕ) where
   abbrev rows : List (List Place)
-  rows = by_number n (found_below maps index (length maps))
-
-  abbrev row : Row
-  row = row_of (standing maps) index
+  rows = by_number n found
 
   same_places : (number : ℕ) → number < n → get_or rows number [] ≡ places row number
-  same_places number below = row_at n number (found_below maps index (length maps)) below ∙ of_standing laws number maps index few
+  same_places number below = row_at n number found below ∙ same number
 
   pub rows_are_good : (p : ParamsValue) (ueb : List ℕ) → good_below p ueb rows n ≡ filter_map (good_at p ueb row) (range_with_len 0 n)
   rows_are_good p ueb =

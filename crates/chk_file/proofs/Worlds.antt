@@ -5,12 +5,13 @@ use Rattle.std.specs.Option.{option_map}
 use Rattle.std.specs.Ordering.{eq_by_cmp, nat_cmp, is_eq}
 use Rattle.std.specs.declared.cmp.Ordering.{Ordering}
 use Rattle.std.specs.declared.cmp.Ordering.TheVariants.{Less, Equal, Greater}
-use Rattle.std.specs.Cmp.Lexicographic.{slice_cmp, pointwise, bytes_decides}
-use Rattle.std.proofs.lemmas.Bool.{and_parts, eqb-true, ltb-true}
+use Rattle.std.specs.Cmp.Lexicographic.{slice_cmp, pointwise, bytes_decides, nat_list_cmp_total}
+use Rattle.std.proofs.lemmas.Bool.{and_parts, eqb-true, eq-eqb, ltb-true, lt-ltb}
 use Rattle.std.proofs.lemmas.Bool.Decides.{nat_tests}
 use Rattle.std.proofs.lemmas.Option.{slice_get-get_or, same_Some}
 use Rattle.std.proofs.lemmas.List.Elements.{All-nil, All-cons, All-filter}
 use Rattle.std.proofs.lemmas.List.FromFn.{length-map-range_with_len, get_or-map-range_with_len}
+use Rattle.std.proofs.lemmas.Cmp.{eq_by_cmp_equiv}
 use Rattle.std.proofs.lemmas.Map.Lookups.{exact_bytes}
 use Rattle.tag_hash.specs.Collisions.{NoCollision}
 use Rattle.tag_hash.specs.Use.{Use}
@@ -18,6 +19,7 @@ use Rattle.share_store.specs.Shares.{ShareKey, key_cmp}
 use Rattle.share_store.specs.MapLaws.{key_cmp_exact}
 use Rattle.share_store.specs.Toggle.{toggled}
 use Rattle.share_store.specs.Toggles.{is_toggled, switched, TogglesLaws}
+use Rattle.grid.specs.Standing.{Standing}
 use Rattle.grid.specs.Placement.{server_of, placed}
 use Rattle.grid.specs.Changes.{without, spoiled}
 use Rattle.caps.specs.Fields.{ReadValue}
@@ -32,6 +34,9 @@ use Rattle.chk_file.proofs.Tools.{true_or_false}
 use Rattle.chk_file.proofs.Keys.{IsRowOf}
 
 -- ---- what stands after each change
+
+one_list : (xs : List ℕ) → eq_by_cmp (slice_cmp nat_cmp) xs xs ≡ true
+one_list xs = (eq_by_cmp_equiv nat_list_cmp_total).refl xs
 
 mapped_if : {X Y : Type 0} (h : X → Y) (b : Bool) (one other : Option X) → option_map h (cond b one other) ≡ cond b (option_map h one) (option_map h other)
 mapped_if h true one other = refl
@@ -70,6 +75,18 @@ put_place laws servers u marks s q =
     never : (a b : Bool) (o stood : Option (List ℕ)) → cond (a && false && b) o stood ≡ stood
     never true b o stood = refl
     never false b o stood = refl
+
+-- a share of each number stands once they were put
+pub placed_there : (servers : ℕ) (u : Upload) (before : Standing) (i : ℕ) → i < u.n
+    → placed servers (index u) (shares_of u) before (server_of servers (index u) i) (index u, i) ≡ Some (unwrap_or (before (server_of servers (index u) i) (index u, i)) (share_of u i))
+placed_there servers u before i below =
+    let long : length (shares_of u) ≡ u.n = length-map-range_with_len (share_of u) 0 u.n in
+    let server = server_of servers (index u) i in
+    let old = before server (index u, i) in
+    ap (λ b. cond (b && nat_lt i (length (shares_of u)) && server == server) (Some (unwrap_or old (unwrap_or (slice_get (shares_of u) i) []))) old) (one_list (index u))
+    ∙ ap (λ b. cond (b && server == server) (Some (unwrap_or old (unwrap_or (slice_get (shares_of u) i) []))) old) (lt-ltb i (length (shares_of u)) (omega arith))
+    ∙ ap (λ b. cond b (Some (unwrap_or old (unwrap_or (slice_get (shares_of u) i) []))) old) (eq-eqb server server refl)
+    ∙ ap (λ b. Some (unwrap_or old b)) (share_there u i below)
 
 pub shown-put : TogglesLaws → (servers : ℕ) (u : Upload) (marks : Marks) → shown (put_marks servers u marks) ≡ placed servers (index u) (shares_of u) (shown marks)
 shown-put laws servers u marks = λ j s q. put_place laws servers u marks s q j

@@ -7,6 +7,7 @@ ghost use Rattle.caps.specs.StorageIndex.{index_of};
 ghost use Rattle.share_codec.specs.Segments.{segment_size};
 ghost use Rattle.chk_file.specs.Numbers.{params_of};
 ghost use Rattle.chk_file.specs.Row.{row_of};
+ghost use Rattle.chk_file.specs.Reached.{OfReached};
 ghost use Rattle.chk_file.specs.Fit.{fit};
 ghost use Rattle.chk_file.specs.Bound.{Bound};
 ghost use Rattle.chk_file.specs.Cached.{IsFresh, IsWithinOr};
@@ -32,9 +33,10 @@ const MOST_KEPT: u64 = 1_048_576;
 ///
 /// They are found by verification alone: over any stores they are bound to the cap. Over honest stores that don't fail
 /// in the call, with a cache that is fresh, they are those of `fit` in the row of the cap's storage index, and
-/// `NotEnoughShares` is answered exactly when that has none. A store that is down is passed over. Where the cache has
-/// the bytes of the present stamp no store is asked; what is read otherwise is kept, if it has at most 1,048,576 bytes
-/// and no store failed.
+/// `NotEnoughShares` is answered exactly when that has none. A store that is down is passed over: where some honest
+/// stores fail the answer is that of a row with all that stands at the others. Where the cache has the bytes of the
+/// present stamp no store is asked; what is read otherwise is kept, if it has at most 1,048,576 bytes and no store
+/// failed.
 pub fn read<S: Store>(
     alloc: Global,
     grid: &mut Grid<S>,
@@ -51,6 +53,11 @@ pub fn read<S: Store>(
     ensures missing { IsHonest grid.old → NoneFailed grid.old grid.new →
         IsErrOf result ReadFault.NotEnoughShares →
         fit (row_of (stood grid.old) (index_of fields.now.key)) fields.now ≡ None }
+    ensures fit_reached { IsFresh cache.old grid.old → IsHonest grid.old →
+        IfOk result (λ bytes. OfReached grid.old grid.new
+        (index_of fields.now.key) (λ row. fit row fields.now ≡ Some bytes.items)) }
+    ensures missing_reached { IsHonest grid.old → IsErrOf result ReadFault.NotEnoughShares →
+        OfReached grid.old grid.new (index_of fields.now.key) (λ row. fit row fields.now ≡ None) }
 {
     if fields.size > MOST_KEPT {
         return read_stores(alloc, grid, fields);
@@ -87,6 +94,11 @@ pub fn begin<S: Store>(
     ensures missing { IsHonest grid.old → NoneFailed grid.old grid.new →
         IsErrOf result ReadFault.NotEnoughShares →
         fit (row_of (stood grid.old) (index_of fields.now.key)) fields.now ≡ None }
+    ensures fit_reached { IsFresh cache.old grid.old → IsHonest grid.old →
+        IfOk result (λ download. OfReached grid.old grid.new
+        (index_of fields.now.key) (λ row. fit row fields.now ≡ Some download.left)) }
+    ensures missing_reached { IsHonest grid.old → IsErrOf result ReadFault.NotEnoughShares →
+        OfReached grid.old grid.new (index_of fields.now.key) (λ row. fit row fields.now ≡ None) }
 {
     if fields.size > MOST_KEPT {
         return pin_stores(alloc, grid, fields);
@@ -124,6 +136,11 @@ fn fetch<S: Store>(
     ensures missing { IsHonest grid.old → NoneFailed grid.old grid.new →
         IsErrOf result ReadFault.NotEnoughShares →
         fit (row_of (stood grid.old) (index_of fields.now.key)) fields.now ≡ None }
+    ensures fit_reached { IsFresh cache.old grid.old → IsHonest grid.old →
+        IfOk result (λ bytes. OfReached grid.old grid.new
+        (index_of fields.now.key) (λ row. fit row fields.now ≡ Some (rc_slice_items bytes))) }
+    ensures missing_reached { IsHonest grid.old → IsErrOf result ReadFault.NotEnoughShares →
+        OfReached grid.old grid.new (index_of fields.now.key) (λ row. fit row fields.now ≡ None) }
 {
     match look_up(grid, cache, fields)? {
         Some(bytes) => Ok(bytes),
@@ -168,6 +185,11 @@ fn read_anew<S: Store>(
     ensures missing { IsHonest grid.old → NoneFailed grid.old grid.new →
         IsErrOf result ReadFault.NotEnoughShares →
         fit (row_of (stood grid.old) (index_of fields.now.key)) fields.now ≡ None }
+    ensures fit_reached { IsHonest grid.old → IfOk result (λ bytes.
+        OfReached grid.old grid.new
+        (index_of fields.now.key) (λ row. fit row fields.now ≡ Some (rc_slice_items bytes))) }
+    ensures missing_reached { IsHonest grid.old → IsErrOf result ReadFault.NotEnoughShares →
+        OfReached grid.old grid.new (index_of fields.now.key) (λ row. fit row fields.now ≡ None) }
 {
     let stamp = grid.stamp(&storage_index(&fields.key));
     let failures = grid.failures();
@@ -213,6 +235,11 @@ fn read_shared<S: Store>(
     ensures missing { IsHonest grid.old → NoneFailed grid.old grid.new →
         IsErrOf result ReadFault.NotEnoughShares →
         fit (row_of (stood grid.old) (index_of fields.now.key)) fields.now ≡ None }
+    ensures fit_reached { IsHonest grid.old → IfOk result (λ bytes.
+        OfReached grid.old grid.new
+        (index_of fields.now.key) (λ row. fit row fields.now ≡ Some (rc_slice_items bytes))) }
+    ensures missing_reached { IsHonest grid.old → IsErrOf result ReadFault.NotEnoughShares →
+        OfReached grid.old grid.new (index_of fields.now.key) (λ row. fit row fields.now ≡ None) }
 {
     match read_stores(alloc, grid, fields) {
         Ok(bytes) => Ok(RcSlice::from_vec(bytes)?),
@@ -235,6 +262,11 @@ fn read_stores<S: Store>(
     ensures missing { IsHonest grid.old → NoneFailed grid.old grid.new →
         IsErrOf result ReadFault.NotEnoughShares →
         fit (row_of (stood grid.old) (index_of fields.now.key)) fields.now ≡ None }
+    ensures fit_reached { IsHonest grid.old → IfOk result (λ bytes.
+        OfReached grid.old grid.new
+        (index_of fields.now.key) (λ row. fit row fields.now ≡ Some bytes.items)) }
+    ensures missing_reached { IsHonest grid.old → IsErrOf result ReadFault.NotEnoughShares →
+        OfReached grid.old grid.new (index_of fields.now.key) (λ row. fit row fields.now ≡ None) }
 {
     match verify(alloc, grid, fields) {
         Ok((_, bytes)) => Ok(crypted(fields.key, bytes)),
@@ -259,6 +291,11 @@ fn pin_stores<S: Store>(
     ensures missing { IsHonest grid.old → NoneFailed grid.old grid.new →
         IsErrOf result ReadFault.NotEnoughShares →
         fit (row_of (stood grid.old) (index_of fields.now.key)) fields.now ≡ None }
+    ensures fit_reached { IsHonest grid.old → IfOk result (λ download.
+        OfReached grid.old grid.new
+        (index_of fields.now.key) (λ row. fit row fields.now ≡ Some download.left)) }
+    ensures missing_reached { IsHonest grid.old → IsErrOf result ReadFault.NotEnoughShares →
+        OfReached grid.old grid.new (index_of fields.now.key) (λ row. fit row fields.now ≡ None) }
 {
     match verify(alloc, grid, fields) {
         Ok((shares, _)) => {

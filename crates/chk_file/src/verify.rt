@@ -7,6 +7,7 @@ ghost use Rattle.grid.specs.Leaves.{Leaves, IsUnchanged};
 ghost use Rattle.grid.specs.Found.{seen};
 ghost use Rattle.caps.specs.StorageIndex.{index_of};
 ghost use Rattle.chk_file.specs.Row.{row_of};
+ghost use Rattle.chk_file.specs.Reached.{OfReached};
 ghost use Rattle.chk_file.specs.Gathered.{fit_of};
 ghost use Rattle.chk_file.specs.Numbers.{params_of};
 ghost use Rattle.chk_file.specs.Taken.{AreTaken};
@@ -47,6 +48,12 @@ pub(crate) fn verify<S: Store>(
     ensures missing { IsHonest grid.old → NoneFailed grid.old grid.new →
         IsErrOf result ReadFault.NotEnoughShares →
         fit (row_of (stood grid.old) (index_of fields.now.key)) fields.now ≡ None }
+    ensures fit_reached { IsHonest grid.old → IfOk result (λ read.
+        OfReached grid.old grid.new (index_of fields.now.key) (λ row.
+        fit row fields.now ≡ Some (crypt fields.now.key read.1.items))) }
+    ensures missing_reached { IsHonest grid.old → IsErrOf result ReadFault.NotEnoughShares →
+        OfReached grid.old grid.new (index_of fields.now.key) (λ row.
+        fit row fields.now ≡ None) }
 {
     share_codec::laws::good_shares_are_read();
     share_codec::laws::segments_are_joined_again();

@@ -1,0 +1,141 @@
+-- What is gathered where some stores fail is a row that is reached.
+use Rattle.std.proofs.Common.{◌≡◌, ◌⊎◌, inl, inr, ℕ, zero, suc, ◌+◌, ◌<◌, ◌≤◌, List, [], ◌∷◌, length, map, Bool, true, false, cond, Option, Some, None, refl, sym, ap, subst, ◌∙◌, arith}
+use Rattle.std.specs.Prelude.{◌==◌, option_and_then, filter}
+use Rattle.std.specs.Option.{option_map}
+use Rattle.std.specs.List.{range_with_len, filter_map, cons_option}
+use Rattle.std.specs.FinMap.{get}
+use Rattle.std.proofs.lemmas.Bool.{eqb-true, eq-eqb, ne_eqb}
+use Rattle.std.proofs.lemmas.Option.{slice_get_past}
+use Rattle.share_store.specs.Shares.{Shares}
+use Rattle.grid.specs.Found.{found_below, AllBut}
+use Rattle.grid.specs.FoundLaws.{FoundLaws}
+use Rattle.grid.specs.GridState.{GridState, StoreState, maps_of, stood, failures_at}
+use Rattle.grid.specs.Standing.{standing}
+use Rattle.chk_file.specs.Row.{Row, row_of, most_servers, Place, places}
+use Rattle.chk_file.specs.Reached.{IsReached}
+use Rattle.chk_file.specs.Gathered.{Found, of_number}
+use Rattle.chk_file.proofs.Tools.{none_past}
+
+-- ---- all but some
+
+module _ {A : Type 0} (Miss : A → Type 0) where
+  -- of those that pass a test
+  pub AllBut-filter : (t : A → Bool) (all given : List A) → AllBut Miss all given → AllBut Miss (filter t all) (filter t given)
+  AllBut-filter t [] given is = ap (filter t) is
+  AllBut-filter t (x ∷ all) given (inl (miss, more)) = skipped (t x) (AllBut-filter t all given more)
+    where
+      skipped : (b : Bool) → AllBut Miss (filter t all) (filter t given) → AllBut Miss (cond b (x ∷ filter t all) (filter t all)) (filter t given)
+      skipped true others = inl (miss, others)
+      skipped false others = others
+  AllBut-filter t (x ∷ all) given (inr (rest, is, more)) =
+      subst (λ ys. AllBut Miss (filter t (x ∷ all)) (filter t ys)) (sym is) (kept (t x) (AllBut-filter t all rest more))
+    where
+      kept : (b : Bool) → AllBut Miss (filter t all) (filter t rest) → AllBut Miss (cond b (x ∷ filter t all) (filter t all)) (cond b (x ∷ filter t rest) (filter t rest))
+      kept true others = inr (filter t rest, refl, others)
+      kept false others = others
+
+  -- and of what is made of them
+  pub AllBut-map : {B : Type 0} (Lost : B → Type 0) (f : A → B) → ((x : A) → Miss x → Lost (f x)) → (all given : List A) → AllBut Miss all given → AllBut Lost (map f all) (map f given)
+  AllBut-map Lost f lost [] given is = ap (map f) is
+  AllBut-map Lost f lost (x ∷ all) given (inl (miss, more)) = inl (lost x miss, AllBut-map Lost f lost all given more)
+  AllBut-map Lost f lost (x ∷ all) given (inr (rest, is, more)) = inr (map f rest, ap (map f) is, AllBut-map Lost f lost all rest more)
+
+-- ---- the shares of a number
+
+abbrev placed_at : (ℕ → Option (List ℕ)) → ℕ → Option Place
+placed_at g server = option_map (λ s. (server, s)) (g server)
+
+-- where nothing else is different, what is made of later numbers is the same
+later_alike : (f g : ℕ → Option (List ℕ)) (from a n : ℕ) → from < a → ((i : ℕ) → from < i → f i ≡ g i) → filter_map (placed_at f) (range_with_len a n) ≡ filter_map (placed_at g) (range_with_len a n)
+later_alike f g from a zero past each = refl
+later_alike f g from a (suc n) past each =
+    let here = ap (option_map {U = Place} (λ s. (a, s))) (each a past) in let more = later_alike f g from (a + 1) n (omega arith) each in λ i. cons_option (here i) (more i)
+
+module _ (Miss : ℕ → Type 0) where
+  -- given was what these say of so many servers, of which each says what it has or is missed
+  record Picked (g : ℕ → Option (List ℕ)) (a n : ℕ) (given : List Place) : Type 0 where
+    pub has : ℕ → Option (List ℕ)
+    pub each : (server : ℕ) → (has server ≡ g server) ⊎ (Miss server × (has server ≡ None))
+    pub is : given ≡ filter_map (placed_at has) (range_with_len a n)
+
+  -- one server's answer before those of the later ones
+  abbrev first_has : ℕ → Option (List ℕ) → (ℕ → Option (List ℕ)) → ℕ → Option (List ℕ)
+  first_has a own more server = cond (server == a) own (more server)
+
+  has_here : (a : ℕ) (own : Option (List ℕ)) (more : ℕ → Option (List ℕ)) → first_has a own more a ≡ own
+  has_here a own more = ap (λ b. cond b own (more a)) (eq-eqb a a refl)
+
+  has_later : (a : ℕ) (own : Option (List ℕ)) (more : ℕ → Option (List ℕ)) (i : ℕ) → a < i → first_has a own more i ≡ more i
+  has_later a own more i past = ap (λ b. cond b own (more i)) (ne_eqb i a (λ e. omega arith))
+
+  each_has : (g : ℕ → Option (List ℕ)) (a : ℕ) (own : Option (List ℕ)) (more : ℕ → Option (List ℕ)) → ((own ≡ g a) ⊎ (Miss a × (own ≡ None)))
+      → ((server : ℕ) → (more server ≡ g server) ⊎ (Miss server × (more server ≡ None)))
+      → (server : ℕ) → (first_has a own more server ≡ g server) ⊎ (Miss server × (first_has a own more server ≡ None))
+  each_has g a own more here later server = by_case (server == a) refl
+    where
+      by_case : (b : Bool) → (server == a) ≡ b → (cond b own (more server) ≡ g server) ⊎ (Miss server × (cond b own (more server) ≡ None))
+      by_case true same = subst (λ s. (own ≡ g s) ⊎ (Miss s × (own ≡ None))) (sym (eqb-true server a same)) here
+      by_case false other = later server
+
+  joined : (g : ℕ → Option (List ℕ)) (a n : ℕ) (own : Option (List ℕ)) (rest : List Place) → ((own ≡ g a) ⊎ (Miss a × (own ≡ None))) → Picked g (a + 1) n rest
+      → Picked g a (suc n) (cons_option (option_map (λ s. (a, s)) own) rest)
+  joined g a n own rest here more = record {
+    has = first_has a own more.has;
+    each = each_has g a own more.has here more.each;
+    is =
+        ap (cons_option (option_map {U = Place} (λ s. (a, s)) own)) (more.is ∙ sym (later_alike (first_has a own more.has) more.has a (a + 1) n (omega arith) (has_later a own more.has)))
+        ∙ ap (λ o. cons_option (option_map {U = Place} (λ s. (a, s)) o) (filter_map (placed_at (first_has a own more.has)) (range_with_len (a + 1) n))) (sym (has_here a own more.has));
+  }
+
+  picked : (g : ℕ → Option (List ℕ)) (a n : ℕ) (given : List Place) → AllBut (λ (place : Place). Miss place.0) (filter_map (placed_at g) (range_with_len a n)) given → Picked g a n given
+  picked g a zero given is = record { has = g; each = λ server. inl refl; is = is }
+  picked g a (suc n) given all = by_case (g a) refl (λ ps more. picked g (a + 1) n ps more) all
+    where
+      by_case : (o : Option (List ℕ)) → g a ≡ o
+          → ((ps : List Place) → AllBut (λ (place : Place). Miss place.0) (filter_map (placed_at g) (range_with_len (a + 1) n)) ps → Picked g (a + 1) n ps)
+          → AllBut (λ (place : Place). Miss place.0) (cons_option (option_map (λ s. (a, s)) o) (filter_map (placed_at g) (range_with_len (a + 1) n))) given → Picked g a (suc n) given
+      by_case None none later more = joined g a n None given (inl (sym none)) (later given more)
+      by_case (Some s) some later (inl (miss, more)) = joined g a n None given (inr (miss, refl)) (later given more)
+      by_case (Some s) some later (inr (rest, is, more)) = subst (Picked g a (suc n)) (sym is) (joined g a n (Some s) rest (inl (sym some)) (later rest more))
+
+-- ---- a row of all numbers
+
+-- a row that was reached, and what was gathered is what stands in it
+pub record IsGathered (old new : GridState) (index : List ℕ) (found : List Found) : Type 0 where
+  pub row : Row
+  pub reached : IsReached old new index row
+  pub is : (number : ℕ) → of_number number found ≡ places row number
+
+module _ (laws : FoundLaws) (old new : GridState) (index : List ℕ) (found : List Found) (few : length old.stores ≤ 256) (long : length (maps_of old) ≡ length old.stores)
+    (all : AllBut (λ (f : Found). failures_at old f.0 < failures_at new f.0) (found_below (maps_of old) index (length old.stores)) found) where
+  abbrev Failed : ℕ → Type 0
+  Failed server = failures_at old server < failures_at new server
+
+  abbrev stands_at : ℕ → ℕ → Option (List ℕ)
+  stands_at number server = standing (maps_of old) server (index, number)
+
+  of_each : (number : ℕ) → Picked Failed (stands_at number) 0 (length old.stores) (of_number number found)
+  of_each number =
+      picked Failed (stands_at number) 0 (length old.stores) (of_number number found)
+      (subst (λ (ps : List Place). AllBut (λ (place : Place). Failed place.0) ps (of_number number found)) (laws.of_number (maps_of old) index (length old.stores) number)
+      (AllBut-map (λ (f : Found). Failed f.0) (λ (place : Place). Failed place.0) (λ f. (f.0, f.2)) (λ f failed. failed)
+      (filter (λ (f : Found). f.1 == number) (found_below (maps_of old) index (length old.stores))) (filter (λ (f : Found). f.1 == number) found)
+      (AllBut-filter (λ (f : Found). Failed f.0) (λ (f : Found). f.1 == number) (found_below (maps_of old) index (length old.stores)) found all)))
+
+  -- past the last server nothing stands
+  none_there : (number server : ℕ) → length old.stores ≤ server → (of_each number).has server ≡ None
+  none_there number server past = by_case ((of_each number).each server)
+    where
+      by_case : ((of_each number).has server ≡ stands_at number server) ⊎ (Failed server × ((of_each number).has server ≡ None)) → (of_each number).has server ≡ None
+      by_case (inl same) = same ∙ ap (λ (o : Option Shares). option_and_then (λ shares. get shares (index, number)) o) (slice_get_past (maps_of old) server (omega arith))
+      by_case (inr (failed, none)) = none
+
+  pub gathered_is_reached : IsGathered old new index found
+  unfolding most_servers
+  gathered_is_reached = record {
+    row = λ server number. (of_each number).has server;
+    reached = record { each = λ server number. (of_each number).each server };
+    is = λ number.
+        (of_each number).is
+        ∙ sym (none_past (placed_at (of_each number).has) (length old.stores) 256 few (λ server past. ap (option_map {U = Place} (λ s. (server, s))) (none_there number server past)));
+  }
