@@ -5,7 +5,7 @@ ghost use Rattle.std.specs.Option.{option_map};
 ghost use Rattle.std.specs.Rc.{rc_slice_items};
 ghost use Rattle.std.specs.Io.KnownBytes.{IsAtEnd};
 ghost use Rattle.grid.specs.GridState.{states, maps_of, room_at, failures_at, IsHonest, NoneFailed};
-ghost use Rattle.grid.specs.Leaves.{Leaves, TellsDown, IsUnchanged};
+ghost use Rattle.grid.specs.Leaves.{Leaves, TellsDown, IsUnchanged, TakesRoom};
 ghost use Rattle.grid.specs.Rows.{rows_of};
 ghost use Rattle.grid.specs.Refusals.{IsReaderRefusal, IsPartRefusal, IsPutRefusal, IsReadRefusal};
 ghost use Rattle.grid.specs.RowOrder.{comes_after, AllBefore};
@@ -33,7 +33,7 @@ impl<S: Store> Grid<S> {
     /// that of the stores, and its shares stand in strictly rising order of server, storage index and number.
     ///
     /// A share is put once it was wholly read, and memory is asked for as its bytes come. Refused, where there is no
-    /// grid and the stores are handed back with the shares that were put:
+    /// grid and the stores are handed back with the shares that were put, which took their bytes of room:
     /// - [`GridFault::BadImage`] at the image's first fault, with its place in bytes from 0: that of the first field
     ///   that is cut off, out of its range or out of order (for a share that is, of its server), or of the first byte
     ///   too many; 0 where its first 8 bytes name neither version;
@@ -83,6 +83,11 @@ impl<S: Store> Grid<S> {
         ensures ok { IsHonest (states S.shares S.room S.held S.failures S.honest stores.items) →
             IfOk result (λ grid. IfSome (R.remaining reader.old)
             (λ bytes. rows_of (maps_of grid) ≡ (image_said (vec_len stores) bytes).rows)) }
+        ensures rooms { IsHonest (states S.shares S.room S.held S.failures S.honest stores.items) →
+            MatchResult result
+            (TakesRoom (states S.shares S.room S.held S.failures S.honest stores.items))
+            (λ refusal. TakesRoom (states S.shares S.room S.held S.failures S.honest stores.items)
+            (states S.shares S.room S.held S.failures S.honest refusal.1.items)) }
         ensures err { IsHonest (states S.shares S.room S.held S.failures S.honest stores.items) →
             IfErr result (λ refusal. IfSome (R.remaining reader.old)
             (λ bytes. AreFirst
@@ -91,8 +96,12 @@ impl<S: Store> Grid<S> {
     {
         let mut grid = Grid::new(stores);
         match grid.take_image(alloc, reader) {
-            Ok(()) => Ok(grid),
+            Ok(()) => {
+                grid.held_is_what_stands();
+                Ok(grid)
+            }
             Err(error) => {
+                grid.held_is_what_stands();
                 let Grid { stores, .. } = grid;
                 Err((error, stores))
             }

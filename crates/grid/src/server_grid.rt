@@ -6,7 +6,7 @@ ghost use Rattle.std.specs.FinMap as finite;
 ghost use Rattle.share_store.specs.Numbers.{of_index};
 ghost use Rattle.share_store.specs.Put.{put_once};
 ghost use Rattle.share_store.specs.Stored.{entry_of};
-ghost use Rattle.grid.specs.GridState.{states, stores_seen, maps_of, stood, room_at, failures_at, failures_in, raised_at, IsHonest, NoneFailed};
+ghost use Rattle.grid.specs.GridState.{states, stores_seen, maps_of, stood, room_at, held_at, size_at, failures_at, failures_in, raised_at, IsHonest, NoneFailed};
 ghost use Rattle.grid.specs.Stamps.{raised, stamp_of};
 ghost use Rattle.grid.specs.Stamped.{IsStamped, MayRaise};
 ghost use Rattle.grid.specs.Leaves.{Leaves, TellsDown, IsUnchanged};
@@ -193,6 +193,15 @@ impl<S: Store> Grid<S> {
             failures += u128::from(store.failures());
         }
         failures
+    }
+
+    /// A law and no more: over honest stores what each server's store says that it holds is how many bytes the shares
+    /// have that stand there. By `leaves` of each call its room and these keep their sum. It takes no memory and does
+    /// nothing.
+    pub fn held_is_what_stands(&self)
+        ensures { IsHonest self.now → (s : ℕ) → held_at self.now s ≡ size_at self.now s }
+    {
+        let _stores = &self.stores;
     }
 
     /// Raises the stamp of a storage index. Where memory is refused nothing changes.
