@@ -9,9 +9,9 @@ use Rattle.std.proofs.lemmas.Option.{slice_get_past}
 use Rattle.share_store.specs.Shares.{Shares}
 use Rattle.grid.specs.Found.{found_below, AllBut}
 use Rattle.grid.specs.FoundLaws.{FoundLaws}
-use Rattle.grid.specs.GridState.{GridState, StoreState, maps_of, stood, failures_at}
+use Rattle.grid.specs.GridState.{GridState, maps_of, failures_at}
 use Rattle.grid.specs.Standing.{standing}
-use Rattle.chk_file.specs.Row.{Row, row_of, most_servers, Place, places}
+use Rattle.chk_file.specs.Row.{Row, most_servers, Place, places}
 use Rattle.chk_file.specs.Reached.{IsReached}
 use Rattle.chk_file.specs.Gathered.{Found, of_number}
 use Rattle.chk_file.proofs.Tools.{none_past}
