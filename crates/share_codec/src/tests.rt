@@ -1,5 +1,5 @@
 //! What the clauses do not show: shares that were made by another program, and how far memory is asked for.
-ghost use Rattle.std.specs.Prelude.{◌≡◌, ◌<◌, ◌≤◌, length};
+ghost use Rattle.std.specs.Prelude.{◌≡◌, ◌<◌, ◌≤◌, length, IfOk};
 ghost use Rattle.octets.specs.Sharing.{IsSharing};
 
 use super::*;
@@ -111,62 +111,78 @@ fn one_share_in_all_has_no_siblings(rt: HostRuntime) -> Result<(), Fail> {
     Ok(())
 }
 
+/// A byte of the share that is changed, and what is wrong then.
+const CHANGED: [(usize, ShareFault); 6] = [
+    (1, ShareFault::Torn),
+    (2, ShareFault::Version),
+    (35, ShareFault::UebHash),
+    (205, ShareFault::CrypttextTree),
+    (242, ShareFault::ShareTree),
+    (392, ShareFault::ShareTree),
+];
+
+/// The share with the lowest bit of a byte changed.
+fn changed(place: usize) -> Result<[u8; 394], FromHexError> {
+    let mut bytes = share_of_ten()?;
+    if place < bytes.len() {
+        bytes[place] ^= 1;
+    }
+    Ok(bytes)
+}
+
 #[test]
 fn each_fault_has_its_cause(rt: HostRuntime) -> Result<(), Fail> {
-    let good = share_of_ten()?;
     let ueb = hash_of(UEB_HASH_OF_TEN)?;
-    for (place, fault) in [
-        (1, ShareFault::Torn),
-        (2, ShareFault::Version),
-        (35, ShareFault::UebHash),
-        (205, ShareFault::CrypttextTree),
-        (242, ShareFault::ShareTree),
-        (392, ShareFault::ShareTree),
-    ] {
-        let mut bytes = good;
-        if place < bytes.len() {
-            bytes[place] ^= 1;
-        }
-        assert_eq!(rt;
-            fault_of(rt.alloc(), &bytes, 4, &ten(), &ueb),
-            Some(fault),
-            "at {place}"
-        );
+    for (place, fault) in CHANGED {
+        let found = fault_of(rt.alloc(), &changed(place)?, 4, &ten(), &ueb);
+        assert_eq!(rt; found, Some(fault), "at {place}");
     }
-    for (number, params, fault) in [
-        (5, ten(), ShareFault::Number),
-        (4, Params::new(3, 4, 56), ShareFault::Number),
-        (4, Params::new(3, 10, 57), ShareFault::Parameters),
-        (4, Params::new(3, 10, 0), ShareFault::Parameters),
-        (4, Params::new(2, 10, 56), ShareFault::Parameters),
-    ] {
-        assert_eq!(rt;
-            fault_of(rt.alloc(), &good, number, &params, &ueb),
-            Some(fault)
-        );
-    }
-    let other = hash_of(UEB_HASH_OF_ONE)?;
-    assert_eq!(rt;
-        fault_of(rt.alloc(), &good, 4, &ten(), &other),
-        Some(ShareFault::UebHash)
-    );
     Ok(())
 }
+
+/// A number, k, n, a size and the hash of an extension block, of which one is not the share's, and what is wrong then.
+const OTHERS: [(u16, u16, u16, u64, &str, ShareFault); 6] = [
+    (5, 3, 10, 56, UEB_HASH_OF_TEN, ShareFault::Number),
+    (4, 3, 4, 56, UEB_HASH_OF_TEN, ShareFault::Number),
+    (4, 3, 10, 57, UEB_HASH_OF_TEN, ShareFault::Parameters),
+    (4, 3, 10, 0, UEB_HASH_OF_TEN, ShareFault::Parameters),
+    (4, 2, 10, 56, UEB_HASH_OF_TEN, ShareFault::Parameters),
+    (4, 3, 10, 56, UEB_HASH_OF_ONE, ShareFault::UebHash),
+];
+
+fn params_of(k: u16, n: u16, size: u64) -> Result<Params, Fail>
+    ensures { IfOk result (λ params. params ≡ record { k = k; n = n; size = size }) }
+{
+    if !octets::is_sharing(k, n) {
+        return Err("no sharing".into());
+    }
+    Ok(Params::new(k, n, size))
+}
+
+#[test]
+fn a_share_of_other_numbers_has_its_fault(rt: HostRuntime) -> Result<(), Fail> {
+    let good = share_of_ten()?;
+    for (number, k, n, size, ueb, fault) in OTHERS {
+        let params = params_of(k, n, size)?;
+        let found = fault_of(rt.alloc(), &good, number, &params, &hash_of(ueb)?);
+        assert_eq!(rt; found, Some(fault), "{number} {k} {n} {size}");
+    }
+    Ok(())
+}
+
+const TORN: [&str; 4] = [
+    "",
+    "1:1,1:4,0:,1:x,0:,0:,",
+    "01:1,1:4,0:,0:,0:,0:,",
+    "1:1,1:4,0:,0:,0:,0:,x",
+];
 
 #[test]
 fn what_is_not_six_netstrings_is_torn(rt: HostRuntime) -> Result<(), Fail> {
     let ueb = hash_of(UEB_HASH_OF_TEN)?;
-    for text in [
-        "",
-        "1:1,1:4,0:,1:x,0:,0:,",
-        "01:1,1:4,0:,0:,0:,0:,",
-        "1:1,1:4,0:,0:,0:,0:,x",
-    ] {
-        assert_eq!(rt;
-            fault_of(rt.alloc(), text.as_bytes(), 4, &ten(), &ueb),
-            Some(ShareFault::Torn),
-            "{text}"
-        );
+    for text in TORN {
+        let found = fault_of(rt.alloc(), text.as_bytes(), 4, &ten(), &ueb);
+        assert_eq!(rt; found, Some(ShareFault::Torn), "{text}");
     }
     Ok(())
 }
@@ -281,59 +297,71 @@ fn part_lengths(alloc: Global, share: &[u8]) -> Result<Vec<usize>, Fail> {
     Ok(lengths)
 }
 
+/// How many shares give a file back and how many are made, its size, the hash of its extension block, and that of its
+/// shares in a row.
+const MADE: [(u16, u16, usize, &str, &str); 3] = [
+    // two segments
+    (
+        3,
+        10,
+        200_000,
+        "6d1a852502a32ec34f12dfecd541a7f2798edd083b48481a456663d98fb1d185",
+        "ac113e234c451915b064208f29612533f8e67308a7719a223821a96c07bc2275",
+    ),
+    // a last segment of one byte, which is padded
+    (
+        3,
+        4,
+        131_074,
+        "08e50e357b81433a749747a060e563f3fecc7d8a556557aef23d672becbacb69",
+        "29ae7c89a92038b06677a3e2e9fa3999f535a2d4589711dbcac24b2f500888bd",
+    ),
+    // all shares are needed
+    (
+        256,
+        256,
+        300,
+        "a63ee0348d02abc7eb3899140417369568e59030625db3a037a2619eb0f705a4",
+        "e8e91aea2ff90aa32cce18ae1a8aeac04afc1d2fd9d873a78439de89d82d7904",
+    ),
+];
+
+/// The shares of a crypttext of counted bytes, each of which is good, the hash of their extension block, and theirs.
+fn made(
+    alloc: Global,
+    k: u16,
+    n: u16,
+    size: usize,
+) -> Result<(Vec<Vec<u8>>, [u8; 32], [u8; 32]), Fail> {
+    if size == 0 {
+        return Err("no bytes".into());
+    }
+    let params = params_of(k, n, size as u64)?;
+    let (shares, ueb) = make_shares(alloc, &params, &counted_bytes(alloc, size)?)?;
+    if shares.len() > 256 {
+        return Err("too many shares".into());
+    }
+    let hash = hash_of_good(alloc, &shares, &params, &ueb)?;
+    Ok((shares, ueb, hash))
+}
+
 #[test]
-fn shares_of_two_segments(rt: HostRuntime) -> Result<(), Fail> {
-    let params = Params::new(3, 10, 200_000);
-    let crypttext = counted_bytes(rt.alloc(), 200_000)?;
-    let (shares, hash) = make_shares(rt.alloc(), &params, &crypttext)?;
-    assert_eq!(rt;
-        hash,
-        hash_of("6d1a852502a32ec34f12dfecd541a7f2798edd083b48481a456663d98fb1d185")?
-    );
-    assert_eq!(rt; shares.len(), 10);
-    assert_eq!(rt; shares[4].len(), 67_085);
-    assert_eq!(rt; shares[4].capacity(), 67_085);
-    assert_eq!(rt;
-        part_lengths(rt.alloc(), &shares[4])?.as_slice(),
-        [4, 4, 202, 68, 133, 66_674].as_slice()
-    );
-    assert_eq!(rt;
-        hash_of_good(rt.alloc(), &shares, &params, &hash)?,
-        hash_of("ac113e234c451915b064208f29612533f8e67308a7719a223821a96c07bc2275")?
-    );
+fn shares_of_counted_bytes_are_those_of_another_program(rt: HostRuntime) -> Result<(), Fail> {
+    for (k, n, size, ueb, hash) in MADE {
+        let made = made(rt.alloc(), k, n, size)?;
+        assert_eq!(rt; made.0.len(), usize::from(n), "{k} of {n}");
+        assert_eq!(rt; made.1, hash_of(ueb)?, "{k} of {n}");
+        assert_eq!(rt; made.2, hash_of(hash)?, "{k} of {n}");
+    }
     Ok(())
 }
 
 #[test]
-fn a_last_segment_of_one_byte_is_padded(rt: HostRuntime) -> Result<(), Fail> {
-    let params = Params::new(3, 4, 131_074);
-    let crypttext = counted_bytes(rt.alloc(), 131_074)?;
-    let (shares, hash) = make_shares(rt.alloc(), &params, &crypttext)?;
-    assert_eq!(rt;
-        hash,
-        hash_of("08e50e357b81433a749747a060e563f3fecc7d8a556557aef23d672becbacb69")?
-    );
-    assert_eq!(rt; shares.len(), 4);
-    assert_eq!(rt;
-        hash_of_good(rt.alloc(), &shares, &params, &hash)?,
-        hash_of("29ae7c89a92038b06677a3e2e9fa3999f535a2d4589711dbcac24b2f500888bd")?
-    );
-    Ok(())
-}
-
-#[test]
-fn all_256_shares_are_needed(rt: HostRuntime) -> Result<(), Fail> {
-    let params = Params::new(256, 256, 300);
-    let crypttext = counted_bytes(rt.alloc(), 300)?;
-    let (shares, hash) = make_shares(rt.alloc(), &params, &crypttext)?;
-    assert_eq!(rt;
-        hash,
-        hash_of("a63ee0348d02abc7eb3899140417369568e59030625db3a037a2619eb0f705a4")?
-    );
-    assert_eq!(rt; shares.len(), 256);
-    assert_eq!(rt;
-        hash_of_good(rt.alloc(), &shares, &params, &hash)?,
-        hash_of("e8e91aea2ff90aa32cce18ae1a8aeac04afc1d2fd9d873a78439de89d82d7904")?
-    );
+fn a_share_of_two_segments_has_its_parts(rt: HostRuntime) -> Result<(), Fail> {
+    let (shares, _, _) = made(rt.alloc(), 3, 10, 200_000)?;
+    let share = shares.get(4).ok_or("no such share")?;
+    assert_eq!(rt; (share.len(), share.capacity()), (67_085, 67_085));
+    let lengths = part_lengths(rt.alloc(), share)?;
+    assert_eq!(rt; lengths.as_slice(), [4, 4, 202, 68, 133, 66_674].as_slice());
     Ok(())
 }
