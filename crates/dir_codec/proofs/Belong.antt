@@ -77,7 +77,7 @@ entry_found law name cap write metadata rest text short is =
     let four : four_texts whole ≡ Some (record { name = name; cap = cap; write = write; metadata = metadata }) = four_found law name cap write metadata (omega arith) in
     rw (outer, four) refl
 
-not_zero : (n : ℕ) → 0 < n → (n == 0) ≡ false
+pub not_zero : (n : ℕ) → 0 < n → (n == 0) ≡ false
 not_zero n h = grind (arith, nat_tests)
 
 not_empty : (name cap write metadata rest text : List ℕ) → text ≡ entry_text name cap write metadata ++ rest → (length text == 0) ≡ false

@@ -14,3 +14,5 @@ pub mod SoundLemmas
 pub mod Printed
 pub mod Spellings
 pub mod Refused
+pub mod OneMember
+pub mod Gathering

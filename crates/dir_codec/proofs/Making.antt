@@ -84,8 +84,8 @@ make_fault entries key node more entry fault made with = ap (λ r. then_make (λ
 
 -- ---- names in a map, and in a list
 
-test_of : (a b : List ℕ) → bytes_eq b a ≡ is_eq (slice_cmp nat_cmp a b)
-test_of a b = nat_list_eq_equiv.symm b a ∙ sym (is_eq-slice_cmp a b)
+pub named_test : (a b : List ℕ) → bytes_eq b a ≡ is_eq (slice_cmp nat_cmp a b)
+named_test a b = nat_list_eq_equiv.symm b a ∙ sym (is_eq-slice_cmp a b)
 
 either_some : {A B : Type 0} (b : Bool) (x : A) (y : B) (o : Option A) (p : Option B) → is_some o ≡ is_some p → is_some (cond b (Some x) o) ≡ is_some (cond b (Some y) p)
 either_some true x y o p is = refl
@@ -94,7 +94,7 @@ either_some false x y o p is = is
 pub stands : (name : String Global) (children : List (String Global × Child)) → is_some (child_named (string_bytes name) (entries_of children)) ≡ is_some (lookup (is_at (string_cmp name)) children)
 unfolding child_named
 stands name [] = refl
-stands name (e ∷ es) = rw (test_of (string_bytes name) (string_bytes e.0)) (either_some (is_eq (slice_cmp nat_cmp (string_bytes name) (string_bytes e.0))) (entry_of e) e.1 _ _ (stands name es))
+stands name (e ∷ es) = rw (named_test (string_bytes name) (string_bytes e.0)) (either_some (is_eq (slice_cmp nat_cmp (string_bytes name) (string_bytes e.0))) (entry_of e) e.1 _ _ (stands name es))
 
 none_of : {A : Type 0} (o : Option A) → is_some o ≡ false → o ≡ None
 none_of (Some x) is = absurd cc
@@ -126,7 +126,7 @@ new_name name child children new old is none made =
     ap (λ b. cond b (Err SameName) (Ok (inserted (entry_of (name, child)) (entries_of children)))) (stands name children ∙ ap is_some absent)
     ∙ ap Ok (sym (ap entries_of made ∙ placed name child children absent))
 
-found_in : (entry : Entry) (name : List ℕ) (b : Bool) (o : Option Entry) → cond b (Some entry) o ≡ None → (b ≡ false) × (o ≡ None)
+pub found_in : (entry : Entry) (name : List ℕ) (b : Bool) (o : Option Entry) → cond b (Some entry) o ≡ None → (b ≡ false) × (o ≡ None)
 found_in entry name true o none = absurd cc
 found_in entry name false o none = (refl, none)
 
@@ -142,7 +142,7 @@ unfolding child_named
 inserted_above low entry [] all kept above none = (above, kept, tt)
 inserted_above low entry (other ∷ more) all kept above none =
     let parts = found_in other entry.name (bytes_eq other.name entry.name) (child_named entry.name more) none in
-    inserted_at low entry other more (slice_cmp nat_cmp entry.name other.name) refl (sym (test_of entry.name other.name) ∙ parts.0) all kept above
+    inserted_at low entry other more (slice_cmp nat_cmp entry.name other.name) refl (sym (named_test entry.name other.name) ∙ parts.0) all kept above
     (λ higher. inserted_above other.name entry more all.2 kept higher parts.1)
 
 pub new_above : (name : String Global) (child : Child) (children new : List (String Global × Child)) (old : Option Child) → old ≡ lookup (is_at (string_cmp name)) children → is_some old ≡ false → new ≡ insert_entry string_cmp children name child

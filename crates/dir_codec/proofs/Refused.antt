@@ -25,7 +25,7 @@ at_child : (cap : Cap) (b : Bool) (fault : DirFault) → cond b (Ok cap) (Err No
 at_child cap true fault is = absurd cc
 at_child cap false fault is = cc
 
-child_refused : (r : Result Cap CapFault) (fault : DirFault) → fault ≢ NoMemory → child_of r ≡ Err fault → (BadCap ≡ fault) ⊎ (NotImmutable ≡ fault)
+pub child_refused : (r : Result Cap CapFault) (fault : DirFault) → fault ≢ NoMemory → child_of r ≡ Err fault → (BadCap ≡ fault) ⊎ (NotImmutable ≡ fault)
 child_refused (Ok cap) fault other is = inr (at_child cap (is_child_cap cap) fault is)
 child_refused (Err UnknownKind) fault other is = inl (let same : BadCap ≡ fault = cc in same)
 child_refused (Err Mutable) fault other is = inr (let same : NotImmutable ≡ fault = cc in same)

@@ -8,5 +8,6 @@ pub mod Faults
 pub mod Find
 pub mod Cuts
 pub mod Children
+pub mod MadeOf
 pub mod Named
 pub mod Sound

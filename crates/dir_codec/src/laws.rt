@@ -9,6 +9,7 @@ ghost use Rattle.dir_codec.specs.Entries.{IsDirectory};
 ghost use Rattle.dir_codec.specs.DirectoryText.{IsDirectoryText, directory_text};
 ghost use Rattle.dir_codec.specs.Reading.{reading, children};
 ghost use Rattle.dir_codec.specs.Children.{making, made};
+ghost use Rattle.dir_codec.specs.MadeOf.{AreMadeOf, RefusesJson};
 ghost use Rattle.dir_codec.specs.Faults.{Refuses};
 ghost use Rattle.dir_codec.specs.declared.entry.Entry.{Entry};
 ghost use Rattle.dir_codec.specs.declared.fault.DirFault.{DirFault};
@@ -69,3 +70,14 @@ pub fn made_children_are_named()
     ensures { (entries : List Entry) (json : List ℕ)
         → ((made json ≡ Some entries) ↔ (making json ≡ Ok entries)) }
 {}
+
+/// Children JSON makes exactly the entries of its object's members, one of each, in the order of their names, and is
+/// refused for the first member that is at fault.
+pub fn children_are_the_members_entries()
+    ensures made { (entries : List Entry) (json : List ℕ)
+        → ((made json ≡ Some entries) ↔ AreMadeOf entries json) }
+    ensures refused { (fault : DirFault) (json : List ℕ) → fault ≢ NoMemory
+        → ((making json ≡ Err fault) ↔ RefusesJson fault json) }
+{
+    reading_is_decided();
+}
