@@ -198,3 +198,6 @@ reading_is_read text cap = (text_reads cap text, λ e. subst (CapSays text) e (c
 
 pub reading_is_refused : (text : List ℕ) (fault : CapFault) → fault ≢ NoMemory → (Refuses fault text ↔ (cap_reading text ≡ Err fault))
 reading_is_refused text fault some = (refused_reads text fault some, λ e. (subst (CapSays text) e (cap_says text)).1)
+
+pub reading_is_total : (text : List ℕ) → cap_reading text ≢ Err NoMemory
+reading_is_total text is = (subst (CapSays text) is (cap_says text)).0 refl

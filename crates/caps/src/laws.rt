@@ -21,11 +21,13 @@ pub fn texts_have_one_cap()
         → cap ≡ other }
 {}
 
-/// `cap_reading` gives a cap exactly when the text is its text, and a fault exactly when that fault holds.
+/// `cap_reading` gives a cap exactly when the text is its text, and a fault exactly when that fault holds. It answers no
+/// want of memory.
 pub fn reading_is_decided()
     ensures read { (text : List ℕ) (cap : Cap) → IsCapText cap text ↔ (cap_reading text ≡ Ok cap) }
     ensures refused { (text : List ℕ) (fault : CapFault) → fault ≢ NoMemory
         → (Refuses fault text ↔ (cap_reading text ≡ Err fault)) }
+    ensures total { (text : List ℕ) → cap_reading text ≢ Err NoMemory }
 {}
 
 /// A verify cap is its own verify cap, and what a cap is weakened to is a verify cap.

@@ -21,9 +21,10 @@ use Rattle.dir_codec.specs.Children.{then_make, inserted, with_entry, entry_made
 use Rattle.dir_codec.specs.MadeOf.{listed, IsEntryOf, IsMemberFault, RiseAbove, AreOfMembers, IsFaultAfter, RefusesMembers, AreMadeOf, RefusesJson}
 use Rattle.dir_codec.specs.declared.entry.Entry.{Entry}
 use Rattle.dir_codec.specs.declared.fault.DirFault.{DirFault}
-use Rattle.dir_codec.specs.declared.fault.DirFault.TheVariants.{NotJson, BadShape, SameName, NoMemory}
-use Rattle.dir_codec.proofs.Belong.{CapsAreRead, made_are}
+use Rattle.dir_codec.specs.declared.fault.DirFault.TheVariants.{NotJson, BadShape, SameName}
+use Rattle.dir_codec.proofs.Belong.{made_are}
 use Rattle.dir_codec.proofs.Making.{named_test, found_in, make_next, make_fault, no_json, no_object, of_members}
+use Rattle.dir_codec.proofs.Refused.{CapsAreDecided}
 use Rattle.dir_codec.proofs.OneMember.{object_of, Told, told, is_made, is_refused}
 
 -- ---- how often a name stands among entries
@@ -228,13 +229,12 @@ record Stops (acc : List Entry) (fault : DirFault) (members : List (List ℕ × 
 
 abbrev Gathered : List Entry → List (List ℕ × Data) → Result (List Entry) DirFault → Type 0
 Gathered acc members (Ok entries) = (found : List Entry) × AllZip Of members found × IsPermutation (acc ++ found) entries × RiseAbove [] entries
-Gathered acc members (Err fault) = fault ≢ NoMemory → Stops acc fault members
+Gathered acc members (Err fault) = Stops acc fault members
 
 more_gathered : (acc : List Entry) (m : List ℕ × Data) (more : List (List ℕ × Data)) (entry : Entry) → Of m entry → (r : Result (List Entry) DirFault) → Gathered (inserted entry acc) more r → Gathered acc (m ∷ more) r
 more_gathered acc m more entry of (Ok entries) g =
     (entry ∷ g.0, (of, g.1), IsPermutation-trans (acc ++ (entry ∷ g.0)) (inserted entry acc ++ g.0) entries (moved acc entry g.0) g.2, g.3)
-more_gathered acc m more entry of (Err fault) g = λ other.
-    let s = g other in
+more_gathered acc m more entry of (Err fault) s =
     record {
       before = m ∷ s.before;
       key = s.key;
@@ -269,7 +269,7 @@ alone : (fault : DirFault) (entries : List Entry) (key : List ℕ) (node : Data)
 alone SameName entries key node of = absurd of
 alone other entries key node of = of
 
-gathered : CapsAreRead → (acc : List Entry) → RiseAbove [] acc → (ms : Members) → Gathered acc (listed ms) (making_after acc ms)
+gathered : CapsAreDecided → (acc : List Entry) → RiseAbove [] acc → (ms : Members) → Gathered acc (listed ms) (making_after acc ms)
 gathered caps acc up no_members = ([], tt, subst (λ es. IsPermutation es acc) (sym (append-nil acc)) (IsPermutation-refl acc), up)
 gathered caps acc up (member key node more) = by_entry (λ all rise. gathered caps all rise more) (entry_made key node) refl (told key node caps)
   where
@@ -277,7 +277,7 @@ gathered caps acc up (member key node more) = by_entry (λ all rise. gathered ca
         → (o : Option Entry) → child_named entry.name acc ≡ o → Gathered acc ((key, node) ∷ listed more) (making_after acc (member key node more))
     by_name rest entry is of (Some other) at =
         subst (Gathered acc ((key, node) ∷ listed more)) (sym (make_fault acc key node more entry SameName is (with_old acc entry (ap is_some at))))
-        (λ _. stops_here acc up SameName key node (listed more) (entry, of, stands entry.name acc other at))
+        (stops_here acc up SameName key node (listed more) (entry, of, stands entry.name acc other at))
     by_name rest entry is of None at =
         subst (Gathered acc ((key, node) ∷ listed more)) (sym (make_next acc key node more entry (inserted entry acc) is (with_new acc entry at)))
         (more_gathered acc (key, node) (listed more) entry of (making_after (inserted entry acc) more)
@@ -288,7 +288,7 @@ gathered caps acc up (member key node more) = by_entry (λ all rise. gathered ca
     by_entry rest (Ok entry) is of = by_name rest entry is of (child_named entry.name acc) refl
     by_entry rest (Err fault) is of =
         subst (Gathered acc ((key, node) ∷ listed more)) (sym (make_none acc key node more fault is))
-        (λ other. stops_here acc up fault key node (listed more) (alone fault acc key node (of other)))
+        (stops_here acc up fault key node (listed more) (alone fault acc key node of))
 
 -- ---- what is said is what the definition makes
 
@@ -308,7 +308,7 @@ not_yet acc entry found entries same up =
     counted : (a b c d e : ℕ) → a ≡ b → b ≡ c + d → d ≡ 1 + e → a ≤ 1 → c ≡ 0
     counted a b c d e all parts first most = omega arith
 
-passes : CapsAreRead → (acc : List Entry) → RiseAbove [] acc → (before rest : List (List ℕ × Data)) (ms : Members) (found entries : List Entry) → listed ms ≡ before ++ rest → AllZip Of before found
+passes : CapsAreDecided → (acc : List Entry) → RiseAbove [] acc → (before rest : List (List ℕ × Data)) (ms : Members) (found entries : List Entry) → listed ms ≡ before ++ rest → AllZip Of before found
     → IsPermutation (acc ++ found) entries → RiseAbove [] entries → Passes acc entries ms rest
 passes caps acc up [] rest ms [] entries is each same rise =
     let one : acc ≡ entries = same_order acc entries up rise (subst (λ es. IsPermutation es entries) (append-nil acc) same) in
@@ -330,23 +330,23 @@ no_more : (entries : List Entry) (ms : Members) → listed ms ≡ [] → making_
 no_more entries no_members is = refl
 no_more entries (member key node more) is = absurd cc
 
-members_made : CapsAreRead → (entries : List Entry) (members : Members) → AreOfMembers entries (listed members) → making_after [] members ≡ Ok entries
+members_made : CapsAreDecided → (entries : List Entry) (members : Members) → AreOfMembers entries (listed members) → making_after [] members ≡ Ok entries
 members_made caps entries members of =
     let all = passes caps [] tt (listed members) [] members of.found entries (sym (append-nil (listed members))) of.each of.same of.rise in
     all.2 ∙ no_more entries all.0 all.1
 
-after_fault : CapsAreRead → (fault : DirFault) (entries : List Entry) (key : List ℕ) (node : Data) (more : Members) → IsFaultAfter fault entries key node → making_after entries (member key node more) ≡ Err fault
+after_fault : CapsAreDecided → (fault : DirFault) (entries : List Entry) (key : List ℕ) (node : Data) (more : Members) → IsFaultAfter fault entries key node → making_after entries (member key node more) ≡ Err fault
 after_fault caps SameName entries key node more of =
     make_fault entries key node more of.0 SameName (is_made key node caps of.0 of.1) (with_old entries of.0 (is_found of.0.name entries of.2.0 of.2.1 of.2.2 of.2.3 of.2.4))
 after_fault caps other entries key node more of = make_none entries key node more other (is_refused key node caps other of)
 
-fault_next : CapsAreRead → (fault : DirFault) (entries : List Entry) (key : List ℕ) (node : Data) (after : List (List ℕ × Data)) (ms : Members) → listed ms ≡ (key, node) ∷ after → IsFaultAfter fault entries key node → making_after entries ms ≡ Err fault
+fault_next : CapsAreDecided → (fault : DirFault) (entries : List Entry) (key : List ℕ) (node : Data) (after : List (List ℕ × Data)) (ms : Members) → listed ms ≡ (key, node) ∷ after → IsFaultAfter fault entries key node → making_after entries ms ≡ Err fault
 fault_next caps fault entries key node after no_members is of = absurd cc
 fault_next caps fault entries key node after (member k n more) is of =
     let first : ◌≡◌ {A = List ℕ × Data} (key, node) (k, n) = cc in
     after_fault caps fault entries k n more (subst (λ m. IsFaultAfter fault entries m.0 m.1) first of)
 
-members_refused : CapsAreRead → (fault : DirFault) (members : Members) → RefusesMembers fault (listed members) → making_after [] members ≡ Err fault
+members_refused : CapsAreDecided → (fault : DirFault) (members : Members) → RefusesMembers fault (listed members) → making_after [] members ≡ Err fault
 members_refused caps fault members of =
     let all = passes caps [] tt of.before ((of.key, of.node) ∷ of.after) members of.made.found of.entries of.are of.made.each of.made.same of.made.rise in
     all.2 ∙ fault_next caps fault of.entries of.key of.node of.after all.0 all.1 of.first
@@ -369,7 +369,7 @@ refuses acc none fault members s =
 -- what is made of JSON
 abbrev Made : List ℕ → Result (List Entry) DirFault → Type 0
 Made json (Ok entries) = AreMadeOf entries json
-Made json (Err fault) = fault ≢ NoMemory → RefusesJson fault json
+Made json (Err fault) = RefusesJson fault json
 
 refuses_json : (fault : DirFault) (json : List ℕ) (members : Members) → json_of json ≡ Some (object members) → RefusesMembers fault (listed members) → RefusesJson fault json
 refuses_json NotJson json members is of = absurd of.first
@@ -378,31 +378,31 @@ refuses_json other json members is of = (members, is, of)
 
 made_of : (json : List ℕ) (members : Members) → json_of json ≡ Some (object members) → (r : Result (List Entry) DirFault) → Gathered [] (listed members) r → Made json r
 made_of json members is (Ok entries) g = (members, is, record { found = g.0; each = g.1; same = g.2; rise = g.3 })
-made_of json members is (Err fault) g = λ other. refuses_json fault json members is (refuses [] refl fault (listed members) (g other))
+made_of json members is (Err fault) s = refuses_json fault json members is (refuses [] refl fault (listed members) s)
 
-made_object : CapsAreRead → (json : List ℕ) (d : Data) → json_of json ≡ Some d → (o : Option Members) → as_object d ≡ o → Made json (making json)
-made_object caps json d is None none = subst (Made json) (sym (no_object json d is none)) (λ _. inl (d, is, none))
+made_object : CapsAreDecided → (json : List ℕ) (d : Data) → json_of json ≡ Some d → (o : Option Members) → as_object d ≡ o → Made json (making json)
+made_object caps json d is None none = subst (Made json) (sym (no_object json d is none)) (inl (d, is, none))
 made_object caps json d is (Some members) some =
     subst (Made json) (sym (of_members json d members is some)) (made_of json members (is ∙ ap Some (object_of d members some)) (making_after [] members) (gathered caps [] tt members))
 
-made_json : CapsAreRead → (json : List ℕ) → (o : Option Data) → json_of json ≡ o → Made json (making json)
-made_json caps json None none = subst (Made json) (sym (no_json json none)) (λ _. none)
+made_json : CapsAreDecided → (json : List ℕ) → (o : Option Data) → json_of json ≡ o → Made json (making json)
+made_json caps json None none = subst (Made json) (sym (no_json json none)) none
 made_json caps json (Some d) is = made_object caps json d is (as_object d) refl
 
-is_refused_json : CapsAreRead → (fault : DirFault) (json : List ℕ) → RefusesJson fault json → making json ≡ Err fault
+is_refused_json : CapsAreDecided → (fault : DirFault) (json : List ℕ) → RefusesJson fault json → making json ≡ Err fault
 is_refused_json caps NotJson json none = no_json json none
 is_refused_json caps BadShape json (inl of) = no_object json of.0 of.1 of.2
 is_refused_json caps BadShape json (inr of) = of_members json (object of.0) of.0 of.1 refl ∙ members_refused caps BadShape of.0 of.2
 is_refused_json caps other json of = of_members json (object of.0) of.0 of.1 refl ∙ members_refused caps other of.0 of.2
 
 -- the entries that JSON makes are those of its members
-pub entries_are : CapsAreRead → (entries : List Entry) (json : List ℕ) → (made json ≡ Some entries) ↔ AreMadeOf entries json
+pub entries_are : CapsAreDecided → (entries : List Entry) (json : List ℕ) → (made json ≡ Some entries) ↔ AreMadeOf entries json
 entries_are caps entries json = (
   λ is. subst (Made json) ((made_are entries json).0 is) (made_json caps json (json_of json) refl),
   λ of. (made_are entries json).1 (of_members json (object of.0) of.0 of.1 refl ∙ members_made caps entries of.0 of.2),
 )
 
 -- JSON that makes nothing is refused for the first member that is at fault
-pub faults_are : CapsAreRead → (fault : DirFault) (json : List ℕ) → fault ≢ NoMemory → (making json ≡ Err fault) ↔ RefusesJson fault json
-faults_are caps fault json other =
-    (λ is. subst (Made json) is (made_json caps json (json_of json) refl) other, λ of. is_refused_json caps fault json of)
+pub faults_are : CapsAreDecided → (fault : DirFault) (json : List ℕ) → (making json ≡ Err fault) ↔ RefusesJson fault json
+faults_are caps fault json =
+    (λ is. subst (Made json) is (made_json caps json (json_of json) refl), λ of. is_refused_json caps fault json of)

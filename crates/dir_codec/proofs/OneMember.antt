@@ -1,5 +1,5 @@
 -- What is made of one member: its entry, or what is said against it.
-use Rattle.std.proofs.Common.{◌≡◌, ◌≢◌, ◌⊎◌, inl, inr, ◌==◌, not, nat_le, ℕ, Bool, true, false, cond, List, [], ◌∷◌, length, codes, Option, Some, None, is_some, option_and_then, Result, Ok, Err, refl, sym, ap, subst, ◌∙◌, arith}
+use Rattle.std.proofs.Common.{◌≡◌, ◌≢◌, inl, inr, ◌==◌, not, nat_le, ℕ, Bool, true, false, cond, List, [], ◌∷◌, length, codes, Option, Some, None, is_some, option_and_then, Result, Ok, Err, refl, sym, ap, subst, ◌∙◌, arith}
 use Rattle.std.proofs.lemmas.Bool.{leb-false, lt-leb, true≢false, not-true, eqb-false, and_parts, false_from_ne_true, true_from_ne_false}
 use Rattle.serde_json.specs.Data.{Data, null, string, array, object, no_items, item, Members, depth}
 use Rattle.serde_json.specs.Find.{get_member, as_str, as_object}
@@ -7,15 +7,16 @@ use Rattle.serde_json.specs.Written.{has_float, compact_text}
 use Rattle.caps.specs.Reading.{cap_reading}
 use Rattle.caps.specs.declared.cap.Cap.{Cap}
 use Rattle.dir_codec.specs.Metadata.{is_metadata}
+use Rattle.dir_codec.specs.Faults.{IsNoChild}
 use Rattle.dir_codec.specs.Reading.{child_of, child_reading}
 use Rattle.dir_codec.specs.Children.{nfc_text, then_make, fields_of, has_write, metadata_made, with_fields, entry_of_fields, entry_made}
 use Rattle.dir_codec.specs.MadeOf.{HasUri, HasCap, IsNoWrite, IsMetadataText, IsEntryOf, HasMetadata, IsMemberFault}
 use Rattle.dir_codec.specs.declared.entry.Entry.{Entry}
 use Rattle.dir_codec.specs.declared.fault.DirFault.{DirFault}
-use Rattle.dir_codec.specs.declared.fault.DirFault.TheVariants.{BadName, BadCap, NotImmutable, WriteCap, BadMetadata, BadShape, FractionalNumber, NoMemory}
-use Rattle.dir_codec.proofs.Belong.{CapsAreRead, child_read, no_length, not_zero}
+use Rattle.dir_codec.specs.declared.fault.DirFault.TheVariants.{BadName, BadCap, NotImmutable, WriteCap, BadMetadata, BadShape, FractionalNumber}
+use Rattle.dir_codec.proofs.Belong.{child_read, no_length, not_zero}
 use Rattle.dir_codec.proofs.Making.{uri_in, fields_none, fields_some, with_known, cap_fault, cap_known, write_known, metadata_known, made_none, made_some}
-use Rattle.dir_codec.proofs.Refused.{child_refused}
+use Rattle.dir_codec.proofs.Refused.{CapsAreDecided, child_refused, no_child}
 
 -- ---- the parts of a member
 
@@ -55,7 +56,7 @@ none_of None is = refl
 
 abbrev pub Told : List ℕ → Data → Result Entry DirFault → Type 0
 Told key node (Ok entry) = IsEntryOf key node entry
-Told key node (Err fault) = fault ≢ NoMemory → IsMemberFault fault key node
+Told key node (Err fault) = IsMemberFault fault key node
 
 -- the entry, once its metadata are known
 abbrev in_entry : List ℕ → Cap → List ℕ → Result Entry DirFault
@@ -67,17 +68,17 @@ module _ (key : List ℕ) (node : Data) where
   told_depth d m made whole true within =
       let is : is_metadata d ≡ true = rw (made, whole, within) refl in
       record { fields = m.fields; name = refl; cap = m.has; no_write = m.no_write; metadata = subst (λ o. IsMetadataText o (compact_text d)) (sym m.is) (is, refl) }
-  told_depth d m made whole false beyond = λ _. (d, m, made, whole, leb-false (depth d) 100 beyond)
+  told_depth d m made whole false beyond = (d, m, made, whole, leb-false (depth d) 100 beyond)
 
   told_float : (d : Data) (m : HasMetadata key node d) → is_some (as_object d) ≡ true → (b : Bool) → has_float d ≡ b
       → Told key node (then_make (in_entry key m.cap) (cond b (Err FractionalNumber) (cond (nat_le (depth d) 100) (Ok (compact_text d)) (Err BadMetadata))))
-  told_float d m made true is = λ _. (d, m, made, is)
+  told_float d m made true is = (d, m, made, is)
   told_float d m made false is = told_depth d m made is (nat_le (depth d) 100) refl
 
   told_object : (d : Data) (m : HasMetadata key node d) → (b : Bool) → is_some (as_object d) ≡ b
       → Told key node (then_make (in_entry key m.cap) (cond b (cond (has_float d) (Err FractionalNumber) (cond (nat_le (depth d) 100) (Ok (compact_text d)) (Err BadMetadata))) (Err BadShape)))
   told_object d m true is = told_float d m is (has_float d) refl
-  told_object d m false is = λ _. inr (d, m, none_of (as_object d) is)
+  told_object d m false is = inr (d, m, none_of (as_object d) is)
 
   told_metadata : (fields : Members) (cap : Cap) → HasCap key node fields cap → IsNoWrite (get_member (codes "rw_uri") fields) → (o : Option Data) → get_member (codes "metadata") fields ≡ o
       → Told key node (then_make (in_entry key cap) (metadata_made o))
@@ -88,23 +89,24 @@ module _ (key : List ℕ) (node : Data) where
 
   told_write : (fields : Members) (cap : Cap) → HasCap key node fields cap → (b : Bool) → has_write (get_member (codes "rw_uri") fields) ≡ b
       → Told key node (cond b (Err WriteCap) (then_make (in_entry key cap) (metadata_made (get_member (codes "metadata") fields))))
-  told_write fields cap has true is = λ _. (fields, cap, has, λ none. true≢false (sym is ∙ no_write_has _ none))
+  told_write fields cap has true is = (fields, cap, has, λ none. true≢false (sym is ∙ no_write_has _ none))
   told_write fields cap has false is = told_metadata fields cap has (no_write _ is) (get_member (codes "metadata") fields) refl
 
-  told_cap : CapsAreRead → (fields : Members) (uri : List ℕ) → HasUri node fields uri → nfc_text key ≢ [] → (r : Result Cap DirFault) → child_reading uri ≡ r
+  told_cap : CapsAreDecided → (fields : Members) (uri : List ℕ) → HasUri node fields uri → nfc_text key ≢ [] → (r : Result Cap DirFault) → child_reading uri ≡ r
       → Told key node (then_make (with_known (nfc_text key) (object fields)) r)
   told_cap caps fields uri has named (Ok cap) is =
       let both = child_read (cap_reading uri) cap is in
-      told_write fields cap (record { uri = uri; has = has; named = named; is = (caps uri cap).1 both.0; child = both.1 }) (has_write (get_member (codes "rw_uri") fields)) refl
-  told_cap caps fields uri has named (Err fault) is = λ other. by_child (child_refused (cap_reading uri) fault other is) is
+      told_write fields cap (record { uri = uri; has = has; named = named; is = (caps.0 uri cap).1 both.0; child = both.1 }) (has_write (get_member (codes "rw_uri") fields)) refl
+  told_cap caps fields uri has named (Err fault) is = by_child fault (child_refused caps uri fault is)
     where
-      by_child : (BadCap ≡ fault) ⊎ (NotImmutable ≡ fault) → child_reading uri ≡ Err fault → IsMemberFault fault key node
-      by_child (inl bad) refused = subst (λ f. child_reading uri ≡ Err f → IsMemberFault f key node) bad (λ refused. (fields, uri, has, named, refused)) refused
-      by_child (inr bad) refused = subst (λ f. child_reading uri ≡ Err f → IsMemberFault f key node) bad (λ refused. (fields, uri, has, named, refused)) refused
+      by_child : (f : DirFault) → IsNoChild f uri → IsMemberFault f key node
+      by_child BadCap why = (fields, uri, has, named, why)
+      by_child NotImmutable why = (fields, uri, has, named, why)
+      by_child f why = absurd why
 
-  told_name : CapsAreRead → (fields : Members) (uri : List ℕ) → HasUri node fields uri → (b : Bool) → (length (nfc_text key) == 0) ≡ b
+  told_name : CapsAreDecided → (fields : Members) (uri : List ℕ) → HasUri node fields uri → (b : Bool) → (length (nfc_text key) == 0) ≡ b
       → Told key node (cond b (Err BadName) (with_fields (nfc_text key) (object fields) uri))
-  told_name caps fields uri has true is = λ _. (fields, uri, has, no_length (nfc_text key) is)
+  told_name caps fields uri has true is = (fields, uri, has, no_length (nfc_text key) is)
   told_name caps fields uri has false is = told_cap caps fields uri has (λ none. eqb-false (length (nfc_text key)) 0 is (ap length none)) (child_reading uri) refl
 
   -- no other fields have a `ro_uri`
@@ -116,23 +118,23 @@ module _ (key : List ℕ) (node : Data) where
       let both_is : None ≡ Some uri = sym none ∙ some in
       cc
 
-  told_uri : CapsAreRead → (kind : List ℕ) (fields : Members) → node ≡ array (item (string kind) (item (object fields) no_items)) → (o : Option (List ℕ)) → uri_in (object fields) ≡ o
+  told_uri : CapsAreDecided → (kind : List ℕ) (fields : Members) → node ≡ array (item (string kind) (item (object fields) no_items)) → (o : Option (List ℕ)) → uri_in (object fields) ≡ o
       → Told key node (entry_of_fields (nfc_text key) (object fields))
   told_uri caps kind fields node_is None is =
-      subst (Told key node) (sym (fields_none (nfc_text key) (object fields) is)) (λ _. inl (λ other uri. no_uri kind fields other uri node_is is))
+      subst (Told key node) (sym (fields_none (nfc_text key) (object fields) is)) (inl (λ other uri. no_uri kind fields other uri node_is is))
   told_uri caps kind fields node_is (Some uri) is =
       let has : HasUri node fields uri = record { kind = kind; node_is = node_is; uri_is = text_in _ uri is } in
       subst (Told key node) (sym (fields_some (nfc_text key) (object fields) uri (length (nfc_text key) == 0) is refl)) (told_name caps fields uri has (length (nfc_text key) == 0) refl)
 
-  told_shape : CapsAreRead → (o : Option Data) → fields_of node ≡ o → Told key node (entry_made key node)
+  told_shape : CapsAreDecided → (o : Option Data) → fields_of node ≡ o → Told key node (entry_made key node)
   told_shape caps None is =
-      subst (Told key node) (sym (made_none key node is)) (λ _. inl (λ fields uri has. let both : None ≡ Some (object fields) = sym is ∙ ap fields_of has.node_is in cc))
+      subst (Told key node) (sym (made_none key node is)) (inl (λ fields uri has. let both : None ≡ Some (object fields) = sym is ∙ ap fields_of has.node_is in cc))
   told_shape caps (Some d) is =
       let shape = shape_of node d is in
       let made : entry_made key node ≡ entry_of_fields (nfc_text key) (object shape.1) = made_some key node d (nfc_text key) is refl ∙ ap (entry_of_fields (nfc_text key)) shape.3 in
       subst (Told key node) (sym made) (told_uri caps shape.0 shape.1 shape.2 (uri_in (object shape.1)) refl)
 
-  pub told : CapsAreRead → Told key node (entry_made key node)
+  pub told : CapsAreDecided → Told key node (entry_made key node)
   told caps = told_shape caps (fields_of node) refl
 
 -- ---- what is said is what the definition makes
@@ -154,16 +156,16 @@ module _ (key : List ℕ) (node : Data) where
   named_is : nfc_text key ≢ [] → (length (nfc_text key) == 0) ≡ false
   named_is named = false_from_ne_true _ (λ none. named (no_length (nfc_text key) none))
 
-  reach_cap : CapsAreRead → (fields : Members) (cap : Cap) → HasCap key node fields cap → entry_made key node ≡ with_known (nfc_text key) (object fields) cap
+  reach_cap : CapsAreDecided → (fields : Members) (cap : Cap) → HasCap key node fields cap → entry_made key node ≡ with_known (nfc_text key) (object fields) cap
   reach_cap caps fields cap has =
-      let read : child_reading has.uri ≡ Ok cap = ap child_of ((caps has.uri cap).0 has.is) ∙ ap (λ b. cond b (Ok cap) (Err NotImmutable)) has.child in
+      let read : child_reading has.uri ≡ Ok cap = ap child_of ((caps.0 has.uri cap).0 has.is) ∙ ap (λ b. cond b (Ok cap) (Err NotImmutable)) has.child in
       reach_uri fields has.uri false has.has (named_is has.named) ∙ cap_known (nfc_text key) (object fields) has.uri cap read
 
-  reach_metadata : CapsAreRead → (d : Data) (m : HasMetadata key node d) (r : Result (List ℕ) DirFault) → metadata_made (Some d) ≡ r → entry_made key node ≡ then_make (in_entry key m.cap) r
+  reach_metadata : CapsAreDecided → (d : Data) (m : HasMetadata key node d) (r : Result (List ℕ) DirFault) → metadata_made (Some d) ≡ r → entry_made key node ≡ then_make (in_entry key m.cap) r
   reach_metadata caps d m r is =
       reach_cap caps m.fields m.cap m.has ∙ metadata_known (nfc_text key) (object m.fields) m.cap r (no_write_has _ m.no_write) (ap metadata_made m.is ∙ is)
 
-  pub is_made : CapsAreRead → (entry : Entry) → IsEntryOf key node entry → entry_made key node ≡ Ok entry
+  pub is_made : CapsAreDecided → (entry : Entry) → IsEntryOf key node entry → entry_made key node ≡ Ok entry
   is_made caps entry of =
       reach_cap caps of.fields entry.cap of.cap
       ∙ metadata_known (nfc_text key) (object of.fields) entry.cap (Ok entry.metadata) (no_write_has _ of.no_write) (metadata_is _ entry.metadata of.metadata)
@@ -179,15 +181,15 @@ module _ (key : List ℕ) (node : Data) where
       ] in
       made_some key node d (nfc_text key) is refl ∙ ap (entry_of_fields (nfc_text key)) shape.3 ∙ at (uri_in (object shape.1)) refl
 
-  not_object : CapsAreRead → (d : Data) → HasMetadata key node d → as_object d ≡ None → entry_made key node ≡ Err BadShape
+  not_object : CapsAreDecided → (d : Data) → HasMetadata key node d → as_object d ≡ None → entry_made key node ≡ Err BadShape
   not_object caps d m none = reach_metadata caps d m (Err BadShape) (rw none refl)
 
-  pub is_refused : CapsAreRead → (fault : DirFault) → IsMemberFault fault key node → entry_made key node ≡ Err fault
+  pub is_refused : CapsAreDecided → (fault : DirFault) → IsMemberFault fault key node → entry_made key node ≡ Err fault
   is_refused caps BadShape (inl none) = no_shape (fields_of node) refl none
   is_refused caps BadShape (inr of) = not_object caps of.0 of.1 of.2
   is_refused caps BadName of = reach_uri of.0 of.1 true of.2 (ap (λ t. length t == 0) of.3)
-  is_refused caps BadCap of = reach_uri of.0 of.1 false of.2 (named_is of.3) ∙ cap_fault (nfc_text key) (object of.0) of.1 BadCap of.4
-  is_refused caps NotImmutable of = reach_uri of.0 of.1 false of.2 (named_is of.3) ∙ cap_fault (nfc_text key) (object of.0) of.1 NotImmutable of.4
+  is_refused caps BadCap of = reach_uri of.0 of.1 false of.2 (named_is of.3) ∙ cap_fault (nfc_text key) (object of.0) of.1 BadCap (no_child caps of.1 BadCap of.4)
+  is_refused caps NotImmutable of = reach_uri of.0 of.1 false of.2 (named_is of.3) ∙ cap_fault (nfc_text key) (object of.0) of.1 NotImmutable (no_child caps of.1 NotImmutable of.4)
   is_refused caps WriteCap of =
       reach_cap caps of.0 of.1 of.2 ∙ write_known (nfc_text key) (object of.0) of.1 (true_from_ne_false _ (λ none. of.3 (no_write _ none)))
   is_refused caps FractionalNumber of = reach_metadata caps of.0 of.1 (Err FractionalNumber) (rw (of.2, of.3) refl)

@@ -1,13 +1,14 @@
 -- Why a text is no directory's: the first fault of the first entry that has one.
-use Rattle.std.specs.Prelude.{◌≡◌, ◌≢◌, ℕ, true, false, List, [], ◌++◌, None, Err}
+use Rattle.std.specs.Prelude.{◌≡◌, ◌≢◌, ◌⊎◌, ℕ, true, false, List, [], ◌++◌, None}
 use Rattle.caps.specs.CapTexts.{IsCapText}
+use Rattle.caps.specs.Refusals.{Refuses as RefusesCap}
 use Rattle.caps.specs.declared.cap.Cap.{Cap}
+use Rattle.caps.specs.declared.fault.CapFault.TheVariants.{UnknownKind, Mutable, BadField, BadNumber}
 use Rattle.dir_codec.specs.Names.{is_name, IsAbove}
 use Rattle.dir_codec.specs.Metadata.{spelling_of}
 use Rattle.dir_codec.specs.Entries.{is_child_cap, last_name}
 use Rattle.dir_codec.specs.Parts.{Texts}
 use Rattle.dir_codec.specs.DirectoryText.{entry_text, IsTextAbove}
-use Rattle.dir_codec.specs.Reading.{child_reading}
 use Rattle.dir_codec.specs.declared.entry.Entry.{Entry}
 use Rattle.dir_codec.specs.declared.fault.DirFault.{DirFault}
 use Rattle.dir_codec.specs.declared.fault.DirFault.TheVariants.{Torn, NotSorted, BadName, BadCap, NotImmutable, WriteCap, BadMetadata}
@@ -15,6 +16,12 @@ use Rattle.dir_codec.specs.declared.fault.DirFault.TheVariants.{Torn, NotSorted,
 -- the text of an entry of these four texts
 abbrev pub text_of : Texts → List ℕ
 text_of texts = entry_text texts.name texts.cap texts.write texts.metadata
+
+-- why a text names no child: it is no cap's, or that of something that can change, or a cap that reads nothing
+abbrev pub IsNoChild : DirFault → List ℕ → Type 0
+IsNoChild BadCap text = RefusesCap UnknownKind text ⊎ (RefusesCap BadField text ⊎ RefusesCap BadNumber text)
+IsNoChild NotImmutable text = RefusesCap Mutable text ⊎ ((cap : Cap) × IsCapText cap text × (is_child_cap cap ≡ false))
+IsNoChild other text = ⊥
 
 -- a name that is above the last one, and a child's cap
 pub record HasNameAndCap (last : List ℕ) (texts : Texts) (cap : Cap) : Type 0 where
@@ -28,8 +35,8 @@ pub record HasNameAndCap (last : List ℕ) (texts : Texts) (cap : Cap) : Type 0 
 abbrev pub IsFault : DirFault → List ℕ → Texts → Type 0
 IsFault BadName last texts = is_name texts.name ≡ false
 IsFault NotSorted last texts = (is_name texts.name ≡ true) × ¬ (IsAbove texts.name last)
-IsFault BadCap last texts = (is_name texts.name ≡ true) × IsAbove texts.name last × (child_reading texts.cap ≡ Err BadCap)
-IsFault NotImmutable last texts = (is_name texts.name ≡ true) × IsAbove texts.name last × (child_reading texts.cap ≡ Err NotImmutable)
+IsFault BadCap last texts = (is_name texts.name ≡ true) × IsAbove texts.name last × IsNoChild BadCap texts.cap
+IsFault NotImmutable last texts = (is_name texts.name ≡ true) × IsAbove texts.name last × IsNoChild NotImmutable texts.cap
 IsFault WriteCap last texts = (cap : Cap) × HasNameAndCap last texts cap × (texts.write ≢ [])
 IsFault BadMetadata last texts = (cap : Cap) × HasNameAndCap last texts cap × (texts.write ≡ []) × (spelling_of texts.metadata ≡ None)
 IsFault other last texts = ⊥

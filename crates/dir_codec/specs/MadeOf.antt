@@ -1,6 +1,6 @@
 -- What children JSON makes, said without an order of work: an entry of each member of the object, one each, in the order
 -- of their names. Where it makes nothing: the first member that is at fault.
-use Rattle.std.specs.Prelude.{◌≡◌, ◌≢◌, ◌⊎◌, ⊤, ℕ, ◌<◌, true, false, List, [], ◌∷◌, ◌++◌, codes, Any, IsPermutation, Option, Some, None, is_some, Err}
+use Rattle.std.specs.Prelude.{◌≡◌, ◌≢◌, ◌⊎◌, ⊤, ℕ, ◌<◌, true, false, List, [], ◌∷◌, ◌++◌, codes, Any, IsPermutation, Option, Some, None, is_some}
 use Rattle.std.specs.List.{AllZip}
 use Rattle.serde_json.specs.Data.{Data, null, string, array, object, no_items, item, Members, no_members, member, depth}
 use Rattle.serde_json.specs.Find.{get_member, as_object}
@@ -10,7 +10,7 @@ use Rattle.caps.specs.declared.cap.Cap.{Cap}
 use Rattle.dir_codec.specs.Names.{IsAbove}
 use Rattle.dir_codec.specs.Metadata.{json_of, is_metadata}
 use Rattle.dir_codec.specs.Entries.{is_child_cap}
-use Rattle.dir_codec.specs.Reading.{child_reading}
+use Rattle.dir_codec.specs.Faults.{IsNoChild}
 use Rattle.dir_codec.specs.Children.{nfc_text}
 use Rattle.dir_codec.specs.declared.entry.Entry.{Entry}
 use Rattle.dir_codec.specs.declared.fault.DirFault.{DirFault}
@@ -69,9 +69,9 @@ IsMemberFault BadShape key node =
     ((fields : Members) (uri : List ℕ) → ¬ (HasUri node fields uri)) ⊎ ((d : Data) × HasMetadata key node d × (as_object d ≡ None))
 IsMemberFault BadName key node = (fields : Members) × (uri : List ℕ) × HasUri node fields uri × (nfc_text key ≡ [])
 IsMemberFault BadCap key node =
-    (fields : Members) × (uri : List ℕ) × HasUri node fields uri × (nfc_text key ≢ []) × (child_reading uri ≡ Err BadCap)
+    (fields : Members) × (uri : List ℕ) × HasUri node fields uri × (nfc_text key ≢ []) × IsNoChild BadCap uri
 IsMemberFault NotImmutable key node =
-    (fields : Members) × (uri : List ℕ) × HasUri node fields uri × (nfc_text key ≢ []) × (child_reading uri ≡ Err NotImmutable)
+    (fields : Members) × (uri : List ℕ) × HasUri node fields uri × (nfc_text key ≢ []) × IsNoChild NotImmutable uri
 IsMemberFault WriteCap key node =
     (fields : Members) × (cap : Cap) × HasCap key node fields cap × ¬ (IsNoWrite (get_member (codes "rw_uri") fields))
 IsMemberFault FractionalNumber key node =

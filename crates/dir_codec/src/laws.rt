@@ -1,5 +1,5 @@
 //! What holds of directory texts.
-ghost use Rattle.std.specs.Prelude.{◌≡◌, ◌≢◌, ◌↔◌, ◌<◌, ◌≤◌, ◌^◌, ℕ, false, List, length, Ok, Err, Some};
+ghost use Rattle.std.specs.Prelude.{◌≡◌, ◌↔◌, ◌<◌, ◌≤◌, ◌^◌, ℕ, false, List, length, Ok, Err, Some};
 ghost use Rattle.serde_json.specs.Data.{Data, depth};
 ghost use Rattle.serde_json.specs.Read.{read};
 ghost use Rattle.serde_json.specs.Written.{has_float, compact_text};
@@ -13,7 +13,6 @@ ghost use Rattle.dir_codec.specs.MadeOf.{AreMadeOf, RefusesJson};
 ghost use Rattle.dir_codec.specs.Faults.{Refuses};
 ghost use Rattle.dir_codec.specs.declared.entry.Entry.{Entry};
 ghost use Rattle.dir_codec.specs.declared.fault.DirFault.{DirFault};
-ghost use Rattle.dir_codec.specs.declared.fault.DirFault.TheVariants.{NoMemory};
 
 use caps::laws::reading_is_decided;
 use tag_hash::laws::netstrings_are_read_back;
@@ -33,7 +32,7 @@ pub fn texts_and_entries_belong_together()
 
 /// A text is refused for the first fault of the first entry that has one.
 pub fn texts_are_refused_for_the_first_fault()
-    ensures { (fault : DirFault) (text : List ℕ) → length text < 2 ^ 64 → fault ≢ NoMemory
+    ensures { (fault : DirFault) (text : List ℕ) → length text < 2 ^ 64
         → reading text ≡ Err fault → Refuses fault text }
 {
     netstrings_are_read_back();
@@ -76,7 +75,7 @@ pub fn made_children_are_named()
 pub fn children_are_the_members_entries()
     ensures made { (entries : List Entry) (json : List ℕ)
         → ((made json ≡ Some entries) ↔ AreMadeOf entries json) }
-    ensures refused { (fault : DirFault) (json : List ℕ) → fault ≢ NoMemory
+    ensures refused { (fault : DirFault) (json : List ℕ)
         → ((making json ≡ Err fault) ↔ RefusesJson fault json) }
 {
     reading_is_decided();
