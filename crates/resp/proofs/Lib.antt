@@ -1,0 +1,13 @@
+pub mod Steps
+pub mod Readers
+pub mod Spans
+pub mod Numbers
+pub mod Texts
+pub mod Leads
+pub mod Integers
+pub mod Bulks
+pub mod LoneItems
+pub mod WholeReplies
+pub mod Loops
+pub mod Verdicts
+pub mod Printed

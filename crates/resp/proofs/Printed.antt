@@ -1,0 +1,43 @@
+-- Commands.
+use Rattle.std.proofs.Common.{◌≡◌, ℕ, ◌≤◌, ◌<◌, ◌^◌, List, [], ◌∷◌, ◌++◌, length, take, Bor, refl, ap, sym, subst, ◌∙◌, arith}
+use Rattle.std.specs.Prelude.{decimal, map}
+use Rattle.std.specs.List.{flat_map, AllByRecursion}
+use Rattle.std.proofs.lemmas.Fmt.{decimal_is_IsNumeral, length-decimal-le}
+use Rattle.std.proofs.lemmas.List.{take_all, length-map}
+use Rattle.resp.specs.declared.limits.Limits.{Limits}
+use Rattle.resp.specs.declared.reply.Item.TheVariants as item
+use Rattle.resp.specs.declared.reply.Element.TheVariants as element
+use Rattle.resp.specs.declared.reply.Reply.TheVariants as reply
+use Rattle.resp.specs.Command.{line, bulk, command}
+use Rattle.resp.specs.Spelled.{Writes, SpellsAll, SpellsElement, SpellsReply}
+
+pub command_is : (words : List (Bor (List ℕ))) (i : ℕ) (bytes : List ℕ) → length words ≤ i
+    → bytes ≡ line 42 (decimal (length words)) ++ flat_map bulk (map (λ word. word.now) (take i words)) → bytes ≡ command (map (λ word. word.now) words)
+unfolding command
+command_is words i bytes le e = e ∙ rw (take_all i words le, length-map) refl
+
+-- a number that is printed is read as that number
+prints : (limits : Limits) (most n : ℕ) → 20 ≤ limits.line → n ≤ most → n < 2 ^ 32 → Writes limits most (decimal n) n
+prints limits most n line fits small =
+    let d = decimal_is_IsNumeral n (omega (arith, small)) in
+    let short : length (decimal n) ≤ 20 = length-decimal-le 20 n (omega arith) (omega (arith, small)) (omega (arith, small)) in
+    (d.0, omega (arith, short, line), d.1, fits)
+
+bulks_spell : (limits : Limits) (words : List (List ℕ)) → 20 ≤ limits.line → limits.bulk < 2 ^ 32 → AllByRecursion (λ word. length word ≤ limits.bulk) words
+    → SpellsAll (SpellsElement limits) (map (λ word. element.One (item.Bulk word)) words) (flat_map bulk words)
+bulks_spell limits [] line small all = refl
+bulks_spell limits (w ∷ ws) line small all =
+    (bulk w, flat_map bulk ws, (decimal (length w), prints limits limits.bulk (length w) line all.0 (omega (arith, all.0, small)), refl), bulks_spell limits ws line small all.1, refl)
+
+pub command_spells : (limits : Limits) (words : List (List ℕ)) → 20 ≤ limits.line → limits.bulk < 2 ^ 32 → limits.elements < 2 ^ 32 → length words ≤ limits.elements
+    → AllByRecursion (λ word. length word ≤ limits.bulk) words
+    → SpellsReply limits (reply.Several (map (λ word. element.One (item.Bulk word)) words)) (command words)
+unfolding command
+command_spells limits words line_room small some count all =
+    let counted : length (map (λ word. element.One (item.Bulk word)) words) ≡ length words = rw length-map refl in (
+      decimal (length words),
+      flat_map bulk words,
+      subst (λ n. Writes limits limits.elements (decimal (length words)) n) (sym counted) (prints limits limits.elements (length words) line_room count (omega (arith, count, some))),
+      bulks_spell limits words line_room small all,
+      refl,
+    )

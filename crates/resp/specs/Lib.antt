@@ -1,0 +1,4 @@
+pub mod Command
+pub mod Spelled
+pub mod Reading
+pub mod Verdict
