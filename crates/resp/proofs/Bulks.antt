@@ -1,16 +1,16 @@
 -- Bulk strings.
-use Rattle.std.proofs.Common.{◌≡◌, ◌<◌, ℕ, List, [], ◌∷◌, ◌++◌, length, Option, Some, None, Ok, refl, sym, ap, subst, ◌∙◌, append_assoc}
+use Rattle.std.proofs.Common.{◌≡◌, ℕ, List, [], ◌∷◌, ◌++◌, length, Option, Some, None, refl, sym, ap, subst, ◌∙◌, append_assoc}
 use Rattle.resp.specs.declared.limits.Limits.{Limits}
 use Rattle.resp.specs.declared.reply.Item.{Item}
 use Rattle.resp.specs.declared.reply.Item.TheVariants as item
 use Rattle.resp.specs.Command.{line_end}
 use Rattle.resp.specs.Spelled.{Writes}
-use Rattle.resp.specs.Reading.{Read, ◌>>=◌, byte_at, only, line_end_at, content_at, digits_at, bulk_lead, bulk_after, bulk_at}
+use Rattle.resp.specs.Reading.{◌>>=◌, byte_at, only, line_end_at, content_at, digits_at, bulk_lead, bulk_after, bulk_at}
 use Rattle.resp.proofs.Steps.{given}
 use Rattle.resp.proofs.Readers.{Reads, reads-same, IsByte, reads-byte, Then, reads-then, after, IsMapped, reads-map, IsContent, reads-content}
 use Rattle.resp.proofs.Spans.{only_is}
 use Rattle.resp.proofs.Texts.{IsEnd, reads-end}
-use Rattle.resp.proofs.Numbers.{IsTail, reads-digits, IsNumber, number-to, number-from}
+use Rattle.resp.proofs.Numbers.{IsTail, reads-digits, number-to, number-from}
 use Rattle.resp.proofs.Leads.{one_digit, BulkFacts, bulk_lead_is, bulk-digit, bulk-minus}
 
 -- what stands after the mark of a bulk string

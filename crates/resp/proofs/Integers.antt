@@ -1,14 +1,14 @@
 -- Integers.
-use Rattle.std.proofs.Common.{◌≡◌, ◌<◌, ◌-◌, ◌^◌, ◌⊎◌, ℕ, List, [], ◌∷◌, ◌++◌, Ok, refl, sym, ap, subst, ◌∙◌, inl, inr, arith}
+use Rattle.std.proofs.Common.{◌≡◌, ◌<◌, ◌-◌, ◌^◌, ℕ, List, [], ◌∷◌, ◌++◌, refl, sym, ap, subst, ◌∙◌, inl, inr}
 use Rattle.std.specs.Prelude.{ℤ, pos, neg_ℤ}
 use Rattle.resp.specs.declared.limits.Limits.{Limits}
 use Rattle.resp.specs.declared.items.Lead.{Lead}
 use Rattle.resp.specs.declared.items.Lead.TheVariants as lead
 use Rattle.resp.specs.Command.{line_end}
-use Rattle.resp.specs.Spelled.{Writes, WritesInteger}
-use Rattle.resp.specs.Reading.{Read, ◌>>=◌, byte_at, digit_step, digits_at, number_at, lead_of, integer_after, integer_at}
+use Rattle.resp.specs.Spelled.{WritesInteger}
+use Rattle.resp.specs.Reading.{byte_at, digits_at, number_at, lead_of, integer_after, integer_at}
 use Rattle.resp.proofs.Readers.{Reads, reads-same, IsByte, reads-byte, Then, reads-then, IsMapped, reads-map}
-use Rattle.resp.proofs.Numbers.{IsTail, reads-digits, IsNumber, reads-number, number-to, number-from, zero_steps}
+use Rattle.resp.proofs.Numbers.{IsTail, reads-digits, IsNumber, reads-number, number-to, number-from}
 use Rattle.resp.proofs.Leads.{one_digit, LeadFacts, lead_is, lead-digit, lead-plus, lead-minus}
 
 -- an integer, and the end of its line

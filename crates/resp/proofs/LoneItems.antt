@@ -10,7 +10,7 @@ use Rattle.resp.specs.declared.reply.Item.{Item}
 use Rattle.resp.specs.declared.reply.Item.TheVariants as item
 use Rattle.resp.specs.Command.{line_end}
 use Rattle.resp.specs.Spelled.{SpellsItem}
-use Rattle.resp.specs.Reading.{Read, ◌>>=◌, byte_at, text_at, integer_at, bulk_at, kind_of, item_after, item_at}
+use Rattle.resp.specs.Reading.{byte_at, text_at, integer_at, kind_of, item_after, item_at}
 use Rattle.resp.proofs.Readers.{Reads, reads-same, IsByte, reads-byte, Then, reads-then, IsMapped, reads-map}
 use Rattle.resp.proofs.Texts.{IsLineText, reads-text}
 use Rattle.resp.proofs.Integers.{IsInteger, reads-integer}

@@ -1,5 +1,5 @@
 -- Loops: one thing read after the other, and byte after byte of a line.
-use Rattle.std.proofs.Common.{◌≡◌, ◌≢◌, ◌<◌, ◌≤◌, ◌+◌, ◌-◌, ℕ, zero, suc, eqb, true, false, List, [], ◌∷◌, ◌++◌, length, get_or, take, drop, Result, Ok, Err, refl, sym, ap, ◌∙◌, append_assoc, arith, add-one, drop-cons}
+use Rattle.std.proofs.Common.{◌≡◌, ◌<◌, ◌≤◌, ◌+◌, ◌-◌, ℕ, suc, List, [], ◌∷◌, ◌++◌, length, get_or, take, drop, Result, Ok, Err, refl, sym, ap, ◌∙◌, append_assoc, arith, add-one, drop-cons}
 use Rattle.std.proofs.Math.ListN.{drop_of_length-le}
 use Rattle.std.proofs.Math.Seq.{take-length}
 use Rattle.std.proofs.lemmas.Bool.{ne_eqb, eq-eqb, lt-ltb, le-ltb}
@@ -9,7 +9,7 @@ use Rattle.resp.specs.declared.fault.Wrong.TheVariants.{Malformed, TooLarge}
 use Rattle.resp.specs.declared.limits.Limits.{Limits}
 use Rattle.resp.specs.declared.fault.ReadStop.{ReadStop}
 use Rattle.resp.specs.declared.fault.ReadStop.TheVariants as stops
-use Rattle.resp.specs.Reading.{Read, Stop, More, At, Stops, ◌>>=◌, byte_at, only, all_at, span, text_step, digit_step, digits_at}
+use Rattle.resp.specs.Reading.{Read, More, At, Stops, ◌>>=◌, byte_at, only, all_at, span, text_step, digit_step, digits_at}
 use Rattle.resp.proofs.Spans.{span-ends, span-goes, span-fails, span-nil, with_feed}
 
 -- what was read before, and what is still read

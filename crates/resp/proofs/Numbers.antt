@@ -1,7 +1,7 @@
 -- Numbers.
-use Rattle.std.proofs.Common.{◌≡◌, ◌≢◌, ◌<◌, ◌≤◌, ◌+◌, ◌*◌, ℕ, zero, suc, Bool, true, false, cond, eqb, ltb, leb, ◌&&◌, List, [], ◌∷◌, ◌++◌, length, Result, Ok, Err, refl, sym, ap, subst, ◌∙◌, arith}
+use Rattle.std.proofs.Common.{◌≡◌, ◌<◌, ◌≤◌, ◌+◌, ◌*◌, ℕ, Bool, true, false, cond, eqb, ltb, leb, ◌&&◌, List, [], ◌∷◌, ◌++◌, length, Result, Ok, Err, refl, sym, ap, subst, ◌∙◌, arith}
 use Rattle.std.specs.Char.{digit_value}
-use Rattle.std.specs.Str.Parse.{AllDigits, digits_value_after, digits_value}
+use Rattle.std.specs.Str.Parse.{AllDigits, digits_value_after}
 use Rattle.std.proofs.lemmas.List.{append-nil}
 use Rattle.std.proofs.lemmas.Bool.{ne_eqb, ltb-true, leb-true, lt-ltb, le-leb}
 use Rattle.resp.specs.declared.fault.Wrong.{Wrong}
@@ -9,9 +9,9 @@ use Rattle.resp.specs.declared.fault.Wrong.TheVariants.{Malformed, TooLarge}
 use Rattle.resp.specs.declared.limits.Limits.{Limits}
 use Rattle.resp.specs.Command.{line_end}
 use Rattle.resp.specs.Spelled.{Writes}
-use Rattle.resp.specs.Reading.{Read, ◌>>=◌, byte_at, span, digit_step, digits_at, number_at}
+use Rattle.resp.specs.Reading.{byte_at, span, digit_step, digits_at, number_at}
 use Rattle.resp.proofs.Steps.{given}
-use Rattle.resp.proofs.Readers.{Reads, reads-same, IsByte, reads-byte, Then, reads-then, after, IsNothing, reads-nothing}
+use Rattle.resp.proofs.Readers.{Reads, reads-same, IsByte, reads-byte, Then, reads-then, IsNothing, reads-nothing}
 use Rattle.resp.proofs.Spans.{Runs, IsSpan, reads-span}
 
 pub record Stepped (limits : Limits) (most : ℕ) (s : ℕ × ℕ) (c : ℕ) (next : ℕ × ℕ) : Type 0 where

@@ -1,10 +1,10 @@
 -- What spells a value is read, whatever follows, and nothing else is; and what is put together of such readers is one.
-use Rattle.std.proofs.Common.{◌≡◌, ◌<◌, ◌≤◌, ◌+◌, ◌-◌, ◌⊎◌, ℕ, zero, suc, Bool, true, false, cond, ltb, List, [], ◌∷◌, ◌++◌, length, take, drop, Result, Ok, Err, refl, sym, ap, subst, ◌∙◌, append_assoc, inl, inr, arith}
+use Rattle.std.proofs.Common.{◌≡◌, ◌<◌, ◌≤◌, ◌-◌, ℕ, zero, suc, Bool, true, false, cond, ltb, List, [], ◌∷◌, ◌++◌, length, take, drop, Result, Ok, Err, refl, sym, ap, subst, ◌∙◌, append_assoc, inl, inr, arith}
 use Rattle.std.proofs.lemmas.Bool.{ltb-true, ltb-false, le-ltb}
 use Rattle.std.proofs.lemmas.List.{append-nil, take_at, drop_at, take-append-drop, length-append, length-take}
 use Rattle.resp.specs.declared.fault.Wrong.{Wrong}
 use Rattle.resp.specs.Spelled.{IsBegun, SpellsAll}
-use Rattle.resp.specs.Reading.{Stop, More, At, Read, ◌>>=◌, judged, byte_at, content_at, all_at}
+use Rattle.resp.specs.Reading.{More, At, Read, ◌>>=◌, judged, byte_at, content_at, all_at}
 use Rattle.resp.proofs.Steps.{given, bind_ok, bind_err, value_is, rest_is, judged_ok, judged_more, judged_wrong}
 
 -- a value is spelled in front

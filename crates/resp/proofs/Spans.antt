@@ -1,11 +1,11 @@
 -- Bytes up to the end of a line.
-use Rattle.std.proofs.Common.{◌≡◌, ◌<◌, ◌≤◌, ◌+◌, ◌-◌, ◌⊎◌, ℕ, zero, suc, Bool, true, false, cond, eqb, List, [], ◌∷◌, ◌++◌, length, get_or, take, drop, Result, Ok, Err, refl, sym, ap, subst, ◌∙◌, append_assoc, inl, inr, arith, add-one, drop-cons}
-use Rattle.std.proofs.lemmas.Bool.{eqb-true, eqb-false}
+use Rattle.std.proofs.Common.{◌≡◌, ℕ, suc, Bool, true, false, cond, eqb, List, [], ◌∷◌, ◌++◌, length, Result, Ok, Err, refl, sym, ap, ◌∙◌, inl, inr}
+use Rattle.std.proofs.lemmas.Bool.{eqb-true}
 use Rattle.resp.specs.declared.fault.Wrong.{Wrong}
 use Rattle.resp.specs.declared.fault.Wrong.TheVariants.{Malformed}
 use Rattle.resp.specs.Command.{line_end}
 use Rattle.resp.specs.Spelled.{IsBegun}
-use Rattle.resp.specs.Reading.{Stop, More, At, Read, ◌>>=◌, judged, byte_at, only, onward, span}
+use Rattle.resp.specs.Reading.{More, At, Read, ◌>>=◌, judged, byte_at, only, onward, span}
 use Rattle.resp.proofs.Steps.{given, value_is, rest_is, bind_ok, bind_err, judged_ok, judged_more, judged_wrong}
 use Rattle.resp.proofs.Readers.{Front, StopsAt, Reads}
 

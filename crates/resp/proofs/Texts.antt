@@ -1,14 +1,14 @@
 -- Texts, and ends of lines.
-use Rattle.std.proofs.Common.{◌≡◌, ◌≢◌, ◌<◌, ◌≤◌, ◌+◌, ℕ, zero, suc, Bool, true, false, cond, eqb, ltb, List, [], ◌∷◌, ◌++◌, length, Result, Ok, Err, refl, sym, ap, subst, ◌∙◌, append_assoc, arith}
+use Rattle.std.proofs.Common.{◌≡◌, ◌≢◌, ◌<◌, ◌≤◌, ◌+◌, ℕ, Bool, true, false, cond, eqb, ltb, List, [], ◌∷◌, ◌++◌, length, Result, Ok, Err, refl, sym, ap, subst, ◌∙◌, append_assoc, arith}
 use Rattle.std.specs.List.{AllByRecursion}
-use Rattle.std.proofs.lemmas.Bool.{eqb-true, eqb-false, ne_eqb, ltb-true, lt-ltb}
+use Rattle.std.proofs.lemmas.Bool.{eqb-false, ne_eqb, ltb-true, lt-ltb}
 use Rattle.std.proofs.lemmas.List.{append-nil, length-append}
 use Rattle.resp.specs.declared.fault.Wrong.{Wrong}
 use Rattle.resp.specs.declared.fault.Wrong.TheVariants.{Malformed, TooLarge}
 use Rattle.resp.specs.declared.limits.Limits.{Limits}
 use Rattle.resp.specs.Command.{line_end}
 use Rattle.resp.specs.Spelled.{IsText}
-use Rattle.resp.specs.Reading.{Read, ◌>>=◌, byte_at, only, span, text_step, text_at, line_end_at}
+use Rattle.resp.specs.Reading.{byte_at, only, text_step, text_at, line_end_at}
 use Rattle.resp.proofs.Readers.{Reads, reads-same, IsByte, reads-byte, Then, reads-then}
 use Rattle.resp.proofs.Spans.{Runs, IsSpan, reads-span, only_is}
 

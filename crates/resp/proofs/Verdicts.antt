@@ -1,12 +1,12 @@
 -- What a reader says of bytes.
-use Rattle.std.proofs.Common.{◌≡◌, ◌<◌, ◌≤◌, ◌+◌, ◌-◌, ◌⊎◌, ℕ, suc, List, [], ◌∷◌, ◌++◌, length, take, drop, Option, Some, Result, Ok, Err, refl, sym, ap, subst, ◌∙◌, append_assoc, arith}
+use Rattle.std.proofs.Common.{◌≡◌, ◌≤◌, ◌+◌, ◌-◌, ℕ, suc, List, [], ◌∷◌, ◌++◌, length, take, Ok, Err, sym, ap, subst, ◌∙◌, append_assoc, arith}
 use Rattle.std.proofs.lemmas.List.{append-nil, length-append, take_at}
 use Rattle.resp.specs.declared.fault.Wrong.{Wrong}
 use Rattle.resp.specs.Spelled.{IsBegun}
 use Rattle.resp.specs.Verdict.{IsWrongAt}
-use Rattle.resp.specs.Reading.{Read, Stop, More, At}
+use Rattle.resp.specs.Reading.{Read, Stop, At}
 use Rattle.resp.proofs.Steps.{given, value_is, rest_is}
-use Rattle.resp.proofs.Readers.{Reads, Front, StopsAt}
+use Rattle.resp.proofs.Readers.{Reads}
 
 no_stop : {A : Type 0} (a : A) (rest : List ℕ) (s : Stop) → given a rest ≡ Err s → ⊥
 no_stop a rest s e = cc

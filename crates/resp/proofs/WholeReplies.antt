@@ -1,22 +1,20 @@
 -- Arrays, and replies.
-use Rattle.std.proofs.Common.{◌≡◌, ◌<◌, ◌≤◌, ◌+◌, ◌-◌, ℕ, suc, Bool, true, false, cond, eqb, List, [], ◌∷◌, ◌++◌, length, take, drop, Option, Some, None, Result, Ok, Err, refl, sym, ap, subst, ◌∙◌, append_assoc, arith}
+use Rattle.std.proofs.Common.{◌≡◌, ◌<◌, ℕ, Bool, true, false, cond, eqb, List, [], ◌∷◌, ◌++◌, length, Option, Some, None, Result, Ok, Err, refl, sym, ap, subst, ◌∙◌}
 use Rattle.std.proofs.lemmas.Bool.{eqb-true}
-use Rattle.std.proofs.lemmas.List.{append-nil, length-append}
 use Rattle.resp.specs.declared.fault.Wrong.{Wrong}
 use Rattle.resp.specs.declared.limits.Limits.{Limits}
 use Rattle.resp.specs.declared.items.Kind.{Kind}
 use Rattle.resp.specs.declared.items.Kind.TheVariants as kind
-use Rattle.resp.specs.declared.reply.Item.{Item}
 use Rattle.resp.specs.declared.reply.Element.{Element}
 use Rattle.resp.specs.declared.reply.Element.TheVariants as element
 use Rattle.resp.specs.declared.reply.Reply.{Reply}
 use Rattle.resp.specs.declared.reply.Reply.TheVariants as reply
 use Rattle.resp.specs.Command.{line_end}
-use Rattle.resp.specs.Spelled.{Writes, SpellsItem, SpellsAll, SpellsArray, SpellsElement, SpellsReply, IsBegun}
-use Rattle.resp.specs.Reading.{Read, Stop, More, At, ◌>>=◌, byte_at, number_at, kind_of, marked, mark_of, item_after, item_at, all_at, array_at, element_after, element_at, reply_after, reply_at}
+use Rattle.resp.specs.Spelled.{Writes, SpellsItem, SpellsAll, SpellsArray, SpellsElement, SpellsReply}
+use Rattle.resp.specs.Reading.{Read, byte_at, number_at, kind_of, marked, mark_of, item_after, item_at, all_at, array_at, element_after, element_at, reply_after, reply_at}
 use Rattle.resp.proofs.Readers.{Reads, reads-same, IsByte, reads-byte, Then, reads-then, IsMapped, reads-map, IsAll, reads-all}
 use Rattle.resp.proofs.Numbers.{IsNumber, reads-number}
-use Rattle.resp.proofs.LoneItems.{code_of, kind_is, kind_code, After, reads-item_after, marked-spells, spells-marked, reads-item}
+use Rattle.resp.proofs.LoneItems.{code_of, kind_is, After, reads-item_after, marked-spells, spells-marked, reads-item}
 
 abbrev pub MarkFacts : ℕ → Option Kind → Type 0
 MarkFacts c None = c ≡ 42

@@ -1,5 +1,5 @@
 -- What is said of the bytes that came so far.
-use Rattle.std.specs.Prelude.{◌≡◌, ◌<◌, ◌≤◌, ◌+◌, ℕ, List, take, length, Option, Some, None, Result, Ok, Err}
+use Rattle.std.specs.Prelude.{◌<◌, ◌≤◌, ◌+◌, ℕ, List, take, length, Option, Some, None, Result, Ok, Err}
 use Rattle.resp.specs.declared.fault.RespFault.{RespFault}
 use Rattle.resp.specs.declared.fault.RespFault.TheVariants as faults
 use Rattle.resp.specs.Spelled.{IsBegun}

@@ -1,4 +1,4 @@
-use Rattle.std.proofs.Common.{◌≡◌, ℕ, List, ◌++◌, length, Ok, sym, ap, ◌∙◌, arith, length-append}
+use Rattle.std.proofs.Common.{◌≡◌, length, sym, ap, ◌∙◌, arith, length-append}
 use Rattle.resp.specs.Reading.{reply_at}
 use Rattle.resp.proofs.Steps.{given, value_is, rest_is}
 use Rattle.resp.proofs.WholeReplies.{reads-reply}

@@ -1,4 +1,4 @@
-use Rattle.std.proofs.Common.{take, drop, arith, sym, ap, refl, ◌∙◌}
+use Rattle.std.proofs.Common.{take, arith}
 use Rattle.std.proofs.lemmas.Result.{err_from_is_err_and}
 use Rattle.resp.specs.Reading.{text_step, text_at}
 use Rattle.resp.proofs.Loops.{line_stops, line_is_read, line_breaks_off, text_goes, text_lf, text_long}

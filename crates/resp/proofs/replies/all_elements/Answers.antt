@@ -1,4 +1,3 @@
-use Rattle.std.proofs.Common.{◌≡◌, ◌++◌, ◌∷◌, []}
 use Rattle.std.proofs.lemmas.Result.{err_from_is_err_and}
 use Rattle.resp.specs.Reading.{all_at, element_at}
 use Rattle.resp.proofs.Loops.{goes_on, ends, is_done}
