@@ -97,7 +97,7 @@ begin_made log None grid g at set is starts good =
     let step : Step = record { command = command.Grid grid; reply = Done } in
     subst (λ l. IsAnswer l step (Some grid) (Some g)) (sym at) record {
       stands = refl;
-      told = record { made = ap (λ b. cond b Done (Refused BadParameters)) (sym good); restored = tt; calm = λ _ _. tt };
+      told = record { made = ap (λ b. cond b Done (Refused BadParameters)) (sym good); restored = tt; replies = λ _. tt };
       ends = refl;
       at = λ _. (refl, record { settings = set; sharing = sharing_of grid good; calm = λ _ _. came_first grid g is starts });
     }
@@ -109,7 +109,7 @@ begin_refused log None after grid fault at is bad =
     let step : Step = record { command = command.Grid grid; reply = Refused fault } in
     subst (λ l. IsAnswer l step after None) (sym at) record {
       stands = refl;
-      told = record { made = ap Refused is ∙ ap (λ b. cond b Done (Refused BadParameters)) (sym bad); restored = tt; calm = λ _ _. tt };
+      told = record { made = ap Refused is ∙ ap (λ b. cond b Done (Refused BadParameters)) (sym bad); restored = tt; replies = λ _. tt };
       ends = refl;
       at = λ h. absurd cc;
     }
@@ -126,7 +126,7 @@ restored log grid (Some old) image g at told set sound =
     let was : CameBy (record { command = command.Grid grid; reply = Done } ∷ []) old = subst (λ l. CameBy l old) at.0 at.1 in
     subst (λ l. IsAnswer l step None (Some g)) (sym at.0) record {
       stands = refl;
-      told = record { made = first.made; restored = record { done = λ _. sound; bad = λ place is. absurd cc }; calm = λ h _. absurd cc };
+      told = record { made = first.made; restored = record { done = λ _. sound; bad = λ place is. absurd cc }; replies = λ h. absurd cc };
       ends = refl;
       at = λ _. (omega arith, record { settings = set; sharing = was.sharing; calm = λ h _. absurd cc });
     }
@@ -139,7 +139,7 @@ restore_refused log grid (Some old) image reply at told refusal cause =
     let first : IsTold (record { command = command.Grid grid; reply = Done } ∷ []) = subst IsTold at.0 told in
     subst (λ l. IsAnswer l step None None) (sym at.0) record {
       stands = refl;
-      told = record { made = first.made; restored = cause; calm = λ h _. absurd cc };
+      told = record { made = first.made; restored = cause; replies = λ h. absurd cc };
       ends = refusal;
       at = λ h. absurd cc;
     }
