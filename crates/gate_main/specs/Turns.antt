@@ -1,10 +1,24 @@
 -- What turns do to a flow, a gateway and their streams.
-use Rattle.std.specs.Prelude.{ℕ, List, Option}
+use Rattle.std.specs.Prelude.{ℕ, ◌≤◌, List, length, Option}
+use Rattle.std.specs.Io.KnownBytes.{Consumes}
 use Rattle.gate_core.specs.Held.{State}
 use Rattle.gate_flow.specs.declared.fault.FlowFault.{FlowFault}
 use Rattle.gate_flow.specs.State.{FlowState}
 use Rattle.gate_flow.specs.Run.{HasRun, HasRunCalmly}
 use Rattle.gate_flow.specs.Served.{StopsAt}
+
+-- how many bytes are read of a connection, at most: 65,536 at a time, 1,048,576 times
+abbrev pub most_at_a_time : ℕ
+most_at_a_time = 65536
+
+abbrev pub most_read : ℕ
+most_read = 68719476736
+
+-- of the bytes that were to come, no more than so many were read
+pub record IsReadWithin (most : ℕ) (read left : Option (List ℕ)) : Type 0 where
+  pub bytes : List ℕ
+  pub taken : Consumes read left bytes
+  pub within : length bytes ≤ most
 
 -- a flow that ran calmly up to here runs so up to there, wherever it was opened
 abbrev pub RunsOn : FlowState → FlowState → State → State → Option (List ℕ) → Option (List ℕ) → Option (List ℕ) → Option (List ℕ) → Type 0

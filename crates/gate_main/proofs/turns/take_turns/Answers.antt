@@ -1,9 +1,11 @@
+use Rattle.std.proofs.Common.{◌*◌, ◌+◌, arith}
 use Rattle.std.proofs.lemmas.Result.{err_from_is_err_and}
-use Rattle.gate_main.proofs.Turning.{read_rests}
+use Rattle.gate_main.specs.Turns.{most_at_a_time, most_read}
+use Rattle.gate_main.proofs.Turning.{read_rests, none_read, read_on}
 use Rattle.gate_main.proofs.turns.take_turns.Goals as goal
 
 pub reads-init : goal.reads-init
-reads-init g c = record { runs = λ id secret first read before was. was; rests = c.requires.rests; quiet = c.requires.quiet }
+reads-init g c = record { runs = λ id secret first read before was. was; rests = c.requires.rests; quiet = c.requires.quiet; bounded = none_read 0 (g.R.Read.remaining c.args.reader.now) }
 
 pub returns-in_err-read_once-clause-err : goal.returns-in_err-read_once-clause-err
 returns-in_err-read_once-clause-err g c =
@@ -25,4 +27,13 @@ reads-preserved g c = record {
   runs = λ id secret first read before was. c.in_ok-settle.ensures.ok (g.R.Read.remaining c.read_once.new.reader) id secret first read before (c.flows_run.ensures.read id secret first c.reads.gateway c.reads.flow c.read_once.new.flow read (g.R.Read.remaining c.reads.reader) before (g.W.Write.contents c.reads.writer) (g.R.Read.remaining c.read_once.new.reader) (c.reads.invariant.runs id secret first read before was) c.in_ok-read_once.ensures.read);
   rests = c.in_ok-settle.ensures.rests;
   quiet = c.in_ok-settle.ensures.quiet;
+  bounded = read_on (65536 * c.reads.done) most_at_a_time (65536 * (c.reads.done + 1)) (g.R.Read.remaining c.args.reader.now) (g.R.Read.remaining c.reads.reader) (g.R.Read.remaining c.read_once.new.reader) (omega arith) c.reads.invariant.bounded c.in_ok-read_once.ensures.bounded;
 }
+
+pub returns-in_err-read_once-clause-bounded : goal.returns-in_err-read_once-clause-bounded
+returns-in_err-read_once-clause-bounded g c =
+    read_on (65536 * c.reads.done) most_at_a_time most_read (g.R.Read.remaining c.args.reader.now) (g.R.Read.remaining c.reads.reader) (g.R.Read.remaining c.read_once.new.reader) (omega (arith, c.reads-test.true)) c.reads.invariant.bounded c.in_err-read_once.ensures.bounded
+
+pub returns-in_err-settle-clause-bounded : goal.returns-in_err-settle-clause-bounded
+returns-in_err-settle-clause-bounded g c =
+    read_on (65536 * c.reads.done) most_at_a_time most_read (g.R.Read.remaining c.args.reader.now) (g.R.Read.remaining c.reads.reader) (g.R.Read.remaining c.read_once.new.reader) (omega (arith, c.reads-test.true)) c.reads.invariant.bounded c.in_ok-read_once.ensures.bounded
