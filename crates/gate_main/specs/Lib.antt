@@ -4,6 +4,7 @@ pub mod Lines
 pub mod Reading
 pub mod Script
 pub mod Stores
+pub mod Serving
 pub mod Replies
 pub mod Running
 pub mod Arguments

@@ -21,6 +21,8 @@ mod reply;
 mod script;
 /// Connections, served one after the other.
 mod serving;
+/// What a server begins with.
+mod setup;
 /// Base32.
 mod spelling;
 /// The status with which the program exits.
@@ -36,31 +38,20 @@ mod turns;
 
 pub use arguments::{Service, Task, read_task};
 pub use fault::{ProgramFault, ScriptFault, ServeFault};
-use gate_core::Gateway;
 use octets::Bytes;
 pub use script::run_script;
 pub use serving::serve_on;
+pub use setup::set_up;
 pub use status::exit_status;
 use std::io::{BufReader, BufWriter, ErrorKind};
 use std::net::{Net, TcpListener, TcpStream};
 use std::process::ExitCode;
 use std::rt::Env;
 use std::{env, io};
-use stores::make_stores;
 pub use turns::turns;
 
 /// How many bytes are read and written at a time.
 const BUFFER: usize = 65_536;
-
-/// How many stores a server has, and for how many bytes each has room.
-const STORES: u16 = 5;
-
-const ROOM: u64 = 1_073_741_824;
-
-/// Of how many shares that a server makes of a file how many give it back.
-const NEEDED: u16 = 3;
-
-const SHARES: u16 = 10;
 
 /// Does what the arguments ask for, tells the fault that ended it on standard error, and exits with its status.
 fn main(rt: HostRuntime) -> ExitCode {
@@ -76,7 +67,14 @@ fn run<
     R: Env + Input + Print + Eprint + AllocGlobal + Net<Listener = TcpListener, Stream = TcpStream>,
 >(rt: &R) -> Result<(), ProgramFault> {
     let words = read_words(rt)?;
-    match read_task(rt.alloc(), &words)? {
+    carry_out(rt, &words)
+}
+
+/// Does what words ask for.
+fn carry_out<
+    R: Input + Print + Eprint + AllocGlobal + Net<Listener = TcpListener, Stream = TcpStream>,
+>(rt: &R, words: &[Bytes]) -> Result<(), ProgramFault> {
+    match read_task(rt.alloc(), words)? {
         Some(Task::Replay) => replay(rt),
         Some(Task::Serve(service)) => serve(rt, &service),
         None => Err(ProgramFault::Usage),
@@ -114,14 +112,7 @@ fn serve<R: Eprint + AllocGlobal + Net<Listener = TcpListener, Stream = TcpStrea
     rt: &R,
     service: &Service,
 ) -> Result<(), ProgramFault> {
-    let stores = make_stores(rt.alloc(), STORES, ROOM)?;
-    let Ok(mut gateway) = Gateway::new(
-        rt.alloc(),
-        NEEDED,
-        SHARES,
-        stores,
-        service.secret.as_slice(),
-    ) else {
+    let Ok(mut gateway) = set_up(rt.alloc(), service.secret.as_slice()) else {
         return Err(ProgramFault::NoMemory);
     };
     let Ok(listener) = TcpListener::bind(rt, service.address) else {

@@ -7,7 +7,7 @@ use gate_flow::FlowFault;
 use octets::Bytes;
 use std::alloc::{AllocError, Global};
 use std::io::{Read, Write};
-use std::net::{Shutdown, TcpListener, TcpStream};
+use std::net::{Shutdown, SocketAddr, TcpListener, TcpStream};
 use std::test::Fail;
 
 fn words(alloc: Global, texts: &[&str]) -> Result<Vec<Bytes>, AllocError> {
@@ -131,6 +131,30 @@ fn outcomes_have_their_words_and_statuses(rt: HostRuntime) -> Result<(), AllocEr
     Ok(())
 }
 
+/// Words for which the program ends by itself, with the status. The second address is none of this machine (RFC 5737).
+const ENDED: &[(&[&str], u8)] = &[
+    (&[], 2),
+    (&["replay", "x"], 2),
+    (&["serve", "127.0.0.1:0", "0"], 2),
+    (&["serve", "192.0.2.1:80", "1"], 1),
+];
+
+#[test]
+fn wrong_words_and_addresses_have_their_statuses(rt: HostRuntime) -> Result<(), Fail> {
+    for (texts, status) in ENDED {
+        let outcome = carry_out(&rt, &words(rt.alloc(), texts)?);
+        assert_eq!(rt; exit_status(&outcome), *status, "at {texts:?}");
+    }
+    // A server that is to serve no connection has served all of them.
+    let service = Service {
+        address: SocketAddr::parse_ascii(b"127.0.0.1:0")?,
+        connections: 0,
+        secret: Bytes::from_slice(rt.alloc(), b"")?,
+    };
+    assert_eq!(rt; exit_status(&serve(&rt, &service)), 0);
+    Ok(())
+}
+
 fn gateway(alloc: Global) -> Result<MemGateway, Fail> {
     let stores = make_stores(alloc, 5, 1_000_000)?;
     let gateway = Gateway::new(alloc, 3, 10, stores, b"")?;
@@ -156,8 +180,8 @@ const REQUESTS: &[u8] =
 const REPLIES: &[u8] =
     b"HTTP/1.1 200 OK\r\nContent-Type: application/octet-stream\r\nContent-Length: 1\r\n\r\nfHTTP/1.1 200 OK\r\nContent-Type: application/octet-stream\r\nContent-Length: 0\r\n\r\n";
 
-/// Connections of one gateway, in this order: what they show, their ids, what is read, at most how many bytes at a time,
-/// whether the reader is interrupted before each time, the outcome, and what is written.
+/// Connections of one gateway, in this order: what they show, their ids, what is read, at most how many bytes at a
+/// time, whether the reader is interrupted before each time, the outcome, and what is written.
 type Turns = (
     &'static str,
     u64,
