@@ -1,6 +1,6 @@
 //! Flows over streams that give few bytes, block, are interrupted and fail, beside the same bytes brought in one piece.
 use super::*;
-use gate_core::Gateway;
+use gate_core::{Gateway, GatewayFault};
 use share_store::MemStore;
 use std::alloc::Global;
 use std::io::{self, ErrorKind, Read, Write};
@@ -137,12 +137,15 @@ const SENT: &[&[u8]] = &[
     b"",
 ];
 
-/// What the gateway says of bytes that come in one piece.
+/// What a gateway says of bytes that come in one piece.
+fn said_by(gateway: &mut Gateway<MemStore>, sent: &[u8]) -> Result<Vec<u8>, GatewayFault> {
+    gateway.open(1, None)?;
+    gateway.bytes(1, sent)?;
+    gateway.take(1, 100_000)
+}
+
 fn said(alloc: Global, sent: &[u8]) -> Result<Vec<u8>, Fail> {
-    let mut straight = gateway(alloc)?;
-    straight.open(1, None)?;
-    straight.bytes(1, sent)?;
-    Ok(straight.take(1, 100_000)?)
+    Ok(said_by(&mut gateway(alloc)?, sent)?)
 }
 
 /// How many bytes a stream gives and takes at a time.
@@ -185,25 +188,56 @@ fn flows_give_what_the_gateway_says(rt: HostRuntime) -> Result<(), Fail> {
     Ok(())
 }
 
-/// What two flows in turn are given that send the same bytes, the second one byte at a time.
-fn in_turn(alloc: Global, sent: &[u8], at_a_time: usize) -> Result<(Vec<u8>, Vec<u8>), Fail> {
-    let mut many = gateway(alloc)?;
-    let mut first = Flow::open(alloc, &mut many, 7, None)?;
-    let mut second = Flow::open(alloc, &mut many, 9, Some(b"own"))?;
-    let mut one = Stream::new(alloc, sent, at_a_time, None, u32::MAX);
-    let mut other = Stream::new(alloc, sent, 1, Some(ErrorKind::WouldBlock), u32::MAX);
+/// A flow and its stream.
+#[derive(Drop)]
+struct Side<'a> {
+    flow: Flow,
+    stream: Stream<'a>,
+}
+
+/// Calls two flows in turn until neither wants anything, or a fault.
+fn take_turns(
+    first: &mut Side<'_>,
+    second: &mut Side<'_>,
+    gateway: &mut Gateway<MemStore>,
+) -> Result<(), FlowFault> {
     for _ in 0..100_000u32 {
-        let a = call(&mut first, &mut one, &mut many)?;
-        let b = call(&mut second, &mut other, &mut many)?;
+        let a = call(&mut first.flow, &mut first.stream, gateway)?;
+        let b = call(&mut second.flow, &mut second.stream, gateway)?;
         if !a && !b {
             break;
         }
     }
-    if first.has_ended() && second.has_ended() && first.id() == 7 && second.id() == 9 {
-        Ok((one.took, other.took))
-    } else {
-        Err(Fail::from("not ended"))
-    }
+    Ok(())
+}
+
+/// Whether a flow with this id has ended, and these bytes were written.
+fn is_done(side: &Side<'_>, id: u64, wanted: &[u8]) -> bool {
+    side.flow.has_ended() && side.flow.id() == id && side.stream.took.as_slice() == wanted
+}
+
+/// Whether two flows in turn that send the same bytes, the second one byte at a time, are given what is wanted.
+fn are_given_by(
+    alloc: Global,
+    gateway: &mut Gateway<MemStore>,
+    sent: &[u8],
+    wanted: &[u8],
+    at_a_time: usize,
+) -> Result<bool, FlowFault> {
+    let mut first = Side {
+        flow: Flow::open(alloc, gateway, 7, None)?,
+        stream: Stream::new(alloc, sent, at_a_time, None, u32::MAX),
+    };
+    let mut second = Side {
+        flow: Flow::open(alloc, gateway, 9, Some(b"own"))?,
+        stream: Stream::new(alloc, sent, 1, Some(ErrorKind::WouldBlock), u32::MAX),
+    };
+    take_turns(&mut first, &mut second, gateway)?;
+    Ok(is_done(&first, 7, wanted) && is_done(&second, 9, wanted))
+}
+
+fn are_given(alloc: Global, sent: &[u8], wanted: &[u8], at_a_time: usize) -> Result<bool, Fail> {
+    Ok(are_given_by(alloc, &mut gateway(alloc)?, sent, wanted, at_a_time)?)
 }
 
 #[test]
@@ -212,8 +246,10 @@ fn flows_in_turn_do_not_meet(rt: HostRuntime) -> Result<(), Fail> {
     let sent = SENT[0];
     let wanted = said(alloc, sent)?;
     for at_a_time in AT_A_TIME {
-        let (one, other) = in_turn(alloc, sent, *at_a_time)?;
-        assert!(rt; one == wanted && other == wanted, "{at_a_time} at a time");
+        assert!(rt;
+            are_given(alloc, sent, &wanted, *at_a_time)?,
+            "{at_a_time} at a time"
+        );
     }
     Ok(())
 }
@@ -239,32 +275,38 @@ fn flows_stop_where_a_stream_fails(rt: HostRuntime) -> Result<(), Fail> {
     Ok(())
 }
 
-/// Ids that are opened one after the other, how many bytes their secrets have, and whether that is refused.
-const OPENED: &[(u64, Option<usize>, bool)] = &[
-    (1, None, false),
-    (1, None, true),
-    (2, Some(257), true),
-    (2, Some(256), false),
-    (3, Some(0), false),
+/// Ids that are opened one after the other, how many bytes their secrets have, and why that is refused.
+const OPENED: &[(u64, Option<usize>, Option<FlowFault>)] = &[
+    (1, None, None),
+    (1, None, Some(FlowFault::Refused)),
+    (2, Some(257), Some(FlowFault::Refused)),
+    (2, Some(256), None),
+    (3, Some(0), None),
 ];
+
+const LETTERS: &[u8] = &[b's'; 257];
+
+/// The first row of these that is answered otherwise than it says.
+fn wrong_row_of(alloc: Global, gateway: &mut Gateway<MemStore>) -> Option<usize> {
+    for (row, (id, length, fault)) in OPENED.iter().enumerate() {
+        let secret = match length {
+            Some(length) => LETTERS.get(..*length),
+            None => None,
+        };
+        if Flow::open(alloc, gateway, *id, secret).err() != *fault {
+            return Some(row);
+        }
+    }
+    None
+}
+
+fn wrong_row(alloc: Global) -> Result<Option<usize>, Fail> {
+    Ok(wrong_row_of(alloc, &mut gateway(alloc)?))
+}
 
 #[test]
 fn ids_are_opened_once_and_secrets_are_short(rt: HostRuntime) -> Result<(), Fail> {
-    let alloc = rt.alloc();
-    let mut one = gateway(alloc)?;
-    for (id, length, refused) in OPENED {
-        let secret = vec![in alloc; b's'; length.unwrap_or(0)]?;
-        let opened = match length {
-            Some(_) => Flow::open(alloc, &mut one, *id, Some(&secret)),
-            None => Flow::open(alloc, &mut one, *id, None),
-        };
-        let fault = if *refused {
-            Some(FlowFault::Refused)
-        } else {
-            None
-        };
-        assert!(rt; opened.err() == fault, "{id} with {length:?}");
-    }
+    assert_eq!(rt; wrong_row(rt.alloc())?, None);
     Ok(())
 }
 
