@@ -51,7 +51,13 @@ pub trait Shelf {
             (failures self.old < failures self.new) }
         ensures found { IsTrue (honest self.old) →
             (m : Shares) → Keeps moment left_since self.old m →
-            IfOk result (λ bytes. option_map rc_slice_items bytes ≡ map.get m (index, number)) };
+            IfOk result (λ bytes. option_map rc_slice_items bytes ≡ map.get m (index, number)) }
+
+        // Where a change failed before, what is read may be what stood before it or what stands after it.
+        ensures given { IsTrue (honest self.old) →
+            IfOk result (λ bytes. (c : Shares) × left_since self.old (moment self.old) c
+            × (option_map rc_slice_items bytes ≡ map.get c (index, number))) }
+        ensures same_shares { IsTrue (honest self.old) → shares self.new ≡ shares self.old };
 
     /// Puts a share, in the place of one that stands there. After `Ok` a crash leaves it; where it failed, a crash
     /// leaves the share or what stood before; where there was no memory nothing was begun.
@@ -70,7 +76,9 @@ pub trait Shelf {
         ensures crash { IsTrue (honest self.old) →
             (m : Shares) → Keeps moment left_since self.old m →
             LeavesOnly moment left_since self.old self.new
-            (IsEither m (map.insert m (index, number) (rc_slice_items bytes))) };
+            (IsEither m (map.insert m (index, number) (rc_slice_items bytes))) }
+        ensures stands { IsTrue (honest self.old) →
+            left_since self.new (moment self.new) (shares self.new) };
 
     /// Takes the share away that stands there, if one does. What a crash leaves is as for a put.
     fn remove(&mut self, index: [u8; 16], number: u16) -> Result<(), ShelfFault>
@@ -86,7 +94,9 @@ pub trait Shelf {
         ensures crash { IsTrue (honest self.old) →
             (m : Shares) → Keeps moment left_since self.old m →
             LeavesOnly moment left_since self.old self.new
-            (IsEither m (map.remove m (index, number))) };
+            (IsEither m (map.remove m (index, number))) }
+        ensures stands { IsTrue (honest self.old) →
+            left_since self.new (moment self.new) (shares self.new) };
 
     /// What a later crash might have left, one from an earlier moment on might have.
     ghost narrows: { (shelf : Self) (t u : ℕ) (c : Shares) → t ≤ u →
