@@ -14,6 +14,8 @@ pub(crate) enum Command {
     Turns(u32),
     /// What a refused allocation leaves, after so many allocations that serve nothing.
     Refusal(u32),
+    /// Each call that takes memory, and once more where memory is refused.
+    Again,
 }
 
 #[derive(Debug, Drop)]
@@ -37,7 +39,7 @@ impl fmt::Display for ArgumentFault {
             ),
             ArgumentFault::TooMany => write!(
                 f,
-                "TooMany: usage: gate_bench [TURNS | refusal BEFORE]"
+                "TooMany: usage: gate_bench [TURNS | refusal BEFORE | again]"
             ),
             ArgumentFault::Unreadable => write!(f, "Unreadable: an argument is no text"),
             ArgumentFault::NoMemory => write!(f, "out of memory"),
@@ -77,6 +79,7 @@ pub(crate) fn asked(rt: &(impl Env + AllocGlobal)) -> Result<Command, ArgumentFa
             Ok(before) => Ok(Command::Refusal(before)),
             Err(_) => Err(ArgumentFault::NotACount),
         },
+        ("again", None) => Ok(Command::Again),
         (turns, None) => match turns.parse::<u32>() {
             Ok(turns) if turns > 0 => Ok(Command::Turns(turns)),
             _ => Err(ArgumentFault::NotACount),

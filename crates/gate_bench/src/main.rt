@@ -5,9 +5,11 @@
 //! the hashing in the put and in the first get alone; `gather_10` and `gather_100000`, a
 //! thousand gatherings of a file's ten shares, from a grid of ten shares and from one of a hundred thousand.
 //! `gate_bench refusal BEFORE` makes so many allocations, serves three small requests and looks at what a refused
-//! allocation leaves. Without an argument it prints nothing.
+//! allocation leaves; `gate_bench again` makes each call that takes memory, and once more where memory is refused. Without
+//! an argument it prints nothing.
 #![tactic(auto)]
 
+mod again;
 mod arguments;
 mod cipher;
 mod code;
@@ -28,7 +30,10 @@ const BODY: usize = 4_194_304;
 fn main(rt: HostRuntime) -> ExitCode {
     let result = match asked(&rt) {
         Ok(Command::Nothing) => return ExitCode::SUCCESS,
-        Ok(Command::Refusal(before)) => return look_at_refusal(&rt, before),
+        Ok(Command::Refusal(before)) => {
+            return tell(&rt, refusal::serve_three(rt.alloc(), before));
+        }
+        Ok(Command::Again) => return tell(&rt, again::make_each(rt.alloc())),
         Ok(Command::Turns(turns)) => bench(&rt, turns),
         Err(fault) => {
             let _ = eprintln!(rt; "gate_bench: {fault}");
@@ -44,9 +49,9 @@ fn main(rt: HostRuntime) -> ExitCode {
     }
 }
 
-/// Prints what came of the three connections. Status 0, or 1 where something is wrong.
-fn look_at_refusal(rt: &(impl Print + AllocGlobal), before: u32) -> ExitCode {
-    let (words, status) = match refusal::serve_three(rt.alloc(), before) {
+/// Prints what a run came to in which memory may be refused. Status 0, or 1 where something is wrong.
+fn tell(rt: &impl Print, outcome: Outcome) -> ExitCode {
+    let (words, status) = match outcome {
         Outcome::Served => ("served", 0),
         Outcome::Cut => ("cut", 0),
         Outcome::Refused => ("refused", 0),
