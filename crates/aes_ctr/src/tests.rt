@@ -4,25 +4,15 @@ use crate::Key;
 use crate::rounds::encrypted;
 use crate::schedule::{expanded, key_planes};
 use crate::transposition::{blocks_of, planes_of};
-use std::alloc::Global;
+use hex::FromHex;
 use std::process::Abort;
 use std::simd::prelude::*;
 use std::test::Fail;
 
-/// The 16 bytes of a text in hex.
-fn sixteen(alloc: Global, text: &str) -> Result<[u8; 16], Fail> {
-    let bytes = hex::decode(alloc, text)?;
-    let (blocks, _) = bytes.as_slice().as_chunks::<16>();
-    blocks
-        .first()
-        .copied()
-        .ok_or("16 bytes were wanted")
-        .map_err(Fail::from)
-}
-
-/// A key, an offset that is a multiple of 16 or not, bytes, and what `openssl enc -aes-128-ctr` made of them. The last
-/// one ends where the offsets do.
-const OPENSSL: [(&str, u64, &str, &str); 10] = [
+/// A key, an offset that is a multiple of 16 or not, bytes, and what `openssl enc -aes-128-ctr` made of them. The tenth
+/// one ends where the offsets do. In those after it more than the lowest byte of a counter changes: blocks 255, 256 and
+/// 257, 65535 and 65536, and those where the third byte, the fourth and the sixth begin to change.
+const OPENSSL: [(&str, u64, &str, &str); 19] = [
     ("e6acc2691ab2452ebc0a3cf47a489703", 0, "47", "88"),
     (
         "bab34b0975dde57ec8c694972afc89b4",
@@ -78,11 +68,6 @@ const OPENSSL: [(&str, u64, &str, &str); 10] = [
         "b286227bc7ff1b050bf4b976c928f0a169e032cd2d365edaca4a99479294bb5addbdae8c6d7baa",
         "1dfe3de099f336c566d1f3c5795c52a234af8604e4e3e50016a75c80cb77d5eb66defefdb49b14",
     ),
-];
-
-/// The same where more than the lowest byte of a counter changes: blocks 255, 256 and 257, 65535 and 65536, and those where
-/// the third byte, the fourth and the sixth begin to change.
-const CARRIES: [(&str, u64, &str, &str); 9] = [
     (
         "c8b7061a7a6d55b7bf8857da1dd4cef0",
         4080,
@@ -147,14 +132,6 @@ fn openssl_makes_the_same_bytes(rt: HostRuntime) -> Result<(), Fail> {
     Ok(())
 }
 
-#[test]
-fn openssl_makes_the_same_bytes_where_counters_carry(rt: HostRuntime) -> Result<(), Fail> {
-    for (key, offset, bytes, want) in CARRIES {
-        same_bytes(&rt, key, offset, bytes, want)?;
-    }
-    Ok(())
-}
-
 /// Applies a key at an offset, and compares.
 fn same_bytes(
     rt: &(impl Abort + AllocGlobal),
@@ -163,14 +140,12 @@ fn same_bytes(
     bytes: &str,
     want: &str,
 ) -> Result<(), Fail> {
+    let key = <[u8; 16] as FromHex>::from_hex(key)?;
     let mut got = hex::decode(rt.alloc(), bytes)?;
     assert!(rt; u64::MAX - offset >= got.len() as u64);
-    Key::new(sixteen(rt.alloc(), key)?).apply(offset, &mut got);
-    assert_eq!(rt;
-        got.as_slice(),
-        hex::decode(rt.alloc(), want)?.as_slice(),
-        "at {offset}"
-    );
+    Key::new(key).apply(offset, &mut got);
+    let got = hex::encode(rt.alloc(), got.as_slice())?;
+    assert_eq!(rt; got.as_str(), want, "at {offset}");
     Ok(())
 }
 
@@ -178,82 +153,79 @@ fn same_bytes(
 const OF_ZEROS: &str =
     "66e94bd4ef8a2c3b884cfa59ca342b2e58e2fccefa7e3061367f1d57a4e7455a0388dace60b6a392f328c2b971b2fe78";
 
+/// Where bytes of it begin and end.
+const RANGES: [(usize, usize); 5] = [(0, 48), (17, 21), (31, 33), (16, 48), (47, 48)];
+
 #[test]
 fn the_keystream_goes_on_at_any_offset(rt: HostRuntime) -> Result<(), Fail> {
     let key = Key::new([0; 16]);
-    let want = hex::decode(rt.alloc(), OF_ZEROS)?;
-    assert_eq!(rt; want.len(), 48);
-    for (from, to) in [(0, 48), (17, 21), (31, 33), (16, 48), (47, 48)] {
-        let mut got = vec![in rt.alloc(); 0u8; to - from]?;
-        key.apply(from as u64, &mut got);
-        assert_eq!(rt; got.as_slice(), &want[from..to], "from {from}");
+    let want = <[u8; 48] as FromHex>::from_hex(OF_ZEROS)?;
+    for (from, to) in RANGES {
+        let mut got = [0; 48];
+        key.apply(from as u64, &mut got[from..to]);
+        assert_eq!(rt; &got[from..to], &want[from..to], "from {from}");
     }
     Ok(())
 }
 
-/// The encryption of a block.
-fn encryption(key: [u8; 16], block: [u8; 16]) -> [u8; 16] {
-    let keys = key_planes(&expanded(key));
-    let blocks = blocks_of(encrypted(&keys, planes_of(u8x16::from_array(block))));
-    blocks[7].to_array()
-}
-
-/// FIPS 197, appendices B and C.1: a key, a block and its encryption.
-const EXAMPLES: [(&str, &str, &str); 2] = [
+/// A key, a block, bytes, and what they become with the block's encryption: FIPS 197, appendices B and C.1, where the
+/// bytes are zeros, and SP 800-38A, appendix F.5.1, where the blocks are counters.
+const EXAMPLES: [(&str, &str, &str, &str); 6] = [
     (
         "2b7e151628aed2a6abf7158809cf4f3c",
         "3243f6a8885a308d313198a2e0370734",
+        "00000000000000000000000000000000",
         "3925841d02dc09fbdc118597196a0b32",
     ),
     (
         "000102030405060708090a0b0c0d0e0f",
         "00112233445566778899aabbccddeeff",
+        "00000000000000000000000000000000",
         "69c4e0d86a7b0430d8cdb78070b4c55a",
     ),
-];
-
-#[test]
-fn the_examples_of_the_standard_are_encrypted(rt: HostRuntime) -> Result<(), Fail> {
-    for (key, block, want) in EXAMPLES {
-        let got = encryption(sixteen(rt.alloc(), key)?, sixteen(rt.alloc(), block)?);
-        assert_eq!(rt; got, sixteen(rt.alloc(), want)?);
-    }
-    Ok(())
-}
-
-/// SP 800-38A, appendix F.5.1: counter blocks, plaintext blocks and ciphertext blocks.
-const COUNTER_MODE: [(&str, &str, &str); 4] = [
     (
+        "2b7e151628aed2a6abf7158809cf4f3c",
         "f0f1f2f3f4f5f6f7f8f9fafbfcfdfeff",
         "6bc1bee22e409f96e93d7e117393172a",
         "874d6191b620e3261bef6864990db6ce",
     ),
     (
+        "2b7e151628aed2a6abf7158809cf4f3c",
         "f0f1f2f3f4f5f6f7f8f9fafbfcfdff00",
         "ae2d8a571e03ac9c9eb76fac45af8e51",
         "9806f66b7970fdff8617187bb9fffdff",
     ),
     (
+        "2b7e151628aed2a6abf7158809cf4f3c",
         "f0f1f2f3f4f5f6f7f8f9fafbfcfdff01",
         "30c81c46a35ce411e5fbc1191a0a52ef",
         "5ae4df3edbd5d35e5b4f09020db03eab",
     ),
     (
+        "2b7e151628aed2a6abf7158809cf4f3c",
         "f0f1f2f3f4f5f6f7f8f9fafbfcfdff02",
         "f69f2445df4f9b17ad2b417be66c3710",
         "1e031dda2fbe03d1792170a0f3009cee",
     ),
 ];
 
+/// The bytes with the block's encryption.
+fn encryption(key: [u8; 16], block: [u8; 16], bytes: [u8; 16]) -> [u8; 16] {
+    let keys = key_planes(&expanded(key));
+    let blocks = blocks_of(encrypted(&keys, planes_of(u8x16::from_array(block))));
+    (blocks[7] ^ u8x16::from_array(bytes)).to_array()
+}
+
+/// The 16 bytes that a text in hex is.
+fn sixteen(text: &str) -> Result<[u8; 16], Fail> {
+    Ok(<[u8; 16] as FromHex>::from_hex(text)?)
+}
+
 #[test]
-fn the_counter_mode_example_is_encrypted(rt: HostRuntime) -> Result<(), Fail> {
-    let key = sixteen(rt.alloc(), "2b7e151628aed2a6abf7158809cf4f3c")?;
-    for (counter, plaintext, want) in COUNTER_MODE {
-        let mut got = encryption(key, sixteen(rt.alloc(), counter)?);
-        for (x, y) in got.iter_mut().zip(sixteen(rt.alloc(), plaintext)?.iter()) {
-            *x ^= *y;
-        }
-        assert_eq!(rt; got, sixteen(rt.alloc(), want)?);
+fn the_examples_of_the_standards_are_encrypted(rt: HostRuntime) -> Result<(), Fail> {
+    for (key, block, bytes, want) in EXAMPLES {
+        let got = encryption(sixteen(key)?, sixteen(block)?, sixteen(bytes)?);
+        assert_eq!(rt; got, sixteen(want)?, "{want}");
     }
     Ok(())
 }

@@ -2,6 +2,7 @@
 use super::{Tree, chain, check, height, root};
 use sha2::{Digest, Sha256};
 use std::alloc::{AllocError, Global};
+use std::process::Abort;
 use std::test::Fail;
 use tag_hash::tagged;
 
@@ -15,12 +16,13 @@ fn leaves(alloc: Global, count: usize) -> Result<Vec<[u8; 32]>, AllocError> {
     Ok(leaves)
 }
 
-fn joined(alloc: Global, hashes: &[[u8; 32]]) -> Result<Vec<u8>, AllocError> {
+/// The hashes in hex, one after another.
+fn in_hex(alloc: Global, hashes: &[[u8; 32]]) -> Result<String, AllocError> {
     let mut bytes = Vec::new(alloc);
     for hash in hashes {
         bytes.extend_from_slice(hash.as_slice())?;
     }
-    Ok(bytes)
+    hex::encode(alloc, bytes.as_slice())
 }
 
 /// How many leaves, their root, a place among them, and the chain of siblings from there, as a program over Python's
@@ -76,42 +78,54 @@ const TREES: [(usize, &str, usize, &str); 8] = [
     ),
 ];
 
+/// Whether the chain leads from the leaf at its place to the root, and from no other leaf or place.
+fn leads_to(root: &[u8; 32], place: usize, leaf: &[u8; 32], chain: &[[u8; 32]]) -> bool {
+    check(root, place, leaf, chain)
+        && !check(root, place.wrapping_add(256), leaf, chain)
+        && !check(root, place, &[0; 32], chain)
+        && (chain.is_empty() || !check(root, place ^ 1, leaf, chain))
+}
+
+/// The root and a chain, as they are made of the leaves.
+fn check_made(
+    rt: &impl Abort,
+    alloc: Global,
+    leaves: &[[u8; 32]],
+    place: usize,
+    (top, beside): (&str, &str),
+) -> Result<(), Fail> {
+    assert!(rt; place < leaves.len());
+    let found = root(leaves);
+    let hashes = chain(alloc, leaves, place)?;
+    assert_eq!(rt; hex::encode(alloc, found)?.as_str(), top);
+    assert_eq!(rt; in_hex(alloc, &hashes)?.as_str(), beside);
+    assert_eq!(rt; height(leaves.len()), hashes.len());
+    assert!(rt; leads_to(&found, place, &leaves[place], &hashes));
+    Ok(())
+}
+
+/// The same of a tree that is kept.
+fn check_kept(
+    rt: &impl Abort,
+    alloc: Global,
+    leaves: Vec<[u8; 32]>,
+    place: usize,
+    (top, beside): (&str, &str),
+) -> Result<(), Fail> {
+    assert!(rt; place < leaves.len());
+    let tree = Tree::new(leaves)?;
+    assert_eq!(rt; hex::encode(alloc, tree.root())?.as_str(), top);
+    let hashes = tree.chain(place)?;
+    assert_eq!(rt; in_hex(alloc, &hashes)?.as_str(), beside);
+    Ok(())
+}
+
 #[test]
 fn trees_are_those_of_another_program(rt: HostRuntime) -> Result<(), Fail> {
     for (count, top, place, beside) in TREES {
-        let top = hex::decode(rt.alloc(), top)?;
-        let beside = hex::decode(rt.alloc(), beside)?;
         let leaves = leaves(rt.alloc(), count)?;
-        assert!(rt; place < leaves.len());
-        let found = root(leaves.as_slice());
-        assert_eq!(rt; found.as_slice(), top.as_slice(), "the root of {count}");
-        let hashes = chain(rt.alloc(), leaves.as_slice(), place)?;
-        assert_eq!(rt; height(count), hashes.len());
-        let bytes = joined(rt.alloc(), hashes.as_slice())?;
-        assert_eq!(rt;
-            bytes.as_slice(),
-            beside.as_slice(),
-            "the chain of {place} among {count}"
-        );
-        assert!(rt; check(&found, place, &leaves[place], hashes.as_slice()));
-        assert!(rt; !check(&found, place + 256, &leaves[place], hashes.as_slice()));
-        assert!(rt; !check(&found, place, &[0; 32], hashes.as_slice()));
-        if !hashes.is_empty() {
-            assert!(rt; !check(&found, place ^ 1, &leaves[place], hashes.as_slice()));
-        }
-        let tree = Tree::new(leaves)?;
-        assert_eq!(rt;
-            tree.root().as_slice(),
-            top.as_slice(),
-            "the kept root of {count}"
-        );
-        let hashes = tree.chain(place)?;
-        let bytes = joined(rt.alloc(), hashes.as_slice())?;
-        assert_eq!(rt;
-            bytes.as_slice(),
-            beside.as_slice(),
-            "the kept chain of {place} among {count}"
-        );
+        check_made(&rt, rt.alloc(), &leaves, place, (top, beside))?;
+        check_kept(&rt, rt.alloc(), leaves, place, (top, beside))?;
     }
     Ok(())
 }
@@ -122,26 +136,28 @@ fn three_leaves_are_padded_to_four(rt: HostRuntime) -> Result<(), Fail> {
     assert!(rt; 0 < leaves.len());
     let three = root(leaves.as_slice());
     leaves.push(tagged(b"webgate_tree_empty_leaf_v1", b"3"))?;
-    let four = root(leaves.as_slice());
-    assert_eq!(rt; three.as_slice(), four.as_slice());
+    assert_eq!(rt; three, root(leaves.as_slice()));
     Ok(())
 }
 
+/// How many leaves there are, and how high their tree is.
+const HEIGHTS: [(usize, usize); 11] = [
+    (0, 0),
+    (1, 0),
+    (2, 1),
+    (3, 2),
+    (4, 2),
+    (5, 3),
+    (10, 4),
+    (255, 8),
+    (256, 8),
+    (257, 9),
+    (usize::MAX, 64),
+];
+
 #[test]
 fn a_tree_is_as_high_as_its_leaves_need(rt: HostRuntime) {
-    for (count, levels) in [
-        (0, 0),
-        (1, 0),
-        (2, 1),
-        (3, 2),
-        (4, 2),
-        (5, 3),
-        (10, 4),
-        (255, 8),
-        (256, 8),
-        (257, 9),
-        (usize::MAX, 64),
-    ] {
+    for (count, levels) in HEIGHTS {
         assert_eq!(rt; height(count), levels, "{count}");
     }
 }
