@@ -15,8 +15,6 @@ mod alphabet;
 mod waiting;
 /// What holds of base32, whatever the bytes and the text.
 pub mod laws;
-#[cfg(test)]
-mod tests;
 
 pub use decoder::decode;
 pub use encoder::{encode, push_encoded};

@@ -26,8 +26,6 @@ mod index;
 mod weakening;
 /// What holds of caps and their texts.
 pub mod laws;
-#[cfg(test)]
-mod tests;
 
 pub use cap::{Cap, VerifyCap};
 pub use fault::CapFault;

@@ -40,8 +40,6 @@ mod health;
 mod fault;
 /// Laws of the definitions.
 pub mod laws;
-#[cfg(test)]
-mod tests;
 
 pub use cache::Cache;
 pub use checker::check;

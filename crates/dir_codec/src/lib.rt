@@ -21,8 +21,6 @@ mod metadata;
 
 /// What holds of directory texts.
 pub mod laws;
-#[cfg(test)]
-mod tests;
 
 pub use child::from_children_json;
 pub use decoder::decode;

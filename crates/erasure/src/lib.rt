@@ -20,8 +20,6 @@ mod lanes;
 mod fault;
 /// What holds of the definitions.
 pub mod laws;
-#[cfg(test)]
-mod tests;
 
 pub use code::Code;
 pub use fault::CodeFault;

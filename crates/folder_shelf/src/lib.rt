@@ -28,8 +28,6 @@ mod listing;
 mod folder_shelf;
 /// What holds of names and texts of files, whatever they are of.
 pub mod laws;
-#[cfg(test)]
-mod tests;
 
 pub use fault::FolderFault;
 pub use file_text::{seal_of, unsealed};

@@ -33,5 +33,3 @@ pub use fault::{GatewayFault, RestoreFault};
 pub use gateway::Gateway;
 pub use tally::Tally;
 
-#[cfg(test)]
-mod tests;

@@ -18,12 +18,8 @@ mod image_reader;
 mod image_fields;
 // The two layouts of an image.
 mod image_layout;
-#[cfg(test)]
-mod image_tests;
 // Laws of spoiling, of what is gathered, and of images.
 pub mod laws;
-#[cfg(test)]
-mod tests;
 
 pub use fault::GridFault;
 pub use server_grid::Grid;

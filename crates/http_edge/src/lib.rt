@@ -39,5 +39,3 @@ pub use reply::{Reply, Status, continue_text, render, render_head_into, render_i
 pub use reply_field::{ReplyField, ReplyFields};
 pub use verdict::{Awaited, Chunked};
 
-#[cfg(test)]
-mod tests;

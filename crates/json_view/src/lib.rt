@@ -11,8 +11,6 @@ mod text;
 
 /// What holds of the replies.
 pub mod laws;
-#[cfg(test)]
-mod tests;
 
 pub use node::{dir_json, file_json};
 pub use report::{check_json, literal_check_json};

@@ -20,5 +20,3 @@ pub use heights::height;
 pub use kept::Tree;
 pub use trees::root;
 
-#[cfg(test)]
-mod tests;

@@ -20,8 +20,6 @@ mod fault;
 pub mod laws;
 /// Bytes, and readers and writers that fail, for tests.
 pub mod fakes;
-#[cfg(test)]
-mod tests;
 
 pub use bytes::Bytes;
 pub use cut::split_at_byte;

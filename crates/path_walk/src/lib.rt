@@ -16,10 +16,6 @@ mod path;
 mod walker;
 /// What paths say, computed on small texts, and what holds of walks.
 pub mod laws;
-#[cfg(test)]
-mod tests;
-#[cfg(test)]
-mod walk_tests;
 
 pub use fault::{PathFault, WalkFault};
 pub use name_list::Names;

@@ -11,7 +11,5 @@ mod value;
 mod number;
 /// What values come to, on small texts.
 pub mod laws;
-#[cfg(test)]
-mod tests;
 
 pub use range::{Resolved, resolve};

@@ -13,8 +13,6 @@ mod fault;
 mod mem_shelf;
 // A shelf that fails at a call.
 mod fail_shelf;
-#[cfg(test)]
-mod tests;
 
 pub use fail_shelf::FailShelf;
 pub use fault::ShelfFault;

@@ -9,9 +9,6 @@ use crate::four::sha256_four;
 use crate::hashes::tagged;
 use std::alloc::{AllocError, Global};
 
-#[cfg(test)]
-mod tests;
-
 /// The tagged hashes of four values, in their order.
 ///
 /// They are hashed side by side where the tag has at most 60 bytes, each value is below 2^58 bytes, and the longest is at

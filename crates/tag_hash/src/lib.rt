@@ -20,9 +20,6 @@ mod lanes;
 mod batch;
 /// What holds of the definitions.
 pub mod laws;
-/// Values that another program made.
-#[cfg(test)]
-mod tests;
 
 pub use batch::{tagged_all, tagged_four};
 pub use decimals::Decimal;

@@ -25,8 +25,6 @@ mod node;
 mod checking;
 /// What holds of the answers.
 pub mod laws;
-#[cfg(test)]
-mod tests;
 
 pub use body::Body;
 pub use part::Part;

@@ -21,8 +21,6 @@ mod range;
 mod interpreter;
 /// What holds of requests.
 pub mod laws;
-#[cfg(test)]
-mod tests;
 
 pub use fault::WebFault;
 pub use head::{Field, Fields, Head};

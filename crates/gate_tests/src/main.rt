@@ -1,0 +1,10 @@
+//! Tests of the gateway, over its public calls. The gate proves a crate with tests twice, with them and without,
+//! so they stand in a crate of their own. The program itself does nothing.
+#![tactic(auto)]
+
+/// Gateways.
+#[cfg(test)]
+mod gateways;
+
+/// Nothing: the tests are all that this crate has.
+fn main() {}
