@@ -32,4 +32,3 @@ pub mod laws;
 pub use fault::{GatewayFault, RestoreFault};
 pub use gateway::Gateway;
 pub use tally::Tally;
-

@@ -38,4 +38,3 @@ pub use place::Place;
 pub use reply::{Reply, Status, continue_text, render, render_head_into, render_into};
 pub use reply_field::{ReplyField, ReplyFields};
 pub use verdict::{Awaited, Chunked};
-

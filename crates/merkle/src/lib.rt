@@ -19,4 +19,3 @@ pub use chains::{chain, check};
 pub use heights::height;
 pub use kept::Tree;
 pub use trees::root;
-
