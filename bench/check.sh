@@ -1,5 +1,6 @@
 #!/usr/bin/env bash
-# What a change of these crates asks for: their proofs, tests and edits, and the proofs of the crates above them.
+# What a change of these crates asks for: their proofs, tests and edits, and the proofs of the crates above them. Those whose
+# names end in _tests have the tests of crates below them, so these are run too.
 # usage: bench/check.sh NAME..
 set -euo pipefail
 cd "$(dirname "${BASH_SOURCE[0]}")/.."
@@ -36,12 +37,19 @@ timed() {
 }
 log=$(mktemp)
 trap 'rm -f "$log"' EXIT
+has_tests() {
+    grep -rq '#\[test\]' "crates/$1/src"
+}
 for name in "$@"; do
-    (cd "crates/$name" && timed rt check && timed rt test)
+    (cd "crates/$name" && timed rt check)
+    if has_tests "$name"; then (cd "crates/$name" && timed rt test); fi
 done
 for name in $above; do
     case " $* " in
-    *" $name "*) ;;
+    *" $name "*) continue ;;
+    esac
+    case $name in
+    *_tests) (cd "crates/$name" && timed rt test) ;;
     *) (cd "crates/$name" && timed rt check) ;;
     esac
 done
