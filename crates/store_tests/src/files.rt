@@ -3,7 +3,7 @@
 /// Downloads.
 mod downloads;
 
-use caps::{Cap, ReadFields, print, storage_index, weaken};
+use caps::{Cap, ReadFields, parse, print, storage_index, weaken};
 use chk_file::{Cache, Health, ReadFault, check, read, upload};
 use grid::{Grid, GridFault};
 use octets::fakes::counted_bytes;
@@ -248,6 +248,28 @@ fn a_check_tells_what_stands_and_what_is_good(rt: HostRuntime) -> Result<(), Fai
     let judged = health(alloc, &mut grid, &fields, true)?;
     assert_eq!(rt; (judged.needed, judged.expected, judged.good), (3, 10, 7));
     assert_eq!(rt; judged.corrupt.as_slice(), TWO_CORRUPT.as_slice());
+    Ok(())
+}
+
+/// A cap of an extension block that was changed, as another program makes it: the first bytes of the crypttext root in it and of
+/// the one segment hash have another lowest bit, so the share is good, and its bytes aren't those that the block names.
+const FORGED_CAP: &str =
+    "URI:CHK:yojn7n7y7vvlbn6xsnv4vokqqe:7ydhtkywecsyagnzkjngpp3bu7xj2n4nnrd3zsyqrd4mxmpkmbvq:1:1:56";
+
+const ROOT_SPOILED: [(u16, u64); 2] = [(0, 35), (0, 204)];
+
+#[test]
+fn a_good_share_of_other_bytes_gives_nothing(rt: HostRuntime) -> Result<(), Fail> {
+    let alloc = rt.alloc();
+    let mut grid = grid_of_one(alloc)?;
+    let fields = read_fields(&stored(alloc, &mut grid, 1, 1, "", letters(alloc)?)?)?;
+    spoil_all(&mut grid, &fields, &ROOT_SPOILED)?;
+    let forged = read_fields(&parse(alloc, FORGED_CAP)?)?;
+    for (cap, good) in [(forged, 1), (fields, 0)] {
+        let mut cache = Cache::new(alloc)?;
+        assert_eq!(rt; health(alloc, &mut grid, &cap, true)?.good, good);
+        assert_eq!(rt; is_read(alloc, &mut grid, &mut cache, &cap, b"")?, None);
+    }
     Ok(())
 }
 

@@ -11,13 +11,7 @@ const FULL: &[Script] = &[
             Step::Open(1, None, Ok(())),
             Step::Open(2, None, Ok(())),
             Step::Ask(2, PUT_OTHER, OTHER_STORED),
-            Step::Ask(
-                1,
-                PUT_LETTERS,
-                &[Part::Text(
-                    b"HTTP/1.1 503 Service Unavailable\r\nContent-Type: text/plain; charset=utf-8\r\nContent-Length: 11\r\n\r\nstore full\n",
-                )],
-            ),
+            Step::Ask(1, PUT_LETTERS, STORE_FULL),
         ],
     },
     Script {
@@ -28,7 +22,41 @@ const FULL: &[Script] = &[
             Step::Ask(1, PUT_LETTERS, LETTERS_STORED),
         ],
     },
+    Script {
+        name: "three shares that had room give the file",
+        setting: Setting {
+            k: 3,
+            n: 10,
+            servers: 1,
+            room: 1_182,
+            secret: b"",
+        },
+        steps: &[
+            Step::Open(1, None, Ok(())),
+            Step::Ask(1, PUT_LETTERS, STORE_FULL),
+            Step::Ask(1, GET_LETTERS, LETTERS_FOUND),
+        ],
+    },
+    Script {
+        name: "two give none",
+        setting: Setting {
+            k: 3,
+            n: 10,
+            servers: 1,
+            room: 1_181,
+            secret: b"",
+        },
+        steps: &[
+            Step::Open(1, None, Ok(())),
+            Step::Ask(1, PUT_LETTERS, STORE_FULL),
+            Step::Ask(1, GET_LETTERS, NOT_FOUND),
+        ],
+    },
 ];
+
+const STORE_FULL: &[Part<'static>] = &[Part::Text(
+    b"HTTP/1.1 503 Service Unavailable\r\nContent-Type: text/plain; charset=utf-8\r\nContent-Length: 11\r\n\r\nstore full\n",
+)];
 
 /// Three stores with the room for one file of some bytes.
 const TIGHT: Setting = Setting {
