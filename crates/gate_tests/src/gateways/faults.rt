@@ -2,7 +2,7 @@
 
 use super::*;
 
-/// How often a file of another caller that comes first decides what caller 1 is told of its own.
+/// Stores that are full: a file of another that came first takes the room, and as many shares stand as had room.
 const FULL: &[Script] = &[
     Script {
         name: "a full store tells of a file of another",
