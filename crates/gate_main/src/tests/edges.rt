@@ -6,8 +6,8 @@ use gate_core::Gateway;
 use gate_flow::FlowFault;
 use octets::Bytes;
 use std::alloc::{AllocError, Global};
-use std::io::{Read, Write};
-use std::net::{Shutdown, SocketAddr, TcpListener, TcpStream};
+use std::io::{BufReader, Read, Write};
+use std::net::{Shutdown, TcpListener, TcpStream};
 use std::test::Fail;
 
 fn words(alloc: Global, texts: &[&str]) -> Result<Vec<Bytes>, AllocError> {
@@ -131,30 +131,6 @@ fn outcomes_have_their_words_and_statuses(rt: HostRuntime) -> Result<(), AllocEr
     Ok(())
 }
 
-/// Words for which the program ends by itself, with the status. The second address is none of this machine (RFC 5737).
-const ENDED: &[(&[&str], u8)] = &[
-    (&[], 2),
-    (&["replay", "x"], 2),
-    (&["serve", "127.0.0.1:0", "0"], 2),
-    (&["serve", "192.0.2.1:80", "1"], 1),
-];
-
-#[test]
-fn wrong_words_and_addresses_have_their_statuses(rt: HostRuntime) -> Result<(), Fail> {
-    for (texts, status) in ENDED {
-        let outcome = carry_out(&rt, &words(rt.alloc(), texts)?);
-        assert_eq!(rt; exit_status(&outcome), *status, "at {texts:?}");
-    }
-    // A server that is to serve no connection has served all of them.
-    let service = Service {
-        address: SocketAddr::parse_ascii(b"127.0.0.1:0")?,
-        connections: 0,
-        secret: Bytes::from_slice(rt.alloc(), b"")?,
-    };
-    assert_eq!(rt; exit_status(&serve(&rt, &service)), 0);
-    Ok(())
-}
-
 fn gateway(alloc: Global) -> Result<MemGateway, Fail> {
     let stores = make_stores(alloc, 5, 1_000_000)?;
     let gateway = Gateway::new(alloc, 3, 10, stores, b"")?;
@@ -180,81 +156,48 @@ const REQUESTS: &[u8] =
 const REPLIES: &[u8] =
     b"HTTP/1.1 200 OK\r\nContent-Type: application/octet-stream\r\nContent-Length: 1\r\n\r\nfHTTP/1.1 200 OK\r\nContent-Type: application/octet-stream\r\nContent-Length: 0\r\n\r\n";
 
-/// Connections of one gateway, in this order: what they show, their ids, what is read, at most how many bytes at a
-/// time, whether the reader is interrupted before each time, the outcome, and what is written.
-type Turns = (
-    &'static str,
-    u64,
-    &'static [u8],
-    usize,
-    Option<bool>,
-    Result<(), FlowFault>,
-    &'static [u8],
-);
-
-const TURNS: &[Turns] = &[
-    (
-        "what is read is answered",
-        1,
-        REQUESTS,
-        usize::MAX,
-        None,
-        Ok(()),
-        REPLIES,
-    ),
-    (
-        "an id is used once",
-        1,
-        REQUESTS,
-        usize::MAX,
-        None,
-        Err(FlowFault::Refused),
-        b"",
-    ),
-    (
-        "the turns end at a request that closes",
-        2,
-        b"GET /uri/URI:LIT:my HTTP/1.0\r\n\r\nGET /uri/URI:LIT:my HTTP/1.0\r\n\r\n",
-        64,
-        None,
-        Ok(()),
-        b"HTTP/1.1 200 OK\r\nContent-Type: application/octet-stream\r\nContent-Length: 1\r\nConnection: close\r\n\r\nf",
-    ),
-    (
-        "a reader that is interrupted is read on",
-        3,
-        REQUESTS,
-        1,
-        Some(true),
-        Ok(()),
-        REPLIES,
-    ),
-];
-
 #[test]
 fn turns_answer_what_they_read(rt: HostRuntime) -> Result<(), Fail> {
     let mut gateway = gateway(rt.alloc())?;
-    for (shows, id, bytes, at_a_time, interrupts, outcome, wanted) in TURNS {
-        let mut reader = SlowReader {
-            bytes,
-            at_a_time: *at_a_time,
-            interrupts: *interrupts,
-            fails: false,
-        };
-        let mut written = Vec::new(rt.alloc());
-        serves(&rt, &mut gateway, *id, &mut reader, &mut written, *outcome);
-        assert_eq!(rt; written.as_slice(), *wanted, "{shows}");
-        assert!(rt; gateway.closed(*id), "{shows}");
-    }
+    let mut reader = REQUESTS;
+    let mut written = Vec::new(rt.alloc());
+    serves(&rt, &mut gateway, 1, &mut reader, &mut written, Ok(()));
+    assert_eq!(rt; written.as_slice(), REPLIES);
+    assert!(rt; gateway.closed(1));
+    // An id is used once.
+    let mut reader = REQUESTS;
+    serves(
+        &rt,
+        &mut gateway,
+        1,
+        &mut reader,
+        &mut written,
+        Err(FlowFault::Refused),
+    );
+    assert_eq!(rt; written.len(), REPLIES.len());
+    Ok(())
+}
+
+#[test]
+fn turns_end_at_a_request_that_closes(rt: HostRuntime) -> Result<(), Fail> {
+    let mut gateway = gateway(rt.alloc())?;
+    let mut reader = BufReader::with_capacity(
+        rt.alloc(),
+        64,
+        b"GET /uri/URI:LIT:my HTTP/1.0\r\n\r\nGET /uri/URI:LIT:my HTTP/1.0\r\n\r\n".as_slice(),
+    )?;
+    let mut written = Vec::new(rt.alloc());
+    serves(&rt, &mut gateway, 1, &mut reader, &mut written, Ok(()));
+    assert!(rt; written.ends_with(b"Content-Length: 1\r\nConnection: close\r\n\r\nf"));
     Ok(())
 }
 
 #[test]
 fn turns_end_where_a_peer_fails(rt: HostRuntime) -> Result<(), Fail> {
     let mut gateway = gateway(rt.alloc())?;
-    for count in 0..REPLIES.len() {
+    for count in 0..REQUESTS.len() {
         let id = count as u64;
-        let mut reader = breaking(&REQUESTS[..count.min(REQUESTS.len())]);
+        let mut reader = breaking(&REQUESTS[..count]);
         let mut written = Vec::new(rt.alloc());
         serves(
             &rt,
@@ -264,18 +207,21 @@ fn turns_end_where_a_peer_fails(rt: HostRuntime) -> Result<(), Fail> {
             &mut written,
             Err(FlowFault::ReadFailed),
         );
-        assert!(rt; REPLIES.starts_with(&written), "after {count} bytes");
+        assert!(rt; REPLIES.starts_with(&written));
+    }
+    for room in 0..REPLIES.len() {
+        let id = 1_000 + room as u64;
         let mut reader = REQUESTS;
-        let mut writer = narrow(rt.alloc(), count);
+        let mut writer = narrow(rt.alloc(), room);
         serves(
             &rt,
             &mut gateway,
-            id + 1_000,
+            id,
             &mut reader,
             &mut writer,
             Err(FlowFault::WriteFailed),
         );
-        assert_eq!(rt; writer.held.as_slice(), &REPLIES[..count]);
+        assert_eq!(rt; writer.held.as_slice(), &REPLIES[..room]);
     }
     Ok(())
 }
@@ -299,66 +245,94 @@ fn client(
     Ok(stream)
 }
 
-/// Clients of a server: what they show, the ids that were used before they came, what each sends and is given, and how
-/// many connections had a fault.
-type Clients = (
-    &'static str,
-    &'static [u64],
-    &'static [(&'static [u8], &'static [u8])],
-    u16,
-);
-
-const CLIENTS: &[Clients] = &[
-    (
-        "connections are served over a socket",
-        &[],
-        &[(EXCHANGE, EXCHANGED), (REQUESTS, REPLIES)],
-        0,
-    ),
-    (
-        "connections that had a fault are counted",
-        &[2],
-        &[(REQUESTS, REPLIES), (b"", b""), (REQUESTS, REPLIES)],
-        1,
-    ),
-];
-
-/// Serves clients over a socket, and compares what they are given and how many connections had a fault.
+/// Serves so many clients over a socket: what each sends and is given, and how many connections had a fault.
 fn serves_clients(
     rt: &(impl Abort + AllocGlobal + Eprint + Net<Listener = TcpListener, Stream = TcpStream>),
     gateway: &mut MemGateway,
-    clients: &Clients,
+    count: u16,
+    clients: &[(&[u8], &[u8])],
+    faults: u16,
 ) -> Result<(), Fail> {
-    let (shows, _, clients, faults) = clients;
     let listener = TcpListener::bind(rt, "127.0.0.1:0")?;
     let mut streams = Vec::new(rt.alloc());
-    for (sent, _) in *clients {
+    for (sent, _) in clients {
         streams.push(client(rt, &listener, sent)?)?;
     }
-    let count = clients.len() as u16;
-    assert_eq!(rt;
-        serve_on(rt, &listener, count, gateway),
-        Ok(*faults),
-        "{shows}"
-    );
-    for (stream, (_, wanted)) in streams.iter_mut().zip(*clients) {
+    assert_eq!(rt; serve_on(rt, &listener, count, gateway), Ok(faults));
+    for (stream, (_, wanted)) in streams.iter_mut().zip(clients) {
         let mut came = Vec::new(rt.alloc());
         stream.read_to_end(&mut came)?;
-        assert!(rt; came.as_slice() == *wanted, "{shows}");
+        assert!(rt; came.as_slice() == *wanted);
     }
     Ok(())
 }
 
 #[test]
-fn clients_are_served_over_a_socket(rt: HostRuntime) -> Result<(), Fail> {
-    for clients in CLIENTS {
-        let mut gateway = gateway(rt.alloc())?;
-        for id in clients.1 {
-            let mut nothing = b"".as_slice();
-            let mut written = Vec::new(rt.alloc());
-            serves(&rt, &mut gateway, *id, &mut nothing, &mut written, Ok(()));
-        }
-        serves_clients(&rt, &mut gateway, clients)?;
+fn connections_are_served_over_a_socket(rt: HostRuntime) -> Result<(), Fail> {
+    let mut gateway = gateway(rt.alloc())?;
+    let clients = [(EXCHANGE, EXCHANGED), (REQUESTS, REPLIES)];
+    serves_clients(&rt, &mut gateway, 2, &clients, 0)
+}
+
+#[test]
+fn connections_that_had_a_fault_are_counted(rt: HostRuntime) -> Result<(), Fail> {
+    let mut gateway = gateway(rt.alloc())?;
+    let mut nothing = b"".as_slice();
+    let mut written = Vec::new(rt.alloc());
+    // The second id is used before its connection comes.
+    serves(&rt, &mut gateway, 2, &mut nothing, &mut written, Ok(()));
+    let clients = [
+        (REQUESTS, REPLIES),
+        (b"".as_slice(), b"".as_slice()),
+        (REQUESTS, REPLIES),
+    ];
+    serves_clients(&rt, &mut gateway, 3, &clients, 1)
+}
+
+#[test]
+fn a_reader_that_is_interrupted_is_read_on(rt: HostRuntime) -> Result<(), Fail> {
+    let script = b"grid 3 10 1 5 -\nopen 1\n";
+    let mut reader = BufReader::with_capacity(rt.alloc(), 7, interrupted(script))?;
+    let mut answers = Vec::new(rt.alloc());
+    assert_eq!(rt; run_script(rt.alloc(), &mut reader, &mut answers), Ok(()));
+    assert_eq!(rt; answers.as_slice(), b"ok\nok\n".as_slice());
+    let mut gateway = gateway(rt.alloc())?;
+    let mut slow = interrupted(REQUESTS);
+    let mut written = Vec::new(rt.alloc());
+    serves(&rt, &mut gateway, 1, &mut slow, &mut written, Ok(()));
+    assert_eq!(rt; written.as_slice(), REPLIES);
+    Ok(())
+}
+
+#[test]
+fn a_writer_that_takes_nothing_or_does_not_flush_fails(rt: HostRuntime) {
+    for room in [usize::MAX, 0] {
+        let mut reader = b"grid 3 10 1 5 -\nopen 1\n".as_slice();
+        let mut writer = SlowWriter {
+            held: Vec::new(rt.alloc()),
+            room,
+            at_a_time: usize::MAX,
+            interrupts: None,
+            at_the_end: AtTheEnd::TakesNothing,
+            flushes: false,
+        };
+        assert_eq!(rt;
+            run_script(rt.alloc(), &mut reader, &mut writer),
+            Err(ScriptFault::WriteFailed)
+        );
+    }
+}
+
+#[test]
+fn a_line_of_the_limit_is_read(rt: HostRuntime) -> Result<(), AllocError> {
+    // With `bytes 1 ` before it, of 16,777,216 bytes and of one more.
+    for (count, wanted, fault) in [
+        (16_777_208, b"ok\nok\nok\n".as_slice(), None),
+        (16_777_209, b"ok\nok\n", Some(ScriptFault::TooLong)),
+    ] {
+        let piece = letters(rt.alloc(), count)?;
+        let script = joined(rt.alloc(), &[b"grid 3 10 1 5 -\nopen 1\nbytes 1 ", &piece])?;
+        answers(&rt, &script, wanted, fault);
     }
     Ok(())
 }

@@ -1,130 +1,269 @@
 //! Scripts over files on servers, with their answers.
 use super::scripts::{
-    A56, ALL, BIG, BIG_IS_GONE, Case, END, GET, GET_BIG, GONE, HOST, JSON, LOSE_EIGHT, LOSE_TWO,
-    OCTETS, OPENED, PUT, PUT_BIG, SMALL, Script, Step, TEXT, hold,
+    A56, BIG, OCTETS, SMALL, Script, Step, WITH_BIG, holds, holds_after, reply_of,
 };
 use super::*;
+use octets::fakes::counted_bytes;
 use std::alloc::AllocError;
 
-const FULL: &str =
-    "HTTP/1.1 503 Service Unavailable\r\nContent-Type: text/plain; charset=utf-8\r\nContent-Length: 11\r\n\r\nstore full\n";
+const GONE: &[u8] =
+    b"HTTP/1.1 410 Gone\r\nContent-Type: text/plain; charset=utf-8\r\nContent-Length: 18\r\n\r\nnot enough shares\n";
 
-/// The cap of the 56 letters under the secret `my secret`.
-const SECRET: &str =
-    "URI:CHK:473yf745w2oqknfhruyvbs2ige:hxoqjsty2fr5psr6vjrd6gwsu5xezezqrwnypmdlucnwsy65uyyq:3:10:56";
+const FULL: &[u8] =
+    b"HTTP/1.1 503 Service Unavailable\r\nContent-Type: text/plain; charset=utf-8\r\nContent-Length: 11\r\n\r\nstore full\n";
 
-/// 55 letters `a`.
-const A55: &str = "aaaaaaaaaaaaaaaaaaaaaaaaaaaaaaaaaaaaaaaaaaaaaaaaaaaaaaa";
-
-/// The 56 letters are put on the first connection, which is given their cap.
-const PUT_SMALL: &[Step] = &[
-    Step::Sends("1", &[PUT, "56", END, A56]),
-    Step::Gives("1", &[TEXT, "95", END, SMALL]),
+/// A grid of one server and one connection.
+const ONE: &[Step] = &[
+    Step::Line("grid 3 10 1 1000000 -", "ok"),
+    Step::Line("open 1", "ok"),
 ];
 
-const CASES: &[Case] = &[
-    (
-        "short files are in their caps",
+#[test]
+fn short_files_are_in_their_caps(rt: HostRuntime) -> Result<(), AllocError> {
+    holds_after(
+        &rt,
+        ONE,
         &[
-            OPENED,
-            &[
-                Step::Sends("1", &[PUT, "0", END, ""]),
-                Step::Gives("1", &[TEXT, "8", END, "URI:LIT:"]),
-                Step::Sends("1", &[GET, "URI:LIT:", HOST]),
-                Step::Gives("1", &[OCTETS, "0", END, ""]),
-                Step::Sends("1", &["GET /uri/URI:LIT:?t=json", HOST]),
-                Step::Gives(
-                    "1",
-                    &[
-                        JSON,
-                        "59",
-                        END,
-                        r#"["filenode",{"mutable":false,"ro_uri":"URI:LIT:","size":0}]"#,
-                    ],
-                ),
-                Step::Sends("1", &[PUT, "55", END, A55]),
-                Step::Gives(
-                    "1",
-                    &[
-                        TEXT,
-                        "96",
-                        END,
-                        "URI:LIT:mfqwcylbmfqwcylbmfqwcylbmfqwcylbmfqwcylbmfqwcylbmfqwcylbmfqwcylbmfqwcylbmfqwcylbmfqwcylb",
-                    ],
-                ),
-            ],
-            PUT_SMALL,
+            Step::Puts("1", "0", b""),
+            Step::GivesCap("1", "8", "URI:LIT:"),
+            Step::Gets("1", "URI:LIT:"),
+            Step::GivesFile("1", "0", b""),
+            Step::Asks(&["GET /uri/URI:LIT:?t=json"]),
+            Step::GivesJson(
+                "59",
+                r#"["filenode",{"mutable":false,"ro_uri":"URI:LIT:","size":0}]"#,
+            ),
+            Step::Puts("1", "55", &A56[..55]),
+            Step::GivesCap(
+                "1",
+                "96",
+                "URI:LIT:mfqwcylbmfqwcylbmfqwcylbmfqwcylbmfqwcylbmfqwcylbmfqwcylbmfqwcylbmfqwcylbmfqwcylbmfqwcylb",
+            ),
+            Step::Puts("1", "56", A56),
+            Step::GivesCap("1", "95", SMALL),
         ],
-    ),
-    (
-        "a put and a get in turns are each answered",
+    )
+}
+
+#[test]
+fn a_put_is_answered_alike_however_it_is_cut(rt: HostRuntime) -> Result<(), AllocError> {
+    let request =
+        b"PUT /uri HTTP/1.1\r\nHost: g\r\nContent-Length: 56\r\n\r\naaaaaaaaaaaaaaaaaaaaaaaaaaaaaaaaaaaaaaaaaaaaaaaaaaaaaaaa";
+    for at in 0..request.len() + 1 {
+        holds_after(
+            &rt,
+            ONE,
+            &[
+                Step::Sends("1", &request[..at]),
+                Step::Sends("1", &request[at..]),
+                Step::GivesCap("1", "95", SMALL),
+            ],
+        )?;
+    }
+    Ok(())
+}
+
+#[test]
+fn a_big_file_is_given_while_three_shares_stand(rt: HostRuntime) -> Result<(), AllocError> {
+    holds_after(
+        &rt,
+        WITH_BIG,
         &[
-            OPENED,
-            &[
-                Step::Line("open 2", "ok"),
-                Step::Sends("1", &["GET /uri/URI:LIT:my HTTP/1.1\r"]),
-                Step::Sends(
-                    "2",
-                    &["PUT /uri HTTP/1.1\r\nHost: g\r\nContent-Length: 3\r\n\r\nfo"],
-                ),
-                Step::Sends(
-                    "1",
-                    &["\nHost: g\r\n\r\nGET /uri/URI:LIT: HTTP/1.1\r\nHost: g\r\n\r\n"],
-                ),
-                Step::Sends("2", &["o"]),
-                Step::Gives(
-                    "1",
-                    &[
-                        "HTTP/1.1 200 OK\r\nContent-Type: application/octet-stream\r\nContent-Length: 1\r\n\r\nfHTTP/1.1 200 OK\r\nContent-Type: application/octet-stream\r\nContent-Length: 0\r\n\r\n",
-                    ],
-                ),
-                Step::Gives("2", &[TEXT, "13", END, "URI:LIT:mzxw6"]),
-            ],
+            Step::Gets("1", BIG),
+            Step::GivesBig("1"),
+            Step::Loses(&["1", "2", "3", "4", "5", "6", "7"]),
+            Step::Gets("1", BIG),
+            Step::GivesBig("1"),
+            Step::Loses(&["8"]),
+            Step::Gets("1", BIG),
+            Step::Gives("1", GONE),
+            Step::PutsBig,
+            Step::Gets("1", BIG),
+            Step::GivesBig("1"),
+            Step::Line("spoil 0 qg2arnqdrcwls5l3fr6ulmwa4y 4 67084", "yes"),
+            Step::Line("spoil 0 qg2arnqdrcwls5l3fr6ulmwa4y 4 67085", "no"),
+            Step::Line("lose 0 qg2arnqdrcwls5l3fr6ulmwa4y 10", "no"),
         ],
-    ),
-    (
-        "a body over the limit is refused",
+    )
+}
+
+#[test]
+fn a_file_that_was_read_is_read_anew_once_its_shares_changed(
+    rt: HostRuntime,
+) -> Result<(), AllocError> {
+    holds_after(
+        &rt,
+        WITH_BIG,
         &[
-            OPENED,
-            &[
-                Step::Sends(
-                    "1",
-                    &["PUT /uri HTTP/1.1\r\nHost: g\r\nContent-Length: 16777217\r\n\r\n"],
-                ),
-                Step::Gives(
-                    "1",
-                    &[
-                        "HTTP/1.1 413 Content Too Large\r\nContent-Type: text/plain; charset=utf-8\r\nContent-Length: 14\r\nConnection: close\r\n\r\nbody too long\n",
-                    ],
-                ),
-            ],
+            Step::Gets("1", BIG),
+            Step::GivesBig("1"),
+            Step::Line("spoil 0 qg2arnqdrcwls5l3fr6ulmwa4y 0 0", "yes"),
+            Step::Line("spoil 0 qg2arnqdrcwls5l3fr6ulmwa4y 1 0", "yes"),
+            Step::Line("spoil 0 qg2arnqdrcwls5l3fr6ulmwa4y 2 0", "yes"),
+            Step::Line("spoil 0 qg2arnqdrcwls5l3fr6ulmwa4y 3 0", "yes"),
+            Step::Line("spoil 0 qg2arnqdrcwls5l3fr6ulmwa4y 4 0", "yes"),
+            Step::Line("spoil 0 qg2arnqdrcwls5l3fr6ulmwa4y 5 0", "yes"),
+            Step::Line("spoil 0 qg2arnqdrcwls5l3fr6ulmwa4y 6 0", "yes"),
+            Step::Line("spoil 0 qg2arnqdrcwls5l3fr6ulmwa4y 7 0", "yes"),
+            Step::Gets("1", BIG),
+            Step::Gives("1", GONE),
+            Step::Line("spoil 0 qg2arnqdrcwls5l3fr6ulmwa4y 0 0", "yes"),
+            Step::Gets("1", BIG),
+            Step::GivesBig("1"),
         ],
-    ),
-    (
-        "a full store is named",
-        &[&[
+    )
+}
+
+#[test]
+fn another_cap_gives_nothing(rt: HostRuntime) -> Result<(), AllocError> {
+    holds_after(
+        &rt,
+        WITH_BIG,
+        &[
+            Step::Gets("1", BIG),
+            Step::GivesBig("1"),
+            Step::Gets(
+                "1",
+                "URI:CHK:cpgmyfu7y4nqyhvkcqfcsmnqvq:avffjve3vt7bw5r2bn4fpzm22wnb5vsv7pduk635eeclhal7bo5q:3:10:200000",
+            ),
+            Step::Gives("1", GONE),
+            Step::Gets(
+                "1",
+                "URI:CHK:cpgmyfu7y4nqyhvkcqfcsmnqvq:cvffjve3vt7bw5r2bn4fpzm22wnb5vsv7pduk635eeclhal7bo5q:3:10:199999",
+            ),
+            Step::Gives("1", GONE),
+            Step::Gets(
+                "1",
+                "URI:CHK:cpgmyfu7y4nqyhvkcqfcsmnqvq:cvffjve3vt7bw5r2bn4fpzm22wnb5vsv7pduk635eeclhal7bo5q:4:10:200000",
+            ),
+            Step::Gives("1", GONE),
+            Step::Gets(
+                "1",
+                "URI:CHK:apgmyfu7y4nqyhvkcqfcsmnqvq:cvffjve3vt7bw5r2bn4fpzm22wnb5vsv7pduk635eeclhal7bo5q:3:10:200000",
+            ),
+            Step::Gives("1", GONE),
+        ],
+    )
+}
+
+#[test]
+fn a_put_and_a_get_in_turns_are_each_answered(rt: HostRuntime) -> Result<(), AllocError> {
+    holds_after(
+        &rt,
+        ONE,
+        &[
+            Step::Line("open 2", "ok"),
+            Step::Sends("1", b"GET /uri/URI:LIT:my HTTP/1.1\r"),
+            Step::Sends(
+                "2",
+                b"PUT /uri HTTP/1.1\r\nHost: g\r\nContent-Length: 3\r\n\r\nfo",
+            ),
+            Step::Sends(
+                "1",
+                b"\nHost: g\r\n\r\nGET /uri/URI:LIT: HTTP/1.1\r\nHost: g\r\n\r\n",
+            ),
+            Step::Sends("2", b"o"),
+            Step::Gives(
+                "1",
+                b"HTTP/1.1 200 OK\r\nContent-Type: application/octet-stream\r\nContent-Length: 1\r\n\r\nfHTTP/1.1 200 OK\r\nContent-Type: application/octet-stream\r\nContent-Length: 0\r\n\r\n",
+            ),
+            Step::GivesCap("2", "13", "URI:LIT:mzxw6"),
+        ],
+    )
+}
+
+#[test]
+fn a_read_by_another_leaves_no_trace(rt: HostRuntime) -> Result<(), AllocError> {
+    holds_after(
+        &rt,
+        WITH_BIG,
+        &[
+            Step::Gets("2", BIG),
+            Step::GivesBig("2"),
+            Step::Loses(&["0", "1", "2", "3", "4", "5", "6", "7", "8", "9"]),
+            Step::Gets("1", BIG),
+            Step::Gives("1", GONE),
+        ],
+    )?;
+    holds_after(
+        &rt,
+        WITH_BIG,
+        &[
+            Step::Loses(&["0", "1", "2", "3", "4", "5", "6", "7", "8", "9"]),
+            Step::Gets("1", BIG),
+            Step::Gives("1", GONE),
+        ],
+    )
+}
+
+#[test]
+fn a_reply_goes_on_after_its_shares_are_lost(rt: HostRuntime) -> Result<(), AllocError> {
+    let big = counted_bytes(rt.alloc(), 200_000)?;
+    let reply = reply_of(rt.alloc(), "200 OK", OCTETS, "200000", "", big.as_slice())?;
+    let (front, rest) = reply.split_at(reply.len().min(1000));
+    holds_after(
+        &rt,
+        WITH_BIG,
+        &[
+            Step::Gets("1", BIG),
+            Step::Takes("1", "1000", front),
+            Step::Loses(&["0", "1", "2", "3", "4", "5", "6", "7", "8", "9"]),
+            Step::Gives("1", rest),
+            Step::Gets("1", BIG),
+            Step::Gives("1", GONE),
+        ],
+    )
+}
+
+#[test]
+fn a_body_over_the_limit_is_refused(rt: HostRuntime) -> Result<(), AllocError> {
+    holds_after(
+        &rt,
+        ONE,
+        &[
+            Step::Sends(
+                "1",
+                b"PUT /uri HTTP/1.1\r\nHost: g\r\nContent-Length: 16777217\r\n\r\n",
+            ),
+            Step::Gives(
+                "1",
+                b"HTTP/1.1 413 Content Too Large\r\nContent-Type: text/plain; charset=utf-8\r\nContent-Length: 14\r\nConnection: close\r\n\r\nbody too long\n",
+            ),
+        ],
+    )
+}
+
+#[test]
+fn a_full_store_is_named(rt: HostRuntime) -> Result<(), AllocError> {
+    holds(
+        &rt,
+        &[
             Step::Line("grid 3 10 1 0 -", "ok"),
             Step::Line("open 1", "ok"),
-            Step::Sends("1", &[PUT, "56", END, A56]),
-            Step::Gives("1", &[FULL]),
-            Step::Sends("1", &[PUT, "3", END, "foo"]),
-            Step::Gives("1", &[TEXT, "13", END, "URI:LIT:mzxw6"]),
-        ]],
-    ),
-    (
-        "a file that just fits is stored and put again",
-        &[
-            &[
-                Step::Line("grid 3 10 1 3940 -", "ok"),
-                Step::Line("open 1", "ok"),
-            ],
-            PUT_SMALL,
-            PUT_SMALL,
+            Step::Puts("1", "56", A56),
+            Step::Gives("1", FULL),
+            Step::Puts("1", "3", b"foo"),
+            Step::GivesCap("1", "13", "URI:LIT:mzxw6"),
         ],
-    ),
-    (
-        "the grid is lost from spoiled and imaged",
-        &[&[
+    )?;
+    holds(
+        &rt,
+        &[
+            Step::Line("grid 3 10 1 3940 -", "ok"),
+            Step::Line("open 1", "ok"),
+            Step::Puts("1", "56", A56),
+            Step::GivesCap("1", "95", SMALL),
+            Step::Puts("1", "56", A56),
+            Step::GivesCap("1", "95", SMALL),
+        ],
+    )
+}
+
+#[test]
+fn the_grid_is_lost_from_spoiled_and_imaged(rt: HostRuntime) -> Result<(), AllocError> {
+    holds(
+        &rt,
+        &[
             Step::Line("grid 3 10 5 1000000 -", "ok"),
             Step::Line("open 7", "ok"),
             Step::Line("open 7", "fault 1 Known"),
@@ -137,11 +276,15 @@ const CASES: &[Case] = &[
                 "image",
                 "image TGRIDIM2\\x00\\x00\\x00\\x05\\x00\\x00\\x00\\x00\\x00\\x00\\x00\\x00",
             ),
-        ]],
-    ),
-    (
-        "version 1 is written again as version 2",
-        &[&[
+        ],
+    )
+}
+
+#[test]
+fn version_1_is_written_again_as_version_2(rt: HostRuntime) -> Result<(), AllocError> {
+    holds(
+        &rt,
+        &[
             Step::Line("grid 3 10 5 1000000 -", "ok"),
             Step::Line(
                 "restore TGRIDIM1\\x00\\x00\\x00\\x05\\x00\\x00\\x00\\x00",
@@ -151,219 +294,103 @@ const CASES: &[Case] = &[
                 "image",
                 "image TGRIDIM2\\x00\\x00\\x00\\x05\\x00\\x00\\x00\\x00\\x00\\x00\\x00\\x00",
             ),
-        ]],
-    ),
-    (
-        "callers have secrets of their own",
-        &[&[
+        ],
+    )
+}
+
+/// The cap of the 56 letters under the secret `my secret`.
+const SECRET: &str =
+    "URI:CHK:473yf745w2oqknfhruyvbs2ige:hxoqjsty2fr5psr6vjrd6gwsu5xezezqrwnypmdlucnwsy65uyyq:3:10:56";
+
+#[test]
+fn callers_have_secrets_of_their_own(rt: HostRuntime) -> Result<(), AllocError> {
+    holds(
+        &rt,
+        &[
             Step::Line("grid 3 10 1 1000000 nv4sa43fmnzgk5a", "ok"),
             Step::Line("open 1 -", "ok"),
             Step::Line("open 2", "ok"),
             Step::Line("open 3 nv4sa43fmnzgk5a", "ok"),
             Step::Line("open 3 -", "fault 1 Known"),
-            Step::Sends("1", &[PUT, "56", END, A56]),
-            Step::Gives("1", &[TEXT, "95", END, SMALL]),
-            Step::Sends("2", &[PUT, "56", END, A56]),
-            Step::Gives("2", &[TEXT, "95", END, SECRET]),
-            Step::Sends("3", &[PUT, "56", END, A56]),
-            Step::Gives("3", &[TEXT, "95", END, SECRET]),
-            Step::Sends("1", &[GET, SECRET, HOST]),
-            Step::Gives("1", &[OCTETS, "56", END, A56]),
-            Step::Sends("2", &[GET, SMALL, HOST]),
-            Step::Gives("2", &[OCTETS, "56", END, A56]),
-        ]],
-    ),
-];
-
-/// Cases of the big file whose shares change.
-const CHANGES: &[Case] = &[
-    (
-        "a big file is given while three shares stand",
-        &[
-            OPENED,
-            PUT_BIG,
-            GET_BIG,
-            &[
-                Step::Line("lose 0 qg2arnqdrcwls5l3fr6ulmwa4y 1", "yes"),
-                Step::Line("lose 0 qg2arnqdrcwls5l3fr6ulmwa4y 2", "yes"),
-                Step::Line("lose 0 qg2arnqdrcwls5l3fr6ulmwa4y 3", "yes"),
-                Step::Line("lose 0 qg2arnqdrcwls5l3fr6ulmwa4y 4", "yes"),
-                Step::Line("lose 0 qg2arnqdrcwls5l3fr6ulmwa4y 5", "yes"),
-                Step::Line("lose 0 qg2arnqdrcwls5l3fr6ulmwa4y 6", "yes"),
-                Step::Line("lose 0 qg2arnqdrcwls5l3fr6ulmwa4y 7", "yes"),
-            ],
-            GET_BIG,
-            &[Step::Line("lose 0 qg2arnqdrcwls5l3fr6ulmwa4y 8", "yes")],
-            BIG_IS_GONE,
-            PUT_BIG,
-            GET_BIG,
-            &[
-                Step::Line("spoil 0 qg2arnqdrcwls5l3fr6ulmwa4y 4 67084", "yes"),
-                Step::Line("spoil 0 qg2arnqdrcwls5l3fr6ulmwa4y 4 67085", "no"),
-                Step::Line("lose 0 qg2arnqdrcwls5l3fr6ulmwa4y 10", "no"),
-            ],
+            Step::Puts("1", "56", A56),
+            Step::GivesCap("1", "95", SMALL),
+            Step::Puts("2", "56", A56),
+            Step::GivesCap("2", "95", SECRET),
+            Step::Puts("3", "56", A56),
+            Step::GivesCap("3", "95", SECRET),
+            Step::Gets("1", SECRET),
+            Step::GivesFile("1", "56", A56),
+            Step::Gets("2", SMALL),
+            Step::GivesFile("2", "56", A56),
         ],
-    ),
-    (
-        "a file that was read is read anew once its shares changed",
-        &[
-            OPENED,
-            PUT_BIG,
-            GET_BIG,
-            &[
-                Step::Line("spoil 0 qg2arnqdrcwls5l3fr6ulmwa4y 0 0", "yes"),
-                Step::Line("spoil 0 qg2arnqdrcwls5l3fr6ulmwa4y 1 0", "yes"),
-                Step::Line("spoil 0 qg2arnqdrcwls5l3fr6ulmwa4y 2 0", "yes"),
-                Step::Line("spoil 0 qg2arnqdrcwls5l3fr6ulmwa4y 3 0", "yes"),
-                Step::Line("spoil 0 qg2arnqdrcwls5l3fr6ulmwa4y 4 0", "yes"),
-                Step::Line("spoil 0 qg2arnqdrcwls5l3fr6ulmwa4y 5 0", "yes"),
-                Step::Line("spoil 0 qg2arnqdrcwls5l3fr6ulmwa4y 6 0", "yes"),
-                Step::Line("spoil 0 qg2arnqdrcwls5l3fr6ulmwa4y 7 0", "yes"),
-            ],
-            BIG_IS_GONE,
-            &[Step::Line("spoil 0 qg2arnqdrcwls5l3fr6ulmwa4y 0 0", "yes")],
-            GET_BIG,
-        ],
-    ),
-    (
-        "a reply goes on after its shares are lost",
-        &[
-            OPENED,
-            PUT_BIG,
-            &[
-                Step::Sends("1", &[GET, BIG, HOST]),
-                // The head and the first 917 bytes of the file.
-                Step::TakesBig("1", "1000", &[OCTETS, "200000", END], 0, 917),
-            ],
-            LOSE_EIGHT,
-            LOSE_TWO,
-            &[Step::TakesBig("1", ALL, &[], 917, 200_000)],
-            BIG_IS_GONE,
-        ],
-    ),
-];
-
-/// Cases of the big file that another asked for, or by another cap.
-const OTHERS: &[Case] = &[
-    (
-        "another cap gives nothing",
-        &[
-            OPENED,
-            PUT_BIG,
-            GET_BIG,
-            &[
-                Step::Sends(
-                    "1",
-                    &[
-                        GET,
-                        "URI:CHK:cpgmyfu7y4nqyhvkcqfcsmnqvq:avffjve3vt7bw5r2bn4fpzm22wnb5vsv7pduk635eeclhal7bo5q:3:10:200000",
-                        HOST,
-                    ],
-                ),
-                Step::Gives("1", &[GONE]),
-                Step::Sends(
-                    "1",
-                    &[
-                        GET,
-                        "URI:CHK:cpgmyfu7y4nqyhvkcqfcsmnqvq:cvffjve3vt7bw5r2bn4fpzm22wnb5vsv7pduk635eeclhal7bo5q:3:10:199999",
-                        HOST,
-                    ],
-                ),
-                Step::Gives("1", &[GONE]),
-                Step::Sends(
-                    "1",
-                    &[
-                        GET,
-                        "URI:CHK:cpgmyfu7y4nqyhvkcqfcsmnqvq:cvffjve3vt7bw5r2bn4fpzm22wnb5vsv7pduk635eeclhal7bo5q:4:10:200000",
-                        HOST,
-                    ],
-                ),
-                Step::Gives("1", &[GONE]),
-                Step::Sends(
-                    "1",
-                    &[
-                        GET,
-                        "URI:CHK:apgmyfu7y4nqyhvkcqfcsmnqvq:cvffjve3vt7bw5r2bn4fpzm22wnb5vsv7pduk635eeclhal7bo5q:3:10:200000",
-                        HOST,
-                    ],
-                ),
-                Step::Gives("1", &[GONE]),
-            ],
-        ],
-    ),
-    (
-        "a read by another leaves no trace",
-        &[
-            OPENED,
-            PUT_BIG,
-            &[
-                Step::Line("open 2", "ok"),
-                Step::Sends("2", &[GET, BIG, HOST]),
-                Step::TakesBig("2", ALL, &[OCTETS, "200000", END], 0, 200_000),
-            ],
-            LOSE_EIGHT,
-            LOSE_TWO,
-            BIG_IS_GONE,
-        ],
-    ),
-    (
-        "without a read by another",
-        &[
-            OPENED,
-            PUT_BIG,
-            &[Step::Line("open 2", "ok")],
-            LOSE_EIGHT,
-            LOSE_TWO,
-            BIG_IS_GONE,
-        ],
-    ),
-];
-
-#[test]
-fn files_on_servers_are_answered(rt: HostRuntime) -> Result<(), AllocError> {
-    hold(&rt, CASES)
+    )
 }
 
 #[test]
-fn a_big_file_is_given_while_enough_of_its_shares_stand(rt: HostRuntime) -> Result<(), AllocError> {
-    hold(&rt, CHANGES)
+fn a_secret_that_is_no_base32_is_a_bad_line(rt: HostRuntime) -> Result<(), AllocError> {
+    for line in [
+        b"open 1 MY".as_slice(),
+        b"open 1 ",
+        b"open 1 my my",
+        b"open 1 my ",
+        b"open 1 mz",
+    ] {
+        let script = joined(rt.alloc(), &[GRID, line, b"\n"])?;
+        let (answers, fault) = ran(rt.alloc(), &script);
+        assert_eq!(rt; answers.as_slice(), b"ok\n".as_slice());
+        assert_eq!(rt; fault, Some(ScriptFault::BadLine(2)));
+    }
+    Ok(())
 }
 
 #[test]
-fn a_big_file_is_given_for_its_cap_alone(rt: HostRuntime) -> Result<(), AllocError> {
-    hold(&rt, OTHERS)
+fn a_secret_that_is_too_long_is_refused(rt: HostRuntime) -> Result<(), AllocError> {
+    let word = [b'a'; 412];
+    let script = joined(rt.alloc(), &[GRID, b"open 1 ", &word, b"\nopen 1\n"])?;
+    let (answers, fault) = ran(rt.alloc(), &script);
+    assert_eq!(rt;
+        answers.as_slice(),
+        b"ok\nfault 5 BadParameters\nok\n".as_slice()
+    );
+    assert_eq!(rt; fault, None);
+    Ok(())
 }
-
-/// A grid of five servers and one connection.
-const FIVE: &[Step] = &[
-    Step::Line("grid 3 10 5 1000000 -", "ok"),
-    Step::Line("open 1", "ok"),
-];
-
-/// An image was restored, and the 56 letters are given.
-const RESTORED: &[Step] = &[
-    Step::Line("", "ok"),
-    Step::Line("open 1", "ok"),
-    Step::Sends("1", &[GET, SMALL, HOST]),
-    Step::Gives("1", &[OCTETS, "56", END, A56]),
-];
 
 #[test]
 fn an_image_is_restored(rt: HostRuntime) -> Result<(), AllocError> {
-    let mut first = Script::new(rt.alloc());
-    first.follow(FIVE)?;
-    first.follow(PUT_SMALL)?;
+    let mut first = Script::of(
+        rt.alloc(),
+        &[
+            Step::Line("grid 3 10 5 1000000 -", "ok"),
+            Step::Line("open 1", "ok"),
+            Step::Puts("1", "56", A56),
+            Step::GivesCap("1", "95", SMALL),
+        ],
+    )?;
     first.text.extend_from_slice(b"image\n")?;
     let (answers, _) = ran(rt.alloc(), &first.text);
     assert!(rt; answers.len() > first.wanted.len() + 7);
     let image = &answers[first.wanted.len() + 6..answers.len() - 1];
-    let mut second = Script::new(rt.alloc());
-    second
-        .text
-        .extend_from_slice(b"grid 3 10 5 1000000 -\n\nrestore ")?;
-    second.text.extend_from_slice(image)?;
-    second.wanted.extend_from_slice(b"ok\n")?;
-    second.follow(RESTORED)?;
-    second.holds(&rt, "an image is restored");
+    let mut second = Script::of(rt.alloc(), &[Step::Line("grid 3 10 5 1000000 -", "ok")])?;
+    add(&mut second.text, &[b"\nrestore ", image])?;
+    second.follow(&[
+        Step::Line("", "ok"),
+        Step::Line("open 1", "ok"),
+        Step::Gets("1", SMALL),
+        Step::GivesFile("1", "56", A56),
+    ])?;
+    second.holds(&rt);
     Ok(())
+}
+
+#[test]
+fn a_restore_that_is_refused_ends_the_run(rt: HostRuntime) {
+    for script in [
+        b"grid 3 10 5 1000000 -\nrestore \nopen 1\n".as_slice(),
+        b"grid 3 10 5 1000000 -\nrestore TGRIDIM1\\x00\\x00\\x00\\x04\\x00\\x00\\x00\\x00\nopen 1\n",
+    ] {
+        let (answers, fault) = ran(rt.alloc(), script);
+        assert_eq!(rt; answers.as_slice(), b"ok\ngrid 4 BadImage\n".as_slice());
+        assert_eq!(rt; fault, Some(ScriptFault::BadLine(2)));
+    }
 }

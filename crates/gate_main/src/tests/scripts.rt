@@ -13,129 +13,78 @@ pub const SMALL: &str =
 pub const BIG: &str =
     "URI:CHK:cpgmyfu7y4nqyhvkcqfcsmnqvq:cvffjve3vt7bw5r2bn4fpzm22wnb5vsv7pduk635eeclhal7bo5q:3:10:200000";
 
+/// The cap that verifies the shares of the big file. Its storage index was made by another program.
+pub const BIG_VERIFY: &str =
+    "URI:CHK-Verifier:qg2arnqdrcwls5l3fr6ulmwa4y:cvffjve3vt7bw5r2bn4fpzm22wnb5vsv7pduk635eeclhal7bo5q:3:10:200000";
+
 /// 56 letters `a`.
-pub const A56: &str = "aaaaaaaaaaaaaaaaaaaaaaaaaaaaaaaaaaaaaaaaaaaaaaaaaaaaaaaa";
+pub const A56: &[u8] = b"aaaaaaaaaaaaaaaaaaaaaaaaaaaaaaaaaaaaaaaaaaaaaaaaaaaaaaaa";
 
-/// What a request begins with. The length of its body follows, or the cap that is asked for.
-pub const PUT: &str = "PUT /uri HTTP/1.1\r\nHost: g\r\nContent-Length: ";
+/// What file bytes are called.
+pub const OCTETS: &str = "application/octet-stream";
 
-pub const MAKE: &str = "POST /uri?t=mkdir-immutable HTTP/1.1\r\nHost: g\r\nContent-Length: ";
+/// What caps and refusals are called.
+pub const TEXT: &str = "text/plain; charset=utf-8";
 
-pub const GET: &str = "GET /uri/";
-
-/// How a head goes on after its target: at its end, or where further fields follow, each with its line end.
-pub const HOST: &str = " HTTP/1.1\r\nHost: g\r\n\r\n";
-
-pub const HOST_AND: &str = " HTTP/1.1\r\nHost: g\r\n";
-
-/// The end of a head after its last field, and where that has its line end.
-pub const END: &str = "\r\n\r\n";
-
-pub const LINE: &str = "\r\n";
-
-/// What a reply begins with. The length of its body follows.
-pub const OCTETS: &str =
-    "HTTP/1.1 200 OK\r\nContent-Type: application/octet-stream\r\nContent-Length: ";
-
-pub const TEXT: &str =
-    "HTTP/1.1 200 OK\r\nContent-Type: text/plain; charset=utf-8\r\nContent-Length: ";
-
-pub const JSON: &str = "HTTP/1.1 200 OK\r\nContent-Type: application/json\r\nContent-Length: ";
-
-pub const PART: &str =
-    "HTTP/1.1 206 Partial Content\r\nContent-Type: application/octet-stream\r\nContent-Length: ";
-
-pub const BAD: &str =
-    "HTTP/1.1 400 Bad Request\r\nContent-Type: text/plain; charset=utf-8\r\nContent-Length: ";
-
-pub const MISSING: &str =
-    "HTTP/1.1 404 Not Found\r\nContent-Type: text/plain; charset=utf-8\r\nContent-Length: ";
-
-pub const NOT_ALLOWED: &str =
-    "HTTP/1.1 405 Method Not Allowed\r\nContent-Type: text/plain; charset=utf-8\r\nContent-Length: ";
-
-pub const PAST: &str =
-    "HTTP/1.1 416 Range Not Satisfiable\r\nContent-Type: text/plain; charset=utf-8\r\nContent-Length: ";
-
-/// Too few shares stand.
-pub const GONE: &str =
-    "HTTP/1.1 410 Gone\r\nContent-Type: text/plain; charset=utf-8\r\nContent-Length: 18\r\n\r\nnot enough shares\n";
-
-/// A line of a script with its answer, or what a client sends or is given, in parts.
-pub enum Step {
-    /// A line, and its answer.
-    Line(&'static str, &'static str),
-    /// This comes on a connection.
-    Sends(&'static str, &'static [&'static str]),
-    /// All that waits on a connection is taken, and it is this.
-    Gives(&'static str, &'static [&'static str]),
-    /// At most so many bytes are taken from a connection, and these are given.
-    Takes(&'static str, &'static str, &'static [&'static str]),
-    /// This and then the big file come on a connection.
-    SendsBig(&'static str, &'static [&'static str]),
-    /// At most so many bytes are taken from a connection: this is given, and then the bytes of the big file from one
-    /// place to another.
-    TakesBig(&'static str, &'static str, &'static [&'static str], usize, usize),
-}
+/// What JSON is called.
+pub const JSON: &str = "application/json";
 
 /// More than any reply has.
-pub const ALL: &str = "4000000";
+const ALL: &str = "4000000";
 
-/// What a script shows, and its steps in groups.
-pub type Case = (&'static str, &'static [&'static [Step]]);
+/// A line of a script with its answer, or what a client sends or is given. Lengths are those that heads give.
+#[derive(Clone, Copy)]
+pub enum Step<'a> {
+    /// A line, and its answer.
+    Line(&'a str, &'a str),
+    /// These bytes come on a connection.
+    Sends(&'a str, &'a [u8]),
+    /// A file is put on a connection: its length, and it.
+    Puts(&'a str, &'a str, &'a [u8]),
+    /// The big file is put on the first connection, which is given its cap.
+    PutsBig,
+    /// A cap is asked for on a connection.
+    Gets(&'a str, &'a str),
+    /// The first connection sends a method and a target, in parts.
+    Asks(&'a [&'a str]),
+    /// The same, with fields beside Host, each with its line end, and a body.
+    AsksWith(&'a [&'a str], &'a str, &'a str),
+    /// The first connection makes a directory of children: the length of their text, and it.
+    Makes(&'a str, &'a str),
+    /// At most so many bytes are taken from a connection, and these are given.
+    Takes(&'a str, &'a str, &'a [u8]),
+    /// All that waits on a connection is taken, and it is this.
+    Gives(&'a str, &'a [u8]),
+    /// A connection is given a cap: its length, and it.
+    GivesCap(&'a str, &'a str, &'a str),
+    /// A connection is given a file: its length, and it.
+    GivesFile(&'a str, &'a str, &'a [u8]),
+    /// A connection is given the big file.
+    GivesBig(&'a str),
+    /// The first connection is given JSON: its length, and it.
+    GivesJson(&'a str, &'a str),
+    /// The first connection is given a status and a line of text: the line's length, and it.
+    Refuses(&'a str, &'a str, &'a str),
+    /// The first connection is given a reply: its status, what its body is, the body's length, further fields, each
+    /// with its line end, and what is sent of the body.
+    Replies(&'a str, &'a str, &'a str, &'a str, &'a [u8]),
+    /// Shares of the big file are lost, by their numbers, where there is one server.
+    Loses(&'a [&'a str]),
+}
 
-/// A grid of one server and one connection.
+/// A grid of one server with ample room and one connection.
 pub const OPENED: &[Step] = &[
     Step::Line("grid 3 10 1 10000000 -", "ok"),
     Step::Line("open 1", "ok"),
 ];
 
-/// The big file is put on the first connection, which is given its cap.
-pub const PUT_BIG: &[Step] = &[
-    Step::SendsBig("1", &[PUT, "200000", END]),
-    Step::Gives("1", &[TEXT, "99", END, BIG]),
+/// A grid of one server with ample room and two connections, on which the big file was put by the first.
+pub const WITH_BIG: &[Step] = &[
+    Step::Line("grid 3 10 1 10000000 -", "ok"),
+    Step::Line("open 1", "ok"),
+    Step::Line("open 2", "ok"),
+    Step::PutsBig,
 ];
-
-/// The first connection asks for the big file, and is given it, or is told that too few shares stand.
-pub const GET_BIG: &[Step] = &[
-    Step::Sends("1", &[GET, BIG, HOST]),
-    Step::TakesBig("1", ALL, &[OCTETS, "200000", END], 0, 200_000),
-];
-
-pub const BIG_IS_GONE: &[Step] = &[
-    Step::Sends("1", &[GET, BIG, HOST]),
-    Step::Gives("1", &[GONE]),
-];
-
-/// The first eight shares of the big file are lost, where there is one server.
-pub const LOSE_EIGHT: &[Step] = &[
-    Step::Line("lose 0 qg2arnqdrcwls5l3fr6ulmwa4y 0", "yes"),
-    Step::Line("lose 0 qg2arnqdrcwls5l3fr6ulmwa4y 1", "yes"),
-    Step::Line("lose 0 qg2arnqdrcwls5l3fr6ulmwa4y 2", "yes"),
-    Step::Line("lose 0 qg2arnqdrcwls5l3fr6ulmwa4y 3", "yes"),
-    Step::Line("lose 0 qg2arnqdrcwls5l3fr6ulmwa4y 4", "yes"),
-    Step::Line("lose 0 qg2arnqdrcwls5l3fr6ulmwa4y 5", "yes"),
-    Step::Line("lose 0 qg2arnqdrcwls5l3fr6ulmwa4y 6", "yes"),
-    Step::Line("lose 0 qg2arnqdrcwls5l3fr6ulmwa4y 7", "yes"),
-];
-
-/// The other two.
-pub const LOSE_TWO: &[Step] = &[
-    Step::Line("lose 0 qg2arnqdrcwls5l3fr6ulmwa4y 8", "yes"),
-    Step::Line("lose 0 qg2arnqdrcwls5l3fr6ulmwa4y 9", "yes"),
-];
-
-/// Runs the scripts of these cases.
-pub fn hold(rt: &(impl Abort + AllocGlobal), cases: &[Case]) -> Result<(), AllocError> {
-    for (shows, groups) in cases {
-        let mut script = Script::new(rt.alloc());
-        for steps in *groups {
-            script.follow(steps)?;
-        }
-        script.holds(rt, shows);
-    }
-    Ok(())
-}
 
 /// A script and the answers that it is to have.
 pub struct Script {
@@ -155,109 +104,233 @@ impl Drop for Script {
 }
 
 impl Script {
-    /// A script without lines.
-    pub fn new(alloc: Global) -> Script {
-        Script {
+    /// A script of these steps.
+    pub fn of(alloc: Global, steps: &[Step]) -> Result<Script, AllocError> {
+        let mut script = Script {
             alloc,
             text: Vec::new(alloc),
             wanted: Vec::new(alloc),
-        }
+        };
+        script.follow(steps)?;
+        Ok(script)
     }
 
     /// These steps come next.
     pub fn follow(&mut self, steps: &[Step]) -> Result<(), AllocError> {
         for step in steps {
-            self.go(step)?;
+            self.go(*step)?;
         }
         Ok(())
     }
 
     /// This step comes next.
-    fn go(&mut self, step: &Step) -> Result<(), AllocError> {
+    pub fn go(&mut self, step: Step) -> Result<(), AllocError> {
         match step {
             Step::Line(line, answer) => self.line(line, answer),
-            Step::Sends(id, parts) => self.sends_parts(id, parts, 0, 0),
-            Step::Gives(id, parts) => self.takes_parts(id, ALL, parts, 0, 0),
-            Step::Takes(id, most, parts) => self.takes_parts(id, most, parts, 0, 0),
-            Step::SendsBig(id, parts) => self.sends_parts(id, parts, 0, 200_000),
-            Step::TakesBig(id, most, parts, from, to) => {
-                self.takes_parts(id, most, parts, *from, *to)
+            Step::Sends(id, piece) => self.sends(id, piece),
+            Step::Puts(id, length, body) => self.puts(id, length, body),
+            Step::PutsBig => self.puts_big(),
+            Step::Gets(id, cap) => self.gets(id, cap),
+            Step::Asks(line) => self.asks(line, "", ""),
+            Step::AsksWith(line, fields, body) => self.asks(line, fields, body),
+            Step::Makes(length, children) => self.makes(length, children),
+            Step::Takes(id, most, given) => self.takes(id, most, given),
+            Step::Gives(id, given) => self.takes(id, ALL, given),
+            Step::GivesCap(id, length, cap) => {
+                self.replies(id, "200 OK", TEXT, length, "", cap.as_bytes())
             }
+            Step::GivesFile(id, length, bytes) => {
+                self.replies(id, "200 OK", OCTETS, length, "", bytes)
+            }
+            Step::GivesBig(id) => self.gives_big(id),
+            Step::GivesJson(length, json) => {
+                self.replies("1", "200 OK", JSON, length, "", json.as_bytes())
+            }
+            Step::Refuses(status, length, line) => {
+                self.replies("1", status, TEXT, length, "", line.as_bytes())
+            }
+            Step::Replies(status, kind, length, fields, body) => {
+                self.replies("1", status, kind, length, fields, body)
+            }
+            Step::Loses(numbers) => self.loses(numbers),
         }
     }
 
     /// A line comes next, and this is its answer.
     fn line(&mut self, line: &str, answer: &str) -> Result<(), AllocError> {
-        add(&mut self.text, line)?;
-        add(&mut self.text, "\n")?;
-        add(&mut self.wanted, answer)?;
-        add(&mut self.wanted, "\n")
+        add(&mut self.text, &[line.as_bytes(), b"\n"])?;
+        add(&mut self.wanted, &[answer.as_bytes(), b"\n"])
     }
 
     /// These bytes come on a connection.
-    pub fn sends(&mut self, id: &str, piece: &[u8]) -> Result<(), AllocError> {
-        add(&mut self.text, "bytes ")?;
-        add(&mut self.text, id)?;
-        add(&mut self.text, " ")?;
+    fn sends(&mut self, id: &str, piece: &[u8]) -> Result<(), AllocError> {
+        add(&mut self.text, &[b"bytes ", id.as_bytes(), b" "])?;
         escape(piece, &mut self.text)?;
         self.line("", "ok")
     }
 
+    /// A file is put on a connection: its length, and it.
+    fn puts(&mut self, id: &str, length: &str, body: &[u8]) -> Result<(), AllocError> {
+        let request = joined(
+            self.alloc,
+            &[
+                b"PUT /uri HTTP/1.1\r\nHost: g\r\nContent-Length: ",
+                length.as_bytes(),
+                b"\r\n\r\n",
+                body,
+            ],
+        )?;
+        self.sends(id, &request)
+    }
+
+    /// The big file is put on the first connection, which is given its cap.
+    fn puts_big(&mut self) -> Result<(), AllocError> {
+        let big = counted_bytes(self.alloc, 200_000)?;
+        self.puts("1", "200000", big.as_slice())?;
+        self.replies("1", "200 OK", TEXT, "99", "", BIG.as_bytes())
+    }
+
+    /// A cap is asked for on a connection.
+    fn gets(&mut self, id: &str, cap: &str) -> Result<(), AllocError> {
+        let request = joined(
+            self.alloc,
+            &[
+                b"GET /uri/",
+                cap.as_bytes(),
+                b" HTTP/1.1\r\nHost: g\r\n\r\n",
+            ],
+        )?;
+        self.sends(id, &request)
+    }
+
+    /// The first connection sends a method and a target, in parts, further fields, each with its line end, and a body.
+    fn asks(&mut self, line: &[&str], fields: &str, body: &str) -> Result<(), AllocError> {
+        let mut request = Vec::new(self.alloc);
+        for part in line {
+            request.extend_from_slice(part.as_bytes())?;
+        }
+        add(
+            &mut request,
+            &[
+                b" HTTP/1.1\r\nHost: g\r\n",
+                fields.as_bytes(),
+                b"\r\n",
+                body.as_bytes(),
+            ],
+        )?;
+        self.sends("1", &request)
+    }
+
+    /// The first connection makes a directory of children: the length of their text, and it.
+    fn makes(&mut self, length: &str, children: &str) -> Result<(), AllocError> {
+        let request = joined(
+            self.alloc,
+            &[
+                b"POST /uri?t=mkdir-immutable HTTP/1.1\r\nHost: g\r\nContent-Length: ",
+                length.as_bytes(),
+                b"\r\n\r\n",
+                children.as_bytes(),
+            ],
+        )?;
+        self.sends("1", &request)
+    }
+
     /// At most so many bytes are taken from a connection, and these are given.
-    pub fn takes(&mut self, id: &str, most: &str, given: &[u8]) -> Result<(), AllocError> {
-        add(&mut self.text, "take ")?;
-        add(&mut self.text, id)?;
-        add(&mut self.text, " ")?;
-        add(&mut self.wanted, "bytes ")?;
+    fn takes(&mut self, id: &str, most: &str, given: &[u8]) -> Result<(), AllocError> {
+        add(
+            &mut self.text,
+            &[b"take ", id.as_bytes(), b" ", most.as_bytes(), b"\n"],
+        )?;
+        add(&mut self.wanted, &[b"bytes "])?;
         escape(given, &mut self.wanted)?;
-        self.line(most, "")
+        add(&mut self.wanted, &[b"\n"])
     }
 
-    /// Parts, and a part of the big file, come on a connection.
-    fn sends_parts(
+    /// All that waits on a connection is this reply.
+    fn replies(
         &mut self,
         id: &str,
-        parts: &[&str],
-        from: usize,
-        to: usize,
+        status: &str,
+        kind: &str,
+        length: &str,
+        fields: &str,
+        body: &[u8],
     ) -> Result<(), AllocError> {
-        let piece = with_big(self.alloc, parts, from, to)?;
-        self.sends(id, &piece)
+        let reply = reply_of(self.alloc, status, kind, length, fields, body)?;
+        self.takes(id, ALL, &reply)
     }
 
-    /// At most so many bytes are taken from a connection: parts, and a part of the big file, are given.
-    fn takes_parts(
-        &mut self,
-        id: &str,
-        most: &str,
-        parts: &[&str],
-        from: usize,
-        to: usize,
-    ) -> Result<(), AllocError> {
-        let given = with_big(self.alloc, parts, from, to)?;
-        self.takes(id, most, &given)
+    /// A connection is given the big file.
+    fn gives_big(&mut self, id: &str) -> Result<(), AllocError> {
+        let big = counted_bytes(self.alloc, 200_000)?;
+        self.replies(id, "200 OK", OCTETS, "200000", "", big.as_slice())
+    }
+
+    /// Shares of the big file are lost, by their numbers.
+    fn loses(&mut self, numbers: &[&str]) -> Result<(), AllocError> {
+        for number in numbers {
+            add(
+                &mut self.text,
+                &[
+                    b"lose 0 qg2arnqdrcwls5l3fr6ulmwa4y ",
+                    number.as_bytes(),
+                    b"\n",
+                ],
+            )?;
+            add(&mut self.wanted, &[b"yes\n"])?;
+        }
+        Ok(())
     }
 
     /// Runs the script, and compares its answers.
-    pub fn holds(&self, rt: &impl Abort, shows: &str) {
+    pub fn holds(&self, rt: &impl Abort) {
         let (answers, fault) = ran(self.alloc, &self.text);
-        assert!(rt; answers.as_slice() == self.wanted.as_slice(), "{shows}");
-        assert_eq!(rt; fault, None, "{shows}");
+        assert!(rt; answers.as_slice() == self.wanted.as_slice());
+        assert_eq!(rt; fault, None);
     }
 }
 
-/// Adds a part.
-fn add(whole: &mut Vec<u8>, part: &str) -> Result<(), AllocError> {
-    whole.extend_from_slice(part.as_bytes())
+/// A reply: its status, what its body is, the body's length, further fields, each with its line end, and what is sent
+/// of the body.
+pub fn reply_of(
+    alloc: Global,
+    status: &str,
+    kind: &str,
+    length: &str,
+    fields: &str,
+    body: &[u8],
+) -> Result<Vec<u8>, AllocError> {
+    joined(
+        alloc,
+        [
+            b"HTTP/1.1 ".as_slice(),
+            status.as_bytes(),
+            b"\r\nContent-Type: ".as_slice(),
+            kind.as_bytes(),
+            b"\r\nContent-Length: ".as_slice(),
+            length.as_bytes(),
+            b"\r\n".as_slice(),
+            fields.as_bytes(),
+            b"\r\n".as_slice(),
+            body,
+        ]
+        .as_slice(),
+    )
 }
 
-/// Parts, and after them the bytes of the big file from one place to another.
-fn with_big(alloc: Global, parts: &[&str], from: usize, to: usize) -> Result<Vec<u8>, AllocError> {
-    let mut whole = Vec::new(alloc);
-    for part in parts {
-        add(&mut whole, part)?;
-    }
-    let big = counted_bytes(alloc, to)?;
-    whole.extend_from_slice(big.get(from..).unwrap_or_default())?;
-    Ok(whole)
+/// Runs the script of these steps.
+pub fn holds(rt: &(impl Abort + AllocGlobal), steps: &[Step]) -> Result<(), AllocError> {
+    holds_after(rt, &[], steps)
+}
+
+/// Runs the script of these steps after others.
+pub fn holds_after(
+    rt: &(impl Abort + AllocGlobal),
+    before: &[Step],
+    steps: &[Step],
+) -> Result<(), AllocError> {
+    let mut script = Script::of(rt.alloc(), before)?;
+    script.follow(steps)?;
+    script.holds(rt);
+    Ok(())
 }

@@ -1,14 +1,9 @@
 //! Heads, ranges, JSON and checks, as scripts with their answers.
 use super::scripts::{
-    BAD, BIG, Case, END, GET, GONE, HOST, HOST_AND, JSON, LINE, LOSE_EIGHT, MISSING, NOT_ALLOWED,
-    OCTETS, OPENED, PART, PAST, PUT_BIG, Step, TEXT, hold,
+    BIG, BIG_VERIFY, JSON, OCTETS, OPENED, Script, Step, TEXT, WITH_BIG, holds_after,
 };
 use super::*;
 use std::alloc::AllocError;
-
-/// The cap that verifies the shares of the big file. Its storage index was made by another program.
-const BIG_VERIFY: &str =
-    "URI:CHK-Verifier:qg2arnqdrcwls5l3fr6ulmwa4y:cvffjve3vt7bw5r2bn4fpzm22wnb5vsv7pduk635eeclhal7bo5q:3:10:200000";
 
 /// The checks of the big file where all its shares are good, and where share 4 is not.
 const HEALTHY: &str =
@@ -17,456 +12,238 @@ const HEALTHY: &str =
 const SPOILED: &str =
     r#"{"results":{"count-corrupt-shares":1,"count-shares-expected":10,"count-shares-good":9,"count-shares-needed":3,"healthy":false,"list-corrupt-shares":[[0,"qg2arnqdrcwls5l3fr6ulmwa4y",4]],"recoverable":true},"storage-index":"qg2arnqdrcwls5l3fr6ulmwa4y"}"#;
 
+#[test]
+fn a_head_is_that_of_the_whole_reply(rt: HostRuntime) -> Result<(), AllocError> {
+    let mut script = Script::of(rt.alloc(), OPENED)?;
+    for (line, status, kind, length) in [
+        ("HEAD /uri/URI:LIT:mzxw6ytboi", "200 OK", OCTETS, "6"),
+        ("HEAD /uri/URI:LIT:mzxw6ytboi?t=json", "200 OK", JSON, "69"),
+        ("HEAD /uri/URI:DIR2-LIT:?t=json", "200 OK", JSON, "68"),
+        ("HEAD /uri/URI:DIR2-LIT:/a", "404 Not Found", TEXT, "14"),
+        ("HEAD /uri/URI:DIR2-LIT:", "400 Bad Request", TEXT, "23"),
+        ("HEAD /x", "404 Not Found", TEXT, "17"),
+    ] {
+        script.follow(&[
+            Step::AsksWith(&[line], "Range: bytes=6-\r\n", ""),
+            Step::Replies(status, kind, length, "", b""),
+        ])?;
+    }
+    script.follow(&[
+        Step::Asks(&["HEAD /uri"]),
+        Step::Replies(
+            "405 Method Not Allowed",
+            TEXT,
+            "19",
+            "Allow: POST, PUT\r\n",
+            b"",
+        ),
+    ])?;
+    script.holds(&rt);
+    Ok(())
+}
+
+/// Ranges of six bytes, with the length of the part that is given, it, and where it stands.
+const PARTS: &[(&str, &str, &[u8], &str)] = &[
+    (
+        "Range: bytes=-2\r\n",
+        "2",
+        b"ar",
+        "Content-Range: bytes 4-5/6\r\n",
+    ),
+    (
+        "Range: bytes=1-1\r\n",
+        "1",
+        b"o",
+        "Content-Range: bytes 1-1/6\r\n",
+    ),
+    (
+        "Range: \tBYTES=4-99 \r\n",
+        "2",
+        b"ar",
+        "Content-Range: bytes 4-5/6\r\n",
+    ),
+    (
+        "Range: bytes=0-\r\n",
+        "6",
+        b"foobar",
+        "Content-Range: bytes 0-5/6\r\n",
+    ),
+    (
+        "Range: bytes=-7\r\n",
+        "6",
+        b"foobar",
+        "Content-Range: bytes 0-5/6\r\n",
+    ),
+];
+
+#[test]
+fn a_part_is_what_a_range_says(rt: HostRuntime) -> Result<(), AllocError> {
+    let mut script = Script::of(rt.alloc(), OPENED)?;
+    for (range, length, given, part) in PARTS {
+        script.follow(&[
+            Step::AsksWith(&["GET /uri/URI:LIT:mzxw6ytboi"], range, ""),
+            Step::Replies("206 Partial Content", OCTETS, length, part, given),
+        ])?;
+    }
+    script.holds(&rt);
+    Ok(())
+}
+
+#[test]
+fn a_range_that_says_nothing_is_ignored(rt: HostRuntime) -> Result<(), AllocError> {
+    let mut script = Script::of(rt.alloc(), OPENED)?;
+    for fields in [
+        "Range: bytes=5-2\r\n",
+        "Range: bytes=0-1,3-4\r\n",
+        "Range: lines=0-1\r\n",
+        "Range: bytes=0-1\r\nRange: bytes=0-1\r\n",
+        "Range: bytes=0-1\r\nIf-Range: \"x\"\r\n",
+    ] {
+        script.follow(&[
+            Step::AsksWith(&["GET /uri/URI:LIT:mzxw6ytboi"], fields, ""),
+            Step::GivesFile("1", "6", b"foobar"),
+        ])?;
+    }
+    script.follow(&[
+        Step::AsksWith(&["GET /uri/URI:LIT:"], "Range: bytes=-5\r\n", ""),
+        Step::GivesFile("1", "0", b""),
+    ])?;
+    script.holds(&rt);
+    Ok(())
+}
+
+#[test]
+fn a_range_past_the_end_is_refused(rt: HostRuntime) -> Result<(), AllocError> {
+    let mut script = Script::of(rt.alloc(), OPENED)?;
+    for (line, range, field) in [
+        (
+            "GET /uri/URI:LIT:",
+            "Range: bytes=0-\r\n",
+            "Content-Range: bytes */0\r\n",
+        ),
+        (
+            "GET /uri/URI:LIT:",
+            "Range: bytes=-0\r\n",
+            "Content-Range: bytes */0\r\n",
+        ),
+        (
+            "GET /uri/URI:LIT:mzxw6ytboi",
+            "Range: bytes=6-\r\n",
+            "Content-Range: bytes */6\r\n",
+        ),
+    ] {
+        script.follow(&[
+            Step::AsksWith(&[line], range, ""),
+            Step::Replies(
+                "416 Range Not Satisfiable",
+                TEXT,
+                "22",
+                field,
+                b"range not satisfiable\n",
+            ),
+        ])?;
+    }
+    script.holds(&rt);
+    Ok(())
+}
+
 /// What describes the big file.
 const BIG_JSON: &str =
     r#"["filenode",{"mutable":false,"ro_uri":"URI:CHK:cpgmyfu7y4nqyhvkcqfcsmnqvq:cvffjve3vt7bw5r2bn4fpzm22wnb5vsv7pduk635eeclhal7bo5q:3:10:200000","size":200000,"verify_uri":"URI:CHK-Verifier:qg2arnqdrcwls5l3fr6ulmwa4y:cvffjve3vt7bw5r2bn4fpzm22wnb5vsv7pduk635eeclhal7bo5q:3:10:200000"}]"#;
 
-/// What needs no share is healthy.
-const ALWAYS_HEALTHY: &str = r#"{"results":{"healthy":true},"storage-index":""}"#;
-
-/// A cap that verifies can't be read.
-const UNREAD: Step = Step::Gives("1", &[BAD, "19", END, "not a readable cap\n"]);
-
-const CASES: &[Case] = &[
-    (
-        "a head is that of the whole reply",
-        &[
-            OPENED,
-            &[
-                Step::Sends(
-                    "1",
-                    &[
-                        "HEAD /uri/URI:LIT:mzxw6ytboi",
-                        HOST_AND,
-                        "Range: bytes=6-\r\n",
-                        LINE,
-                    ],
-                ),
-                Step::Gives("1", &[OCTETS, "6", END]),
-                Step::Sends(
-                    "1",
-                    &[
-                        "HEAD /uri/URI:LIT:mzxw6ytboi?t=json",
-                        HOST_AND,
-                        "Range: bytes=6-\r\n",
-                        LINE,
-                    ],
-                ),
-                Step::Gives("1", &[JSON, "69", END]),
-                Step::Sends(
-                    "1",
-                    &[
-                        "HEAD /uri/URI:DIR2-LIT:?t=json",
-                        HOST_AND,
-                        "Range: bytes=6-\r\n",
-                        LINE,
-                    ],
-                ),
-                Step::Gives("1", &[JSON, "68", END]),
-                Step::Sends(
-                    "1",
-                    &[
-                        "HEAD /uri/URI:DIR2-LIT:/a",
-                        HOST_AND,
-                        "Range: bytes=6-\r\n",
-                        LINE,
-                    ],
-                ),
-                Step::Gives("1", &[MISSING, "14", END]),
-                Step::Sends(
-                    "1",
-                    &[
-                        "HEAD /uri/URI:DIR2-LIT:",
-                        HOST_AND,
-                        "Range: bytes=6-\r\n",
-                        LINE,
-                    ],
-                ),
-                Step::Gives("1", &[BAD, "23", END]),
-                Step::Sends("1", &["HEAD /x", HOST_AND, "Range: bytes=6-\r\n", LINE]),
-                Step::Gives("1", &[MISSING, "17", END]),
-                Step::Sends("1", &["HEAD /uri", HOST]),
-                Step::Gives(
-                    "1",
-                    &[NOT_ALLOWED, "19", LINE, "Allow: POST, PUT\r\n", LINE],
-                ),
-            ],
-        ],
-    ),
-    (
-        "a part is what a range says",
-        &[
-            OPENED,
-            &[
-                Step::Sends(
-                    "1",
-                    &[
-                        "GET /uri/URI:LIT:mzxw6ytboi",
-                        HOST_AND,
-                        "Range: bytes=-2\r\n",
-                        LINE,
-                    ],
-                ),
-                Step::Gives(
-                    "1",
-                    &[
-                        PART,
-                        "2",
-                        LINE,
-                        "Content-Range: bytes 4-5/6\r\n",
-                        LINE,
-                        "ar",
-                    ],
-                ),
-                Step::Sends(
-                    "1",
-                    &[
-                        "GET /uri/URI:LIT:mzxw6ytboi",
-                        HOST_AND,
-                        "Range: bytes=1-1\r\n",
-                        LINE,
-                    ],
-                ),
-                Step::Gives(
-                    "1",
-                    &[PART, "1", LINE, "Content-Range: bytes 1-1/6\r\n", LINE, "o"],
-                ),
-                Step::Sends(
-                    "1",
-                    &[
-                        "GET /uri/URI:LIT:mzxw6ytboi",
-                        HOST_AND,
-                        "Range: \tBYTES=4-99 \r\n",
-                        LINE,
-                    ],
-                ),
-                Step::Gives(
-                    "1",
-                    &[
-                        PART,
-                        "2",
-                        LINE,
-                        "Content-Range: bytes 4-5/6\r\n",
-                        LINE,
-                        "ar",
-                    ],
-                ),
-                Step::Sends(
-                    "1",
-                    &[
-                        "GET /uri/URI:LIT:mzxw6ytboi",
-                        HOST_AND,
-                        "Range: bytes=0-\r\n",
-                        LINE,
-                    ],
-                ),
-                Step::Gives(
-                    "1",
-                    &[
-                        PART,
-                        "6",
-                        LINE,
-                        "Content-Range: bytes 0-5/6\r\n",
-                        LINE,
-                        "foobar",
-                    ],
-                ),
-                Step::Sends(
-                    "1",
-                    &[
-                        "GET /uri/URI:LIT:mzxw6ytboi",
-                        HOST_AND,
-                        "Range: bytes=-7\r\n",
-                        LINE,
-                    ],
-                ),
-                Step::Gives(
-                    "1",
-                    &[
-                        PART,
-                        "6",
-                        LINE,
-                        "Content-Range: bytes 0-5/6\r\n",
-                        LINE,
-                        "foobar",
-                    ],
-                ),
-            ],
-        ],
-    ),
-    (
-        "a range that says nothing is ignored",
-        &[
-            OPENED,
-            &[
-                Step::Sends(
-                    "1",
-                    &[
-                        "GET /uri/URI:LIT:mzxw6ytboi",
-                        HOST_AND,
-                        "Range: bytes=5-2\r\n",
-                        LINE,
-                    ],
-                ),
-                Step::Gives("1", &[OCTETS, "6", END, "foobar"]),
-                Step::Sends(
-                    "1",
-                    &[
-                        "GET /uri/URI:LIT:mzxw6ytboi",
-                        HOST_AND,
-                        "Range: bytes=0-1,3-4\r\n",
-                        LINE,
-                    ],
-                ),
-                Step::Gives("1", &[OCTETS, "6", END, "foobar"]),
-                Step::Sends(
-                    "1",
-                    &[
-                        "GET /uri/URI:LIT:mzxw6ytboi",
-                        HOST_AND,
-                        "Range: lines=0-1\r\n",
-                        LINE,
-                    ],
-                ),
-                Step::Gives("1", &[OCTETS, "6", END, "foobar"]),
-                Step::Sends(
-                    "1",
-                    &[
-                        "GET /uri/URI:LIT:mzxw6ytboi",
-                        HOST_AND,
-                        "Range: bytes=0-1\r\nRange: bytes=0-1\r\n",
-                        LINE,
-                    ],
-                ),
-                Step::Gives("1", &[OCTETS, "6", END, "foobar"]),
-                Step::Sends(
-                    "1",
-                    &[
-                        "GET /uri/URI:LIT:mzxw6ytboi",
-                        HOST_AND,
-                        "Range: bytes=0-1\r\nIf-Range: \"x\"\r\n",
-                        LINE,
-                    ],
-                ),
-                Step::Gives("1", &[OCTETS, "6", END, "foobar"]),
-                Step::Sends(
-                    "1",
-                    &["GET /uri/URI:LIT:", HOST_AND, "Range: bytes=-5\r\n", LINE],
-                ),
-                Step::Gives("1", &[OCTETS, "0", END]),
-            ],
-        ],
-    ),
-    (
-        "a range past the end is refused",
-        &[
-            OPENED,
-            &[
-                Step::Sends(
-                    "1",
-                    &["GET /uri/URI:LIT:", HOST_AND, "Range: bytes=0-\r\n", LINE],
-                ),
-                Step::Gives(
-                    "1",
-                    &[
-                        PAST,
-                        "22",
-                        LINE,
-                        "Content-Range: bytes */0\r\n",
-                        LINE,
-                        "range not satisfiable\n",
-                    ],
-                ),
-                Step::Sends(
-                    "1",
-                    &["GET /uri/URI:LIT:", HOST_AND, "Range: bytes=-0\r\n", LINE],
-                ),
-                Step::Gives(
-                    "1",
-                    &[
-                        PAST,
-                        "22",
-                        LINE,
-                        "Content-Range: bytes */0\r\n",
-                        LINE,
-                        "range not satisfiable\n",
-                    ],
-                ),
-                Step::Sends(
-                    "1",
-                    &[
-                        "GET /uri/URI:LIT:mzxw6ytboi",
-                        HOST_AND,
-                        "Range: bytes=6-\r\n",
-                        LINE,
-                    ],
-                ),
-                Step::Gives(
-                    "1",
-                    &[
-                        PAST,
-                        "22",
-                        LINE,
-                        "Content-Range: bytes */6\r\n",
-                        LINE,
-                        "range not satisfiable\n",
-                    ],
-                ),
-            ],
-        ],
-    ),
-    (
-        "what is in its cap is healthy",
-        &[
-            OPENED,
-            &[
-                // A body is read and ignored.
-                Step::Sends(
-                    "1",
-                    &[
-                        "POST /uri/URI:LIT:my?t=check&output=JSON",
-                        HOST_AND,
-                        "Content-Length: 3\r\n",
-                        LINE,
-                        "foo",
-                    ],
-                ),
-                Step::Gives("1", &[JSON, "47", END, ALWAYS_HEALTHY]),
-                Step::Sends(
-                    "1",
-                    &[
-                        "POST /uri/URI:DIR2-LIT:?output=JSON&verify=true&t=check",
-                        HOST_AND,
-                        "Content-Length: 3\r\n",
-                        LINE,
-                        "foo",
-                    ],
-                ),
-                Step::Gives("1", &[JSON, "47", END, ALWAYS_HEALTHY]),
-            ],
-        ],
-    ),
-];
-
-/// Cases of the big file.
-const BIG_CASES: &[Case] = &[
-    (
-        "a part of a stored file may begin at a segment",
-        &[
-            OPENED,
-            PUT_BIG,
-            &[
-                Step::Sends(
-                    "1",
-                    &[GET, BIG, HOST_AND, "Range: bytes=131072-131074\r\n", LINE],
-                ),
-                Step::Gives(
-                    "1",
-                    &[
-                        PART,
-                        "3",
-                        LINE,
-                        "Content-Range: bytes 131072-131074/200000\r\n",
-                        LINE,
-                        "234",
-                    ],
-                ),
-            ], // That too few shares stand is told before what the range is.
-            LOSE_EIGHT,
-            &[
-                Step::Sends("1", &[GET, BIG, HOST_AND, "Range: bytes=200000-\r\n", LINE]),
-                Step::Gives("1", &[GONE]),
-                // The JSON of a file needs no shares.
-                Step::Sends("1", &[GET, BIG, "?t=json", HOST]),
-                Step::Gives("1", &[JSON, "279", END, BIG_JSON]),
-            ],
-        ],
-    ),
-    (
-        "a check finds the share that was spoiled",
-        &[
-            OPENED,
-            PUT_BIG,
-            &[
-                Step::Line("spoil 0 qg2arnqdrcwls5l3fr6ulmwa4y 4 67084", "yes"),
-                Step::Line("spoil 0 qg2arnqdrcwls5l3fr6ulmwa4y 4 67085", "no"),
-                Step::Sends("1", &["POST /uri/", BIG, "?t=check&output=JSON", HOST]),
-                Step::Gives("1", &[JSON, "216", END, HEALTHY]),
-                Step::Sends(
-                    "1",
-                    &["POST /uri/", BIG, "?t=check&output=JSON&verify=true", HOST],
-                ),
-                Step::Gives("1", &[JSON, "250", END, SPOILED]),
-            ], // Shares that stand are kept, good or not.
-            PUT_BIG,
-            &[
-                Step::Sends(
-                    "1",
-                    &["POST /uri/", BIG, "?t=check&output=JSON&verify=true", HOST],
-                ),
-                Step::Gives("1", &[JSON, "250", END, SPOILED]),
-                Step::Line("spoil 0 qg2arnqdrcwls5l3fr6ulmwa4y 4 67084", "yes"),
-                Step::Sends(
-                    "1",
-                    &["POST /uri/", BIG, "?t=check&output=JSON&verify=true", HOST],
-                ),
-                Step::Gives("1", &[JSON, "216", END, HEALTHY]),
-            ],
-        ],
-    ),
-    (
-        "a verify cap is checked and not read",
-        &[
-            OPENED,
-            PUT_BIG,
-            &[
-                Step::Sends("1", &[GET, BIG_VERIFY, HOST]),
-                UNREAD,
-                Step::Sends("1", &[GET, BIG_VERIFY, "?t=json", HOST]),
-                UNREAD,
-                Step::Sends("1", &[GET, BIG_VERIFY, "/a", HOST]),
-                UNREAD,
-                Step::Sends(
-                    "1",
-                    &["POST /uri/", BIG_VERIFY, "/a?t=check&output=JSON", HOST],
-                ),
-                UNREAD,
-                Step::Sends(
-                    "1",
-                    &["POST /uri/", BIG_VERIFY, "?t=check&output=json", HOST],
-                ),
-                Step::Gives("1", &[JSON, "216", END, HEALTHY]),
-                Step::Sends(
-                    "1",
-                    &[
-                        "POST /uri/",
-                        BIG_VERIFY,
-                        "?t=check&output=json&verify=1",
-                        HOST,
-                    ],
-                ),
-                Step::Gives("1", &[JSON, "216", END, HEALTHY]),
-                Step::Sends(
-                    "1",
-                    &[
-                        "POST /uri/",
-                        BIG_VERIFY,
-                        "?t=check&output=json&verify=OFF",
-                        HOST,
-                    ],
-                ),
-                Step::Gives("1", &[JSON, "216", END, HEALTHY]),
-            ],
-        ],
-    ),
-];
-
 #[test]
-fn heads_ranges_json_and_checks_are_answered(rt: HostRuntime) -> Result<(), AllocError> {
-    hold(&rt, CASES)
+fn a_part_of_a_stored_file_may_begin_at_a_segment(rt: HostRuntime) -> Result<(), AllocError> {
+    holds_after(
+        &rt,
+        WITH_BIG,
+        &[
+            Step::AsksWith(&["GET /uri/", BIG], "Range: bytes=131072-131074\r\n", ""),
+            Step::Replies(
+                "206 Partial Content",
+                OCTETS,
+                "3",
+                "Content-Range: bytes 131072-131074/200000\r\n",
+                b"234",
+            ),
+            // That too few shares stand is told before what the range is.
+            Step::Loses(&["0", "1", "2", "3", "4", "5", "6", "7"]),
+            Step::AsksWith(&["GET /uri/", BIG], "Range: bytes=200000-\r\n", ""),
+            Step::Refuses("410 Gone", "18", "not enough shares\n"),
+            // The JSON of a file needs no shares.
+            Step::Asks(&["GET /uri/", BIG, "?t=json"]),
+            Step::GivesJson("279", BIG_JSON),
+        ],
+    )
 }
 
 #[test]
-fn parts_and_checks_of_a_big_file_are_answered(rt: HostRuntime) -> Result<(), AllocError> {
-    hold(&rt, BIG_CASES)
+fn a_check_finds_the_share_that_was_spoiled(rt: HostRuntime) -> Result<(), AllocError> {
+    holds_after(
+        &rt,
+        WITH_BIG,
+        &[
+            Step::Line("spoil 0 qg2arnqdrcwls5l3fr6ulmwa4y 4 67084", "yes"),
+            Step::Line("spoil 0 qg2arnqdrcwls5l3fr6ulmwa4y 4 67085", "no"),
+            Step::Asks(&["POST /uri/", BIG, "?t=check&output=JSON"]),
+            Step::GivesJson("216", HEALTHY),
+            Step::Asks(&["POST /uri/", BIG, "?t=check&output=JSON&verify=true"]),
+            Step::GivesJson("250", SPOILED),
+            // Shares that stand are kept, good or not.
+            Step::PutsBig,
+            Step::Asks(&["POST /uri/", BIG, "?t=check&output=JSON&verify=true"]),
+            Step::GivesJson("250", SPOILED),
+            Step::Line("spoil 0 qg2arnqdrcwls5l3fr6ulmwa4y 4 67084", "yes"),
+            Step::Asks(&["POST /uri/", BIG, "?t=check&output=JSON&verify=true"]),
+            Step::GivesJson("216", HEALTHY),
+        ],
+    )
+}
+
+#[test]
+fn a_verify_cap_is_checked_and_not_read(rt: HostRuntime) -> Result<(), AllocError> {
+    let unread = Step::Refuses("400 Bad Request", "19", "not a readable cap\n");
+    holds_after(
+        &rt,
+        WITH_BIG,
+        &[
+            Step::Asks(&["GET /uri/", BIG_VERIFY]),
+            unread,
+            Step::Asks(&["GET /uri/", BIG_VERIFY, "?t=json"]),
+            unread,
+            Step::Asks(&["GET /uri/", BIG_VERIFY, "/a"]),
+            unread,
+            Step::Asks(&["POST /uri/", BIG_VERIFY, "/a?t=check&output=JSON"]),
+            unread,
+            Step::Asks(&["POST /uri/", BIG_VERIFY, "?t=check&output=json"]),
+            Step::GivesJson("216", HEALTHY),
+            Step::Asks(&["POST /uri/", BIG_VERIFY, "?t=check&output=json&verify=1"]),
+            Step::GivesJson("216", HEALTHY),
+            Step::Asks(&["POST /uri/", BIG_VERIFY, "?t=check&output=json&verify=OFF"]),
+            Step::GivesJson("216", HEALTHY),
+        ],
+    )
+}
+
+#[test]
+fn what_is_in_its_cap_is_healthy(rt: HostRuntime) -> Result<(), AllocError> {
+    let healthy = r#"{"results":{"healthy":true},"storage-index":""}"#;
+    // A body is read and ignored.
+    holds_after(
+        &rt,
+        OPENED,
+        &[
+            Step::AsksWith(
+                &["POST /uri/URI:LIT:my?t=check&output=JSON"],
+                "Content-Length: 3\r\n",
+                "foo",
+            ),
+            Step::GivesJson("47", healthy),
+            Step::AsksWith(
+                &["POST /uri/URI:DIR2-LIT:?output=JSON&verify=true&t=check"],
+                "Content-Length: 3\r\n",
+                "foo",
+            ),
+            Step::GivesJson("47", healthy),
+        ],
+    )
 }
