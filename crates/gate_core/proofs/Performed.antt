@@ -1,5 +1,5 @@
 -- What carrying out a request comes to, and what refusing it.
-use Rattle.std.proofs.Common.{◌≡◌, ◌≢◌, ℕ, ◌+◌, ◌-◌, ◌≤◌, List, length, Option, Some, None, Result, Ok, Err, sym, ap, subst, ◌∙◌, arith}
+use Rattle.std.proofs.Common.{◌≡◌, ◌≢◌, ℕ, ◌+◌, ◌-◌, ◌≤◌, List, length, Option, Some, None, Result, Ok, Err, refl, sym, ap, subst, ◌∙◌, arith}
 use Rattle.std.specs.Prelude.{IfOk, OnOk, IsErr}
 use Rattle.http_edge.specs.declared.item.Head.{Head}
 use Rattle.grid.specs.Standing.{standing}
@@ -7,6 +7,7 @@ use Rattle.grid.specs.GridState.{GridState, stood, room_at, IsHonest, NoneFailed
 use Rattle.grid.specs.Leaves.{Leaves, IsUnchanged}
 use Rattle.grid.specs.NewBytes.{new_bytes}
 use Rattle.grid.specs.Changed.{ArePut}
+use Rattle.grid.proofs.Puts.{put_none}
 use Rattle.chk_file.specs.Upload.{Upload, index, shares_of}
 use Rattle.chk_file.specs.Marks.{shown}
 use Rattle.chk_file.specs.World.{World, after_upload}
@@ -22,12 +23,13 @@ use Rattle.web_ops.specs.Replies.{refusal_reply}
 use Rattle.web_ops.specs.Uploads.{upload_in, after_stored}
 use Rattle.web_ops.specs.Answers.{request_reply}
 use Rattle.web_ops.specs.Replied.{IsReply}
-use Rattle.web_ops.specs.Changes.{HasRoomFor, IsStoredIn, Follows}
+use Rattle.web_ops.specs.Changes.{HasRoomFor, IsStoredIn, IsBegunIn, Follows}
 use Rattle.gate_core.specs.Settings.{Settings, settings_of}
 use Rattle.gate_core.specs.Requests.{Interpreted, web_head, asked_of}
 use Rattle.gate_core.specs.Uploaded.{BringsBytes}
 use Rattle.gate_core.specs.Rooms.{Rooms, brought_by}
 use Rattle.gate_core.specs.Came.{Shows}
+use Rattle.gate_core.specs.Runs.{upload_asked}
 use Rattle.gate_core.specs.Served.{IsCarriedOut}
 
 -- ---- what the stores show after it
@@ -120,6 +122,21 @@ carried_out e k n secret head body same request r old new is_k is_n is_secret is
     subst (λ asked. IfOk r (λ reply. IsCarriedOut (settings_of e (length old.stores)) asked reply old new)) (sym (asked_as head body same (Ok request) is_head read))
     (subst (λ f. IfOk r (λ reply. IsCarriedOut (settings_of f (length old.stores)) (Ok request) reply old new)) (same_encoding e k n secret is_k is_n is_secret)
     (performed (encoding_of k n secret) request r old new leaves fits written stored follows bytes))
+
+-- a beginning of its upload was put, if any
+pub begun_out : (e : Encoding) (k n : ℕ) (secret : List ℕ) (head : Head) (body : List ℕ) (same : WebHead) (request : Request) (old new : GridState)
+    → k ≡ e.k → n ≡ e.n → secret ≡ e.secret
+    → same ≡ web_head head → interpreted same body ≡ Ok request
+    → (IsHonest old → IsBegunIn (upload_in (encoding_of k n secret) request) old new)
+    → IsHonest old → IsBegunIn (upload_asked e (asked_of head body)) old new
+begun_out e k n secret head body same request old new is_k is_n is_secret is_head read begun honest =
+    subst (λ asked. IsBegunIn (upload_asked e asked) old new) (sym (asked_as head body same (Ok request) is_head read))
+    (subst (λ f. IsBegunIn (upload_in f request) old new) (same_encoding e k n secret is_k is_n is_secret) (begun honest))
+
+-- where nothing was done, nothing of it was put
+pub nothing_begun : (o : Option Upload) (g : GridState) → IsBegunIn o g g
+nothing_begun None g = record { maps = refl; rooms = λ s. refl }
+nothing_begun (Some u) g = (0, put_none (index u) (shares_of u) g)
 
 no_error : {T : Type 0} (E : Type 0) (x : T) → IsErr {T = T} {E = E} (Ok x) → ⊥
 no_error E x e = cc

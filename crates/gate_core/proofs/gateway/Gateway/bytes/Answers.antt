@@ -5,7 +5,7 @@ use Rattle.gate_core.specs.Settings.{settings_of}
 use Rattle.gate_core.specs.Held.{held_at}
 use Rattle.gate_core.proofs.Maps.{Changed-others}
 use Rattle.gate_core.proofs.Forgetting.{lent, no_entry, unheld_refused}
-use Rattle.gate_core.proofs.Arrivals.{same_state, bytes_refused, received, cut_left, received_came, where_open, calm_lent}
+use Rattle.gate_core.proofs.Arrivals.{same_state, bytes_refused, received, cut_left, cut_short, received_came, where_open, calm_lent}
 use Rattle.gate_core.proofs.Isolating.{isolates}
 use Rattle.gate_core.proofs.gateway.Gateway.bytes.Goals as goal
 
@@ -23,6 +23,11 @@ pub returns-clause-no_memory : goal.returns-clause-no_memory
 returns-clause-no_memory g c e =
     let changed = lent c.args.self.now.connections _ _ c.args.id (ap (λ s. s.connections) c.self.view_is) _ c.in-Some.receiver.now c.bytes.new.self c.in-Some.ensures.value (λ some. ((c.get_mut.follows.holds c.bytes.new.self).3 some).0) in
     cut_left c.args.self.now _ c.args.id _ _ (ap (settings_of c.self.inside.parameters) c.bytes.ensures.leaves.servers ∙ ap (λ s. s.settings) c.self.view_is) changed (c.bytes.ensures.no_memory e)
+
+pub returns-clause-cut_short : goal.returns-clause-cut_short
+returns-clause-cut_short g c held found e =
+    let changed = lent c.args.self.now.connections _ _ c.args.id (ap (λ s. s.connections) c.self.view_is) _ c.in-Some.receiver.now c.bytes.new.self c.in-Some.ensures.value (λ some. ((c.get_mut.follows.holds c.bytes.new.self).3 some).0) in
+    cut_short c.args.self.now _ c.args.id _ _ (ap (settings_of c.self.inside.parameters) c.bytes.ensures.leaves.servers ∙ ap (λ s. s.settings) c.self.view_is) changed held c.args.piece.now _ _ (ap (λ s. s.settings) c.self.view_is) (ap (λ s. s.grid) c.self.view_is) found (c.bytes.ensures.no_memory e) (c.bytes.ensures.stopped e)
 
 pub returns-clause-calm : goal.returns-clause-calm
 returns-clause-calm g c quiet =
