@@ -176,11 +176,13 @@ fn failures_said(alloc: Global, at: u64, for_good: bool) -> Result<Option<u64>, 
     Ok(if gone == 1 { Some(failures) } else { None })
 }
 
-/// A store that answers each time with the next of the shares of a file, cut to a length, or with none.
+/// A store that answers each time with the next of the shares of a file, cut to a length, or with none; and what is said of
+/// shares that are verified there.
 struct Lie {
     name: &'static str,
     file: &'static [Part<'static>],
     length: Option<usize>,
+    checked: Part<'static>,
 }
 
 /// Files of 200,000 bytes, whose ten shares have 67,085 bytes each.
@@ -193,51 +195,58 @@ const LIES: &[Lie] = &[
             Part::Times(b"a", 200_000),
         ],
         length: Some(67_085),
+        checked: TEN_BAD,
     },
     Lie {
         name: "cut shares",
         file: PUT_BIG,
         length: Some(67_084),
+        checked: TEN_BAD,
     },
     Lie {
         name: "empty shares",
         file: PUT_BIG,
         length: Some(0),
+        checked: TEN_BAD,
     },
     Lie {
         name: "no shares",
         file: PUT_BIG,
         length: None,
+        checked: NONE_THERE,
     },
 ];
 
-/// The request that puts a file of two segments, its cap, and its storage index.
+/// None of the ten shares is good.
+const TEN_BAD: Part<'static> = Part::Text(
+    b"567\r\n\r\n{\"results\":{\"count-corrupt-shares\":10,\"count-shares-expected\":10,\"count-shares-good\":0,\"count-shares-needed\":3,\"healthy\":false,\"list-corrupt-shares\":[[0,\"qg2arnqdrcwls5l3fr6ulmwa4y\",0],[0,\"qg2arnqdrcwls5l3fr6ulmwa4y\",1],[0,\"qg2arnqdrcwls5l3fr6ulmwa4y\",2],[0,\"qg2arnqdrcwls5l3fr6ulmwa4y\",3],[0,\"qg2arnqdrcwls5l3fr6ulmwa4y\",4],[0,\"qg2arnqdrcwls5l3fr6ulmwa4y\",5],[0,\"qg2arnqdrcwls5l3fr6ulmwa4y\",6],[0,\"qg2arnqdrcwls5l3fr6ulmwa4y\",7],[0,\"qg2arnqdrcwls5l3fr6ulmwa4y\",8],[0,\"qg2arnqdrcwls5l3fr6ulmwa4y\",9]],\"recoverable\":false},\"storage-index\":\"qg2arnqdrcwls5l3fr6ulmwa4y\"}",
+);
+
+/// None of the ten shares is given.
+const NONE_THERE: Part<'static> = Part::Text(
+    b"217\r\n\r\n{\"results\":{\"count-corrupt-shares\":0,\"count-shares-expected\":10,\"count-shares-good\":0,\"count-shares-needed\":3,\"healthy\":false,\"list-corrupt-shares\":[],\"recoverable\":false},\"storage-index\":\"qg2arnqdrcwls5l3fr6ulmwa4y\"}",
+);
+
+/// The request that puts a file of two segments, and its cap.
 const PUT_BIG: &[Part<'static>] = &[PUT, Part::Text(b"200000\r\n\r\n"), Part::Counted(200_000)];
 
 const BIG: Part<'static> = Part::Text(
     b"URI:CHK:cpgmyfu7y4nqyhvkcqfcsmnqvq:cvffjve3vt7bw5r2bn4fpzm22wnb5vsv7pduk635eeclhal7bo5q:3:10:200000",
 );
 
-/// The file is said to be stored, is not found, and none of its ten shares is good.
+/// The file is said to be stored, and is not found.
 const LIED: &[Step<'static>] = &[
     Step::Open(1, None, Ok(())),
     Step::Ask(1, PUT_BIG, &[TEXT, Part::Text(b"99\r\n\r\n"), BIG]),
     Step::Ask(1, &[GET, BIG, HTTP], NOT_FOUND),
-    Step::Ask(
-        1,
-        &[
-            Part::Text(b"POST /uri/"),
-            BIG,
-            Part::Text(b"?t=check&output=JSON&verify=true"),
-            HTTP,
-        ],
-        &[
-            JSON,
-            Part::Text(
-                b"567\r\n\r\n{\"results\":{\"count-corrupt-shares\":10,\"count-shares-expected\":10,\"count-shares-good\":0,\"count-shares-needed\":3,\"healthy\":false,\"list-corrupt-shares\":[[0,\"qg2arnqdrcwls5l3fr6ulmwa4y\",0],[0,\"qg2arnqdrcwls5l3fr6ulmwa4y\",1],[0,\"qg2arnqdrcwls5l3fr6ulmwa4y\",2],[0,\"qg2arnqdrcwls5l3fr6ulmwa4y\",3],[0,\"qg2arnqdrcwls5l3fr6ulmwa4y\",4],[0,\"qg2arnqdrcwls5l3fr6ulmwa4y\",5],[0,\"qg2arnqdrcwls5l3fr6ulmwa4y\",6],[0,\"qg2arnqdrcwls5l3fr6ulmwa4y\",7],[0,\"qg2arnqdrcwls5l3fr6ulmwa4y\",8],[0,\"qg2arnqdrcwls5l3fr6ulmwa4y\",9]],\"recoverable\":false},\"storage-index\":\"qg2arnqdrcwls5l3fr6ulmwa4y\"}",
-            ),
-        ],
-    ),
+];
+
+/// The request that verifies its shares.
+const VERIFY_BIG: &[Part<'static>] = &[
+    Part::Text(b"POST /uri/"),
+    BIG,
+    Part::Text(b"?t=check&output=JSON&verify=true"),
+    HTTP,
 ];
 
 #[test]
@@ -245,6 +254,8 @@ fn a_store_that_lies_gives_no_other_bytes(rt: HostRuntime) -> Result<(), Fail> {
     for lie in LIES {
         let mut play = lying(rt.alloc(), lie)?;
         assert_eq!(rt; play.gone(LIED)?, LIED.len(), "{}", lie.name);
+        let verified = Step::Ask(1, VERIFY_BIG, &[JSON, lie.checked]);
+        assert_eq!(rt; play.gone(&[verified])?, 1, "{}", lie.name);
     }
     Ok(())
 }
@@ -256,22 +267,36 @@ fn lying(alloc: Global, lie: &Lie) -> Result<Play<Liar>, Fail> {
     Play::over(alloc, &ONE, stores)
 }
 
-/// The answers of a store that lies so: in the image of the file's shares 20 bytes stand before them, and 32 before each.
+/// The answers of a store that lies so.
 fn answers_of(alloc: Global, lie: &Lie) -> Result<Vec<RcSlice<u8>>, Fail> {
+    match lie.length {
+        Some(length) => shares_in(alloc, &image_after(alloc, lie.file)?, length),
+        None => Ok(Vec::new(alloc)),
+    }
+}
+
+/// The image of a store after a request.
+fn image_after(alloc: Global, request: &[Part<'_>]) -> Result<Vec<u8>, Fail> {
     let mut play = Play::new(alloc, &ONE)?;
     play.goes_on(Step::Open(1, None, Ok(())))?;
-    play.goes_on(Step::Send(1, lie.file, Ok(())))?;
-    let image = play.image()?;
-    let mut answers = Vec::new(alloc);
-    if let Some(length) = lie.length {
-        for share in image.get(20..).ok_or("no shares")?.chunks(67_117) {
-            let bytes = share
-                .get(32..)
-                .ok_or("no share")?
-                .get(..length)
-                .ok_or("too short")?;
-            answers.push(RcSlice::from_vec(Vec::from_slice(alloc, bytes)?)?)?;
-        }
+    play.goes_on(Step::Send(1, request, Ok(())))?;
+    play.image()
+}
+
+/// The shares in an image, each cut to this length: 20 bytes stand before them, and 32 before each.
+fn shares_in(alloc: Global, image: &[u8], length: usize) -> Result<Vec<RcSlice<u8>>, Fail> {
+    let mut shares = Vec::new(alloc);
+    let rest = image.get(20..).ok_or("no shares")?;
+    for share in rest.chunks(67_117) {
+        shares.push(cut_share(alloc, share, length)?)?;
     }
-    Ok(answers)
+    Ok(shares)
+}
+
+/// A share with what stands before it, cut to this length.
+fn cut_share(alloc: Global, share: &[u8], length: usize) -> Result<RcSlice<u8>, Fail> {
+    let bytes = share.get(32..).ok_or("no share")?;
+    let cut = bytes.get(..length).ok_or("too short")?;
+    let copy = Vec::from_slice(alloc, cut)?;
+    Ok(RcSlice::from_vec(copy)?)
 }
