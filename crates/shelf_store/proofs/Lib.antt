@@ -1,0 +1,4 @@
+pub mod Doubts
+pub mod Opens
+pub mod Sizes
+pub mod Steps

@@ -1,0 +1,291 @@
+-- From one state of a store and its shelf to the next.
+use Rattle.std.proofs.Common.{Result, Ok, Err, ◌≡◌, ◌<◌, ◌≤◌, ℕ, Bool, true, false, cond, not, List, [], length, Option, Some, None, is_some, refl, sym, ap, subst, ◌∙◌, arith, inl, inr}
+use Rattle.std.specs.Prelude.{◌⊎◌, IsTrue, unwrap_or, nat_lt}
+use Rattle.std.proofs.lemmas.Bool.{cases_lt, lt-ltb, ltb-true}
+use Rattle.std.proofs.lemmas.List.{length-replicate}
+use Rattle.std.specs.Option.{option_map}
+use Rattle.std.specs.Ordering.{eq_by_cmp}
+use Rattle.std.specs.Cmp.{eq_by_cmp_equiv}
+use Rattle.std.specs.FinMap.{get, contains_key, insert, remove, get-insert, get-remove, same_map}
+use Rattle.std.proofs.lemmas.Map.Views.{tells_apart}
+use Rattle.share_store.specs.Shares.{Shares, ShareKey, key_cmp}
+use Rattle.share_store.specs.MapLaws.{key_cmp_total, key_cmp_exact}
+use Rattle.share_store.specs.Put.{put_once}
+use Rattle.share_store.specs.Toggle.{toggled, bytes_at, has_byte, with_toggle}
+use Rattle.share_shelf.specs.Left.{Keeps, IsEither, LeavesOnly, IsQuiet}
+use Rattle.shelf_store.specs.Doubt.{InDoubt, as_before}
+use Rattle.shelf_store.specs.Sizes.{blank, sizes_of}
+use Rattle.shelf_store.specs.Step.{IsInStep, Crashes}
+use Rattle.shelf_store.specs.SizeLaws.{as_long}
+use Rattle.shelf_store.proofs.Sizes.{is_some-map, contains_as, none_as}
+
+-- ---- shares
+
+same_shares : (m n : Shares) → ((q : ShareKey) → get m q ≡ get n q) → m ≡ n
+same_shares m n h = same_map key_cmp_total key_cmp_exact m n h
+
+-- the same at each other key
+abbrev pub IsSameBut : ShareKey → Shares → Shares → Type 0
+IsSameBut key m n = (q : ShareKey) → eq_by_cmp key_cmp q key ≡ false → get n q ≡ get m q
+
+pub same_but_put : (key : ShareKey) (m : Shares) (b : List ℕ) → IsSameBut key m (insert m key b)
+same_but_put key m b q other = get-insert key_cmp_total m key b q ∙ ap (λ t. cond t (Some b) (get m q)) other
+
+pub same_but_lost : (key : ShareKey) (m : Shares) → IsSameBut key m (remove m key)
+same_but_lost key m q other = get-remove key_cmp_total m key q ∙ ap (λ t. cond t None (get m q)) other
+
+-- shares in which one place may have changed, with that place as it was
+pub put_back : (key : ShareKey) (before : Option (List ℕ)) (m n : Shares) → get m key ≡ before → IsSameBut key m n → as_before (Some (key, before)) n ≡ m
+put_back key None m n found same = same_shares (remove n key) m (λ q. get-remove key_cmp_total n key q ∙ by_case q (eq_by_cmp key_cmp q key) refl)
+  where
+    by_case : (q : ShareKey) (t : Bool) → eq_by_cmp key_cmp q key ≡ t → cond t None (get n q) ≡ get m q
+    by_case q true is = sym (ap (get m) (tells_apart key_cmp_exact q key is) ∙ found)
+    by_case q false is = same q is
+put_back key (Some b) m n found same = same_shares (insert n key b) m (λ q. get-insert key_cmp_total n key b q ∙ by_case q (eq_by_cmp key_cmp q key) refl)
+  where
+    by_case : (q : ShareKey) (t : Bool) → eq_by_cmp key_cmp q key ≡ t → cond t (Some b) (get n q) ≡ get m q
+    by_case q true is = sym (ap (get m) (tells_apart key_cmp_exact q key is) ∙ found)
+    by_case q false is = same q is
+
+-- what stood at the place in doubt
+pub at_doubt : (key : ShareKey) (before : Option (List ℕ)) (m : Shares) → get (as_before (Some (key, before)) m) key ≡ before
+at_doubt key None m = get-remove key_cmp_total m key key ∙ ap (λ t. cond t None (get m key)) ((eq_by_cmp_equiv key_cmp_total).refl key)
+at_doubt key (Some b) m = get-insert key_cmp_total m key b key ∙ ap (λ t. cond t (Some b) (get m key)) ((eq_by_cmp_equiv key_cmp_total).refl key)
+
+-- and at each other
+pub off_doubt : (key q : ShareKey) (before : Option (List ℕ)) (m : Shares) → eq_by_cmp key_cmp q key ≡ false → get (as_before (Some (key, before)) m) q ≡ get m q
+off_doubt key q None m other = same_but_lost key m q other
+off_doubt key q (Some b) m other = same_but_put key m b q other
+
+pub put_is : (m : Shares) (key : ShareKey) (b : List ℕ) → contains_key m key ≡ false → put_once m key b ≡ insert m key b
+put_is m key b none = ap (λ t. cond t m (insert m key b)) none
+
+pub put_stays : (m : Shares) (key : ShareKey) (b : List ℕ) → contains_key m key ≡ true → put_once m key b ≡ m
+put_stays m key b some = ap (λ t. cond t m (insert m key b)) some
+
+pub none_there : (m : Shares) (key : ShareKey) → contains_key m key ≡ false → get m key ≡ None
+none_there m key is = by_case (get m key) is
+  where
+    by_case : (o : Option (List ℕ)) → is_some o ≡ false → o ≡ None
+    by_case None e = refl
+    by_case (Some x) e = cc
+
+-- a share that was put where none stood, taken out again
+pub put_undone : (m : Shares) (key : ShareKey) (b : List ℕ) → contains_key m key ≡ false → remove (insert m key b) key ≡ m
+put_undone m key b none = put_back key None m (insert m key b) (none_there m key none) (same_but_put key m b)
+
+-- a share that doesn't stand, taken out
+pub remove_none : (m : Shares) (key : ShareKey) → contains_key m key ≡ false → remove m key ≡ m
+remove_none m key none = put_back key None m m (none_there m key none) (λ q other. refl)
+
+-- a bit of a share that stands, changed
+pub toggles_as : (m : Shares) (key : ShareKey) (place : ℕ) (old new : List ℕ) → get m key ≡ Some old → place < length old → new ≡ toggled old place → insert m key new ≡ with_toggle m key place
+toggles_as m key place old new found lt is =
+    ap (insert m key) is
+    ∙ sym (ap (λ (o : Option (List ℕ)). cond (nat_lt place (length (unwrap_or o []))) (insert m key (toggled (unwrap_or o []) place)) m) found
+    ∙ ap (λ b. cond b (insert m key (toggled old place)) m) (lt-ltb place (length old) lt))
+
+-- ---- the shelf
+
+module _ {H : Type 0} (moment : H → ℕ) (left_since : H → ℕ → Shares → Type 0) where
+  pub quiet_keeps : (old new : H) (m : Shares) → IsQuiet moment left_since old new → Keeps moment left_since old m → Keeps moment left_since new m
+  quiet_keeps old new m quiet keeps c left =
+      let at : left_since new (moment old) c = subst (λ t. left_since new t c) quiet.same_moment left in
+      keeps c (quiet.nothing_else (moment old) c at)
+
+  pub quiet_trans : (a b d : H) → IsQuiet moment left_since a b → IsQuiet moment left_since b d → IsQuiet moment left_since a d
+  quiet_trans a b d one two = record {
+    same_moment = two.same_moment ∙ one.same_moment;
+    nothing_else = λ t c left. one.nothing_else t c (two.nothing_else t c left);
+  }
+
+  pub quiet_same : (a : H) → IsQuiet moment left_since a a
+  quiet_same a = record { same_moment = refl; nothing_else = λ t c left. left }
+
+  -- a look, and then a change
+  pub quiet_leaves : (a b d : H) (P : Shares → Type 0) → IsQuiet moment left_since a b → LeavesOnly moment left_since b d P → LeavesOnly moment left_since a d P
+  quiet_leaves a b d P quiet leaves = record {
+    later = subst (λ t. t ≤ moment d) quiet.same_moment leaves.later;
+    since = λ t c le left. elim (leaves.since t c (subst (λ u. t ≤ u) (sym quiet.same_moment) le) left) [ inl was ↦ inl (quiet.nothing_else t c was) | inr now ↦ inr now ];
+  }
+
+  pub leaves_nothing : (a b : H) (P : Shares → Type 0) → IsQuiet moment left_since a b → LeavesOnly moment left_since a b P
+  leaves_nothing a b P quiet = record {
+    later = omega (arith, quiet.same_moment);
+    since = λ t c le left. inl (quiet.nothing_else t c left);
+  }
+
+  pub leaves_as : (old new : H) (m n k : Shares) → n ≡ k → LeavesOnly moment left_since old new (IsEither m n) → LeavesOnly moment left_since old new (IsEither m k)
+  leaves_as old new m n k same leaves = subst (λ (s : Shares). LeavesOnly moment left_since old new (IsEither m s)) same leaves
+
+module _ {H : Type 0} (moment : H → ℕ) (left_since : H → ℕ → Shares → Type 0) (honest : H → Bool) (shares : H → Shares) where
+  -- a call that looks
+  pub step_quiet : (doubt : InDoubt) (old new : H) (index : Shares) → IsInStep moment left_since honest shares doubt old index → IsQuiet moment left_since old new → honest new ≡ honest old
+      → (IsTrue (honest old) → shares new ≡ shares old) → IsInStep moment left_since honest shares doubt new index
+  step_quiet doubt old new index step quiet same_honest same = record {
+    sizes = λ h. let was : IsTrue (honest old) = subst IsTrue same_honest h in step.sizes was ∙ ap (λ (s : Shares). sizes_of (as_before doubt s)) (sym (same was));
+    left = λ h c left.
+        let was : IsTrue (honest old) = subst IsTrue same_honest h in
+        step.left was c (quiet.nothing_else (moment old) c (subst (λ t. left_since new t c) quiet.same_moment left)) ∙ ap (as_before doubt) (sym (same was));
+  }
+
+  -- a shelf that isn't in doubt keeps what stands
+  pub keeps_now : (doubt : InDoubt) (shelf : H) (index : Shares) → IsInStep moment left_since honest shares doubt shelf index → doubt ≡ None → IsTrue (honest shelf) → Keeps moment left_since shelf (as_before doubt (shares shelf))
+  keeps_now doubt shelf index step up h c left = sym (ap (λ (d : InDoubt). as_before d c) up) ∙ step.left h c left
+
+  -- what an honest shelf stands for once it keeps these shares
+  pub now_stands : (doubt : InDoubt) (shelf : H) (n : Shares) → doubt ≡ None → n ≡ shares shelf → as_before doubt (shares shelf) ≡ n
+  now_stands doubt shelf n up is = ap (λ (d : InDoubt). as_before d (shares shelf)) up ∙ sym is
+
+  -- a change that was done
+  pub step_done : (doubt : InDoubt) (new : H) (index n : Shares) → doubt ≡ None → (IsTrue (honest new) → Keeps moment left_since new n) → (IsTrue (honest new) → n ≡ shares new) → (IsTrue (honest new) → sizes_of index ≡ sizes_of n)
+      → IsInStep moment left_since honest shares doubt new index
+  step_done doubt new index n up keeps is sizes = record {
+    sizes = λ h. sizes h ∙ ap sizes_of (sym (now_stands doubt new n up (is h)));
+    left = λ h c left. ap (λ (d : InDoubt). as_before d c) up ∙ keeps h c left ∙ sym (now_stands doubt new n up (is h));
+  }
+
+  module _ (doubt : InDoubt) (old new : H) (index : Shares) (key : ShareKey) (before : Option (List ℕ)) (n : Shares)
+      (step : IsInStep moment left_since honest shares doubt old index) (up : doubt ≡ None) (found : IsTrue (honest old) → get (as_before doubt (shares old)) key ≡ before)
+      (same : IsSameBut key (as_before doubt (shares old)) n)
+      (narrows : (shelf : H) (t u : ℕ) (c : Shares) → t ≤ u → left_since shelf u c → left_since shelf t c)
+      (crash : IsTrue (honest old) → LeavesOnly moment left_since old new (IsEither (as_before doubt (shares old)) n))
+      (stands : IsTrue (honest old) → left_since new (moment new) (shares new)) where
+    -- whatever is left of a change in which the shelf failed, what stood before it is known
+    back : (c : Shares) → IsTrue (honest old) → left_since new (moment new) c → as_before (Some (key, before)) c ≡ as_before doubt (shares old)
+    back c h left =
+        let m : Shares = as_before doubt (shares old) in
+        let leaves = crash h in
+        let from_m : c ≡ m → as_before (Some (key, before)) c ≡ m = λ is. ap (as_before (Some (key, before))) is ∙ put_back key before m m (found h) (λ q other. refl) in
+        let from_n : c ≡ n → as_before (Some (key, before)) c ≡ m = λ is. ap (as_before (Some (key, before))) is ∙ put_back key before m n (found h) same in
+        elim (leaves.since (moment old) c (omega arith) (narrows new (moment old) (moment new) c leaves.later left)) [
+          | inl was ↦ from_m (keeps_now doubt old index step up h c was)
+          | inr either ↦ elim either [ inl is ↦ from_m is | inr is ↦ from_n is ]
+        ]
+
+    pub still_stands : IsTrue (honest old) → as_before (Some (key, before)) (shares new) ≡ as_before doubt (shares old)
+    still_stands h = back (shares new) h (stands h)
+
+    pub step_failed : honest new ≡ honest old → IsInStep moment left_since honest shares (Some (key, before)) new index
+    step_failed same_honest = record {
+      sizes = λ h. let was : IsTrue (honest old) = subst IsTrue same_honest h in step.sizes was ∙ ap sizes_of (sym (still_stands was));
+      left = λ h c left. let was : IsTrue (honest old) = subst IsTrue same_honest h in back c was left ∙ sym (still_stands was);
+    }
+
+  -- ---- a crash
+
+  pub crash_none : (doubt : InDoubt) (shelf : H) (m n : Shares) → Crashes moment left_since honest shares doubt shelf shelf m n
+  crash_none doubt shelf m n = record {
+    up = λ d h. leaves_nothing moment left_since shelf shelf (IsEither m n) (quiet_same moment left_since shelf);
+    left_alone = λ d. refl;
+    same_honest = refl;
+  }
+
+  pub crash_up : (doubt : InDoubt) (old new : H) (m n : Shares) → doubt ≡ None → honest new ≡ honest old → (IsTrue (honest old) → LeavesOnly moment left_since old new (IsEither m n)) → Crashes moment left_since honest shares doubt old new m n
+  crash_up doubt old new m n up same crash = record {
+    up = λ d h. crash h;
+    left_alone = λ d. let clash : true ≡ false = sym d ∙ ap is_some up in cc;
+    same_honest = same;
+  }
+
+  pub crash_down : (doubt : InDoubt) (old new : H) (m n : Shares) → is_some doubt ≡ true → new ≡ old → Crashes moment left_since honest shares doubt old new m n
+  crash_down doubt old new m n down same = record {
+    up = λ none h. let clash : true ≡ false = sym down ∙ ap is_some none in cc;
+    left_alone = λ d. same;
+    same_honest = ap honest same;
+  }
+
+  -- ---- a shelf that isn't in doubt, and what comes of a change
+
+  module _ (keeps : (shelf : H) (m : Shares) → IsTrue (honest shelf) → Keeps moment left_since shelf m → m ≡ shares shelf)
+      (doubt : InDoubt) (old new : H) (index : Shares) (step : IsInStep moment left_since honest shares doubt old index) (up : doubt ≡ None) (same_honest : honest new ≡ honest old) where
+    -- it was done
+    module _ (n : Shares) (done : IsTrue (honest old) → Keeps moment left_since old (as_before doubt (shares old)) → Keeps moment left_since new n) where
+      kept_then : IsTrue (honest old) → Keeps moment left_since new n
+      kept_then h = done h (keeps_now doubt old index step up h)
+
+      pub done_stands : IsTrue (honest old) → as_before doubt (shares new) ≡ n
+      done_stands h = now_stands doubt new n up (keeps new n (subst IsTrue (sym same_honest) h) (kept_then h))
+
+      pub done_step : (after : Shares) → (IsTrue (honest old) → sizes_of index ≡ sizes_of (as_before doubt (shares old)) → sizes_of after ≡ sizes_of n) → IsInStep moment left_since honest shares doubt new after
+      done_step after sizes = step_done doubt new after n up
+          (λ h. kept_then (subst IsTrue same_honest h))
+          (λ h. keeps new n h (kept_then (subst IsTrue same_honest h)))
+          (λ h. let was : IsTrue (honest old) = subst IsTrue same_honest h in sizes was (step.sizes was))
+
+    -- there was no memory for it
+    module _ (quiet : IsQuiet moment left_since old new) where
+      pub quiet_stands : IsTrue (honest old) → as_before doubt (shares new) ≡ as_before doubt (shares old)
+      quiet_stands = done_stands (as_before doubt (shares old)) (λ h kept. quiet_keeps moment left_since old new (as_before doubt (shares old)) quiet kept)
+
+      pub quiet_step : (after : Shares) → after ≡ index → IsInStep moment left_since honest shares doubt new after
+      quiet_step after same = done_step (as_before doubt (shares old)) (λ h kept. quiet_keeps moment left_since old new (as_before doubt (shares old)) quiet kept) after (λ h is. ap sizes_of same ∙ is)
+
+    -- a crash in it
+    pub told : (n k : Shares) → (IsTrue (honest old) → n ≡ k) → (IsTrue (honest old) → Keeps moment left_since old (as_before doubt (shares old)) → LeavesOnly moment left_since old new (IsEither (as_before doubt (shares old)) n))
+        → Crashes moment left_since honest shares doubt old new (as_before doubt (shares old)) k
+    told n k same crash = crash_up doubt old new (as_before doubt (shares old)) k up same_honest (λ h.
+        leaves_as moment left_since old new (as_before doubt (shares old)) n k (same h) (crash h (keeps_now doubt old index step up h)))
+
+  -- a crash in a call that looks and then changes
+  pub looked_told : (doubt : InDoubt) (old mid new : H) (was m : Shares) (f : Shares → Shares) → doubt ≡ None → IsQuiet moment left_since old mid → honest mid ≡ honest old → honest new ≡ honest mid → (IsTrue (honest old) → m ≡ was)
+      → (IsTrue (honest mid) → LeavesOnly moment left_since mid new (IsEither m (f m))) → Crashes moment left_since honest shares doubt old new was (f was)
+  looked_told doubt old mid new was m f up quiet same_mid same_new is crash = crash_up doubt old new was (f was) up (same_new ∙ same_mid) (λ h.
+      quiet_leaves moment left_since old mid new (IsEither was (f was)) quiet
+      (subst (λ (s : Shares). LeavesOnly moment left_since mid new (IsEither s (f s))) (is h) (crash (subst IsTrue (sym same_mid) h))))
+
+  -- a crash in one that only looked
+  pub looked_crash : (doubt : InDoubt) (old new : H) (m n : Shares) → doubt ≡ None → IsQuiet moment left_since old new → honest new ≡ honest old → Crashes moment left_since honest shares doubt old new m n
+  looked_crash doubt old new m n up quiet same = crash_up doubt old new m n up same (λ h. leaves_nothing moment left_since old new (IsEither m n) quiet)
+
+-- ---- what the index says
+
+module _ (index m : Shares) (sizes : sizes_of index ≡ sizes_of m) (key : ShareKey) where
+  pub is_in : (b : Bool) (o : Option ℕ) → b ≡ is_some o → option_map blank o ≡ get index key → contains_key m key ≡ b
+  is_in b o is found = sym (contains_as index m sizes key) ∙ ap is_some (sym found) ∙ is_some-map blank o ∙ sym is
+
+  pub not_in : (b : Bool) (o : Option ℕ) → b ≡ is_some o → option_map blank o ≡ get index key → b ≡ false → contains_key m key ≡ false
+  not_in b o is found off = is_in b o is found ∙ off
+
+pub absent : (index : Shares) (key : ShareKey) (b : Bool) (o : Option ℕ) → b ≡ is_some o → option_map blank o ≡ get index key → b ≡ false → get index key ≡ None
+absent index key b o is found off = sym found ∙ by_case o (sym is ∙ off)
+  where
+    by_case : (p : Option ℕ) → is_some p ≡ false → option_map blank p ≡ None
+    by_case None e = refl
+    by_case (Some x) e = cc
+
+-- ---- a byte of a share
+
+-- a call that gave something didn't fail
+pub no_failure : {X E : Type 0} (r : Result (Option X) E) (x : X) (a b : ℕ) → r ≡ Ok (Some x) → (a < b → r ≡ Ok None) → a ≤ b → b ≡ a
+no_failure {X} {E} r x a b is none le = elim (cases_lt a b) [
+  | inl lt ↦ (let both : ◌≡◌ {A = Result (Option X) E} (Ok (Some x)) (Ok None) = sym is ∙ none lt in cc)
+  | inr ge ↦ omega arith
+]
+
+pub byte_there : (m : Shares) (key : ShareKey) (place : ℕ) (old : List ℕ) → get m key ≡ Some old → place < length old → has_byte m key place ≡ true
+byte_there m key place old found lt = ap (λ (o : Option (List ℕ)). nat_lt place (length (unwrap_or o []))) found ∙ lt-ltb place (length old) lt
+
+module _ (index m : Shares) (key : ShareKey) (place : ℕ) where
+  far : (n : ℕ) → n ≤ place → nat_lt place n ≡ false
+  far n le = by_case (nat_lt place n) refl
+    where
+      by_case : (b : Bool) → nat_lt place n ≡ b → nat_lt place n ≡ false
+      by_case true is = absurd (omega (arith, ltb-true place n is))
+      by_case false is = is
+
+  pub none_no_byte : sizes_of index ≡ sizes_of m → get index key ≡ None → has_byte m key place ≡ false
+  none_no_byte sizes none = ap (λ (o : Option (List ℕ)). nat_lt place (length (unwrap_or o []))) (none_as index m sizes key none) ∙ far 0 (omega arith)
+
+  pub no_byte : (size : ℕ) → sizes_of index ≡ sizes_of m → get index key ≡ Some (blank size) → size ≤ place → has_byte m key place ≡ false
+  no_byte size sizes found le = by_case (get m key) refl (sym (as_long index m sizes key) ∙ ap (option_map length) found)
+    where
+      by_case : (o : Option (List ℕ)) → get m key ≡ o → option_map length o ≡ Some (length (blank size)) → has_byte m key place ≡ false
+      by_case None is long = cc
+      by_case (Some v) is long =
+          let same : length v ≡ length (blank size) = cc in
+          let blank_long : length (blank size) ≡ size = length-replicate size 0 in
+          ap (λ (o : Option (List ℕ)). nat_lt place (length (unwrap_or o []))) is ∙ far (length v) (omega (arith, same, blank_long))
+
+pub toggles_none : (m : Shares) (key : ShareKey) (place : ℕ) → has_byte m key place ≡ false → with_toggle m key place ≡ m
+toggles_none m key place off = ap (λ t. cond t (insert m key (toggled (bytes_at m key) place)) m) off

@@ -1,0 +1,37 @@
+use Rattle.std.proofs.Common.{◌∙◌, slice_get, sym, ap}
+use Rattle.std.specs.Option.{option_map}
+use Rattle.shelf_store.specs.Sizes.{blank}
+use Rattle.share_store.specs.Shares.{Entry}
+use Rattle.share_store.proofs.Levels.{entries_in}
+use Rattle.share_store.proofs.Parts.{passed_before, passed_more, passed_to, found_next, found_none}
+use Rattle.shelf_store.proofs.length_map.LengthMap.nth.Goals as goal
+
+pub loop-index-init : goal.loop-index-init
+loop-index-init c =
+    let m = c.args.self.now in
+    let start = c.start_for-from in
+    passed_before blank m.indexes.entries c.into_iter-index-iterator.result start.result.1 c.args.at start.result.0 m.kept.ordered (c.into_iter-index-iterator.ensures.into_iter_gives ∙ c.range-index-items.ensures.between tt) start.ensures.counted start.ensures.within
+
+pub invariant_of-self-then-left-count : goal.invariant_of-self-then-left-count
+invariant_of-self-then-left-count c =
+    let m = c.args.self.now in
+    record {
+      kept = m.kept;
+      counted = passed_to blank m.indexes.entries c.loop-index.index-iterator c.loop-index.before c.args.at c.loop-index.invariant c.in-Some.index.now c.in-Some.numbers.now c.next.new.self m.kept.ordered c.in-Some.ensures.steps;
+    }
+
+pub returns-then-left-count-clause-found : goal.returns-then-left-count-clause-found
+returns-then-left-count-clause-found c =
+    let m = c.args.self.now in
+    let there = found_next blank m.indexes.entries c.loop-index.index-iterator c.loop-index.before c.args.at c.loop-index.invariant c.in-Some.index.now c.in-Some.numbers.now c.next.new.self c.len-count.result c.in-Some.ensures.steps c.len-count.ensures.len c.if-left-count.true in
+    c.name_under.ensures ∙ ap (option_map (λ (e : Entry). e.0)) (sym (ap (λ es. slice_get es c.args.at) (entries_in blank m.indexes m.kept) ∙ there))
+
+pub loop-index-preserved : goal.loop-index-preserved
+loop-index-preserved c =
+    passed_more blank c.args.self.now.indexes.entries c.loop-index.index-iterator c.loop-index.before c.args.at c.loop-index.invariant c.in-Some.index.now c.in-Some.numbers.now c.next.new.self c.len-count.result c.in-Some.ensures.steps c.len-count.ensures.len c.if-left-count.false
+
+pub returns-clause-found : goal.returns-clause-found
+returns-clause-found c =
+    let m = c.args.self.now in
+    ap (option_map (λ (e : Entry). e.0)) (sym (ap (λ es. slice_get es c.args.at) (entries_in blank m.indexes m.kept)
+    ∙ found_none blank m.indexes.entries c.loop-index.index-iterator c.loop-index.before c.args.at c.loop-index.invariant c.in-None.ensures.steps.0))

@@ -1,0 +1,14 @@
+-- What an index knows of shares.
+use Rattle.std.proofs.Common.{◌≡◌, ◌∙◌}
+use Rattle.share_store.specs.Shares.{Shares, bytes_of}
+use Rattle.share_store.specs.Stored.{shares_in}
+use Rattle.shelf_store.specs.Sizes.{blank, sizes_of}
+use Rattle.shelf_store.specs.SizeLaws.{bytes_as}
+use Rattle.shelf_store.specs.declared.index.Index.{Index}
+
+-- the shares that stand, each byte of them 0
+abbrev pub known : Index → Shares
+known index = shares_in blank index.lengths.indexes
+
+pub held_as : (index : Index) (m : Shares) → sizes_of (known index) ≡ sizes_of m → index.held ≡ bytes_of m
+held_as index m is = index.summed ∙ bytes_as (known index) m is

@@ -1,0 +1,97 @@
+//! Stores opened over shelves that hold shares.
+ghost use Rattle.std.specs.Prelude.{◌≡◌, ◌<◌, ◌+◌, ℕ, [], List, Some, None, IsTrue, IfOk, OnOk, IsErrOf, length};
+ghost use Rattle.std.specs.FinMap as map;
+ghost use Rattle.share_store.specs.Put.{put_once};
+ghost use Rattle.share_store.specs.Shares.{Shares, ShareKey, bytes_of};
+ghost use Rattle.share_shelf.specs.Left.{Keeps, IsQuiet};
+ghost use Rattle.shelf_store.specs.Doubt.{in_doubt};
+ghost use Rattle.shelf_store.specs.Known.{known};
+ghost use Rattle.shelf_store.specs.Sizes.{blank};
+ghost use Rattle.shelf_store.specs.declared.fault.OpenFault.TheVariants.{Store as StoreRefused};
+
+use crate::index::Index;
+use crate::{OpenFault, ShelfStore};
+use share_shelf::Shelf;
+use share_store::{Store, StoreFault};
+use std::alloc::Global;
+
+/// Takes a share of a shelf that lists it into the index, by its length. What the shelf doesn't give is left out, and
+/// what it lists twice is taken once.
+fn take_in<H: Shelf>(
+    shelf: &mut H,
+    taken: &mut Index,
+    index: [u8; 16],
+    number: u16,
+) -> Result<(), OpenFault>
+    ensures honest { H.honest shelf.new ≡ H.honest shelf.old }
+    ensures quiet { IsQuiet H.moment H.left_since shelf.old shelf.new }
+    ensures room { taken.new.room + taken.new.held ≡ taken.old.room + taken.old.held }
+    ensures taken { IsTrue (H.honest shelf.old) →
+        (m : Shares) → Keeps H.moment H.left_since shelf.old m →
+        (bytes : List ℕ) → map.get m (index, number) ≡ Some bytes →
+        OnOk result (known taken.new
+        ≡ put_once (known taken.old) (index, number) (blank (length bytes))) }
+    ensures not_down { IsErrOf result (StoreRefused StoreFault.Down) → ⊥ }
+    ensures empty { IsErrOf result OpenFault.Empty → IsTrue (H.honest shelf.old) →
+        (m : Shares) → Keeps H.moment H.left_since shelf.old m →
+        map.get m (index, number) ≡ Some [] }
+    ensures full { IsErrOf result (StoreRefused StoreFault.Full) → IsTrue (H.honest shelf.old) →
+        (m : Shares) → Keeps H.moment H.left_since shelf.old m →
+        (bytes : List ℕ) → map.get m (index, number) ≡ Some bytes →
+        (map.get (known taken.old) (index, number) ≡ None) × (taken.old.room < length bytes) }
+{
+    let Some(bytes) = shelf.read(index, number)? else {
+        return Ok(());
+    };
+    if bytes.is_empty() {
+        return Err(OpenFault::Empty);
+    }
+    if taken.get(&index, number).is_some() {
+        return Ok(());
+    }
+    let size = bytes.len() as u64;
+    taken.put(index, number, size)?;
+    Ok(())
+}
+
+impl<H: Shelf + Drop> ShelfStore<H> {
+    /// A store with the shares of a shelf, which takes `room` bytes, these among them. The shelf is only read: it is
+    /// listed, and each share read once for its length and let go. What it lists and doesn't give, as an honest one never
+    /// does, is left out.
+    ///
+    /// Refused with `Shelf` where the shelf refused to be read, with `Store(Full)` where its shares are more than
+    /// `room` bytes, with `Store(NoMemory)` where there was no memory for the index, and with `Empty` where a share has no
+    /// bytes.
+    pub fn open(alloc: Global, shelf: H, room: u64) -> Result<ShelfStore<H>, OpenFault>
+        // After a restart, what is read is what a crash left.
+        requires { IsTrue (H.honest shelf) → (m : Shares) × Keeps H.moment H.left_since shelf m }
+        ensures up { IfOk result (λ store. in_doubt store.doubt ≡ None) }
+        ensures none_failed { IfOk result (λ store. store.failures ≡ 0) }
+        ensures room { IfOk result (λ store. store.index.room + store.index.held ≡ room) }
+        ensures quiet { IfOk result (λ store. IsQuiet H.moment H.left_since shelf store.shelf) }
+        ensures same_honest { IfOk result (λ store. H.honest store.shelf ≡ H.honest shelf) }
+        ensures shares { IsTrue (H.honest shelf) →
+            (m : Shares) → Keeps H.moment H.left_since shelf m →
+            IfOk result (λ store. ⟦<ShelfStore<H> as Store>⟧.shares store ≡ m) }
+        ensures not_down { IsErrOf result (StoreRefused StoreFault.Down) → ⊥ }
+        ensures empty { IsErrOf result OpenFault.Empty → IsTrue (H.honest shelf) →
+            (m : Shares) → Keeps H.moment H.left_since shelf m →
+            (key : ShareKey) × (map.get m key ≡ Some []) }
+        ensures full { IsErrOf result (StoreRefused StoreFault.Full) → IsTrue (H.honest shelf) →
+            (m : Shares) → Keeps H.moment H.left_since shelf m → room < bytes_of m }
+    {
+        let mut shelf = shelf;
+        let mut taken = Index::new(alloc, room);
+        let names = shelf.list(alloc)?;
+        for name in &names {
+            take_in(&mut shelf, &mut taken, name.0, name.1)?;
+        }
+        Ok(ShelfStore {
+            alloc,
+            index: taken,
+            shelf,
+            doubt: None,
+            failures: 0,
+        })
+    }
+}

@@ -1,0 +1,438 @@
+//! A store whose bytes are on a shelf.
+ghost use Rattle.std.specs.Prelude.{◌≡◌, ◌<◌, ◌≤◌, ◌+◌, ◌-◌, ◌^◌, ◌==◌, ◌↔◌, All, None, Some, true, false, not, length, is_some, IsTrue, IsSome, IfOk, IfSome, OnOk, OnErr, IsErrOf, if◌then◌else◌, slice_get};
+ghost use Rattle.std.specs.Option.{option_map};
+ghost use Rattle.std.specs.FinMap as map;
+ghost use Rattle.std.specs.Rc.{rc_slice_items};
+ghost use Rattle.share_store.specs.MapLaws.{held_fits};
+ghost use Rattle.share_store.specs.Looked.{Looked};
+ghost use Rattle.share_store.specs.Put.{put_once};
+ghost use Rattle.share_store.specs.Stored.{entry_of};
+ghost use Rattle.share_store.specs.Toggle.{toggled, has_byte, with_toggle};
+ghost use Rattle.share_shelf.specs.Left.{IsQuiet};
+ghost use Rattle.shelf_store.specs.Doubt.{in_doubt, as_before};
+ghost use Rattle.shelf_store.specs.Known.{known, held_as};
+ghost use Rattle.shelf_store.specs.Sizes.{blank};
+ghost use Rattle.shelf_store.specs.SizeLaws.{some_as};
+ghost use Rattle.shelf_store.specs.Step.{IsInStep, IsInStep-prop, Crashes};
+
+use crate::doubt::Doubt;
+use crate::index::Index;
+use share_shelf::{Shelf, ShelfFault};
+use share_store::laws::toggle_laws;
+use share_store::{Share, Store, StoreFault};
+use std::alloc::{AllocError, Global};
+use std::rc::RcSlice;
+
+/// A store that has in memory which shares stand and how long each is, and whose bytes are on a shelf. It is honest
+/// where its shelf is.
+///
+/// Once its shelf failed in a change, it is in doubt whether the change was done. The store is then down for changes
+/// until it is opened anew, and answers what stood before: so it keeps the bytes that stood at that one place.
+#[derive(Drop)]
+pub struct ShelfStore<H: Shelf> {
+    pub(crate) alloc: Global,
+    pub(crate) index: Index,
+    pub(crate) shelf: H,
+    pub(crate) doubt: Option<Doubt>,
+    pub(crate) failures: u64,
+    ghost in_step: { IsInStep H.moment H.left_since H.honest H.shares (in_doubt doubt) shelf
+        (known index) } by { IsInStep-prop H.moment H.left_since H.honest H.shares
+            (in_doubt doubt) shelf (known index) },
+}
+
+/// A copy of the bytes with the lowest bit of one changed.
+fn with_bit_changed(alloc: Global, bytes: &[u8], place: usize) -> Result<RcSlice<u8>, AllocError>
+    requires { place < length bytes.now }
+    ensures { IfOk result (λ changed. rc_slice_items changed ≡ toggled bytes.now place) }
+{
+    let mut copy = bytes.to_vec(alloc)?;
+    copy[place] ^= 1;
+    RcSlice::from_vec(copy)
+}
+
+impl<H: Shelf> ShelfStore<H> {
+    /// The shelf that has the bytes. On an honest one a crash leaves what stands in the store, but for the share of the
+    /// change in which it failed, if it failed in one.
+    pub fn shelf(&self) -> &H
+        ensures shelf { result.now ≡ self.now.shelf }
+        ensures in_step { IsInStep H.moment H.left_since H.honest H.shares
+            (in_doubt self.now.doubt) result.now (known self.now.index) }
+    {
+        &self.shelf
+    }
+
+    /// Counts a call that is refused, or gives nothing, because the shelf failed. Where no more can be counted it is
+    /// refused as one for which there was no memory.
+    fn count(&mut self) -> Result<(), AllocError>
+        ensures counted { OnOk result (self.new.failures ≡ self.old.failures + 1) }
+        ensures same { OnErr result (self.new.failures ≡ self.old.failures) }
+        ensures counts { self.new.failures ≡ (if self.old.failures == 2 ^ 64 - 1
+            then self.old.failures else self.old.failures + 1) }
+        ensures index { self.new.index ≡ self.old.index }
+        ensures shelf { self.new.shelf ≡ self.old.shelf }
+        ensures doubt { self.new.doubt ≡ self.old.doubt }
+    {
+        if self.failures == u64::MAX {
+            return Err(AllocError);
+        }
+        self.failures += 1;
+        Ok(())
+    }
+
+    /// Counts a call that is refused because the shelf failed, and says why.
+    fn refuse(&mut self) -> StoreFault
+        ensures down { (result ≡ StoreFault.Down) ↔ (self.old.failures < self.new.failures) }
+        ensures rises { self.old.failures ≤ self.new.failures }
+        ensures not_full { result ≡ StoreFault.Full → ⊥ }
+        ensures index { self.new.index ≡ self.old.index }
+        ensures shelf { self.new.shelf ≡ self.old.shelf }
+        ensures doubt { self.new.doubt ≡ self.old.doubt }
+        ensures stands { ⟦<ShelfStore<H> as Store>⟧.shares self.new
+            ≡ ⟦<ShelfStore<H> as Store>⟧.shares self.old }
+    {
+        match self.count() {
+            Ok(()) => StoreFault::Down,
+            Err(_) => StoreFault::NoMemory,
+        }
+    }
+
+    /// The bytes of a share as they stood before the change in doubt: from memory where it was of this share, and else
+    /// by one read of the shelf.
+    fn stood(&mut self, index: [u8; 16], number: u16) -> Result<Option<RcSlice<u8>>, ShelfFault>
+        ensures given { IsTrue (H.honest self.old.shelf) →
+            IfOk result (λ bytes. option_map rc_slice_items bytes ≡ map.get
+            (as_before (in_doubt self.old.doubt) (H.shares self.old.shelf)) (index, number)) }
+        ensures quiet { IsQuiet H.moment H.left_since self.old.shelf self.new.shelf }
+        ensures honest { H.honest self.new.shelf ≡ H.honest self.old.shelf }
+        ensures same_shares { IsTrue (H.honest self.old.shelf) →
+            H.shares self.new.shelf ≡ H.shares self.old.shelf }
+        ensures rises { H.failures self.old.shelf ≤ H.failures self.new.shelf }
+        ensures failed { IsErrOf result ShelfFault.Failed ↔
+            (H.failures self.old.shelf < H.failures self.new.shelf) }
+        ensures stands { IsTrue (H.honest self.old.shelf) →
+            ⟦<ShelfStore<H> as Store>⟧.shares self.new
+            ≡ ⟦<ShelfStore<H> as Store>⟧.shares self.old }
+        ensures index { self.new.index ≡ self.old.index }
+        ensures doubt { self.new.doubt ≡ self.old.doubt }
+        ensures failures { self.new.failures ≡ self.old.failures }
+    {
+        if let Some(doubt) = &self.doubt {
+            if doubt.is_of(index, number) {
+                return Ok(doubt.lent()?);
+            }
+        }
+        self.shelf.read(index, number)
+    }
+
+    /// The bytes of a share that the index has, `size` of them. `None` where the shelf failed or gave as many not, which
+    /// counts as a failure.
+    fn whole(
+        &mut self,
+        index: [u8; 16],
+        number: u16,
+        size: u64,
+    ) -> Result<Option<RcSlice<u8>>, AllocError>
+        requires { map.get (known self.old.index) (index, number) ≡ Some (blank size) }
+        ensures given { IsTrue (H.honest self.old.shelf) → self.new.failures ≡ self.old.failures →
+            IfOk result (λ bytes. option_map rc_slice_items bytes ≡ map.get
+            (as_before (in_doubt self.old.doubt) (H.shares self.old.shelf)) (index, number)) }
+        ensures sized { IfOk result (λ bytes.
+            IfSome bytes (λ b. length (rc_slice_items b) ≡ size)) }
+        ensures failed { (result ≡ Ok None) ↔ (self.old.failures < self.new.failures) }
+        ensures rises { self.old.failures ≤ self.new.failures }
+        ensures counts { H.failures self.old.shelf < H.failures self.new.shelf →
+            self.new.failures ≡ (if self.old.failures == 2 ^ 64 - 1 then self.old.failures
+            else self.old.failures + 1) }
+        ensures quiet { IsQuiet H.moment H.left_since self.old.shelf self.new.shelf }
+        ensures honest { H.honest self.new.shelf ≡ H.honest self.old.shelf }
+        ensures same_shares { IsTrue (H.honest self.old.shelf) →
+            H.shares self.new.shelf ≡ H.shares self.old.shelf }
+        ensures stands { IsTrue (H.honest self.old.shelf) →
+            ⟦<ShelfStore<H> as Store>⟧.shares self.new
+            ≡ ⟦<ShelfStore<H> as Store>⟧.shares self.old }
+        ensures index { self.new.index ≡ self.old.index }
+        ensures doubt { self.new.doubt ≡ self.old.doubt }
+    {
+        match self.stood(index, number) {
+            Ok(Some(bytes)) => {
+                if bytes.len() as u64 == size {
+                    return Ok(Some(bytes));
+                }
+            }
+            Err(ShelfFault::NoMemory) => return Err(AllocError),
+            _ => {}
+        }
+        self.count()?;
+        Ok(None)
+    }
+    /// The bytes of the share that stands there, by one read of the shelf. `None` where none stands. Where the shelf failed,
+    /// or gave not as many bytes as the index has, that counts as a failure, and the answer is `None`. Refused where there
+    /// was no memory to lend them, or a failure could not be counted.
+    pub fn look(&mut self, index: [u8; 16], number: u16) -> Result<Option<RcSlice<u8>>, AllocError>
+        ensures looked { Looked ⟦<ShelfStore<H> as Store>⟧.honest ⟦<ShelfStore<H> as Store>⟧.shares
+            ⟦<ShelfStore<H> as Store>⟧.room ⟦<ShelfStore<H> as Store>⟧.failures self.old self.new }
+        ensures failed { self.old.failures < self.new.failures → result ≡ Ok None }
+        ensures found { IsTrue (H.honest self.old.shelf) → self.new.failures ≡ self.old.failures →
+            IfOk result (λ bytes. option_map rc_slice_items bytes
+            ≡ map.get (⟦<ShelfStore<H> as Store>⟧.shares self.old) (index, number)) }
+        ensures sized { IfOk result (λ bytes. IfSome bytes (λ b.
+            map.get (known self.old.index) (index, number)
+            ≡ Some (blank (length (rc_slice_items b))))) }
+        ensures counts { H.failures self.old.shelf < H.failures self.new.shelf →
+            self.new.failures ≡ (if self.old.failures == 2 ^ 64 - 1 then self.old.failures
+            else self.old.failures + 1) }
+        ensures quiet { IsQuiet H.moment H.left_since self.old.shelf self.new.shelf }
+        ensures index { self.new.index ≡ self.old.index }
+        ensures doubt { self.new.doubt ≡ self.old.doubt }
+    {
+        match self.index.get(&index, number) {
+            None => Ok(None),
+            Some(size) => self.whole(index, number, size),
+        }
+    }
+
+    /// Puts a share where none stands: in the index, and then on the shelf. Where the shelf refuses, it is taken out of
+    /// the index again.
+    pub fn keep(
+        &mut self,
+        index: [u8; 16],
+        number: u16,
+        bytes: RcSlice<u8>,
+    ) -> Result<bool, StoreFault>
+        requires { 0 < length (rc_slice_items bytes) }
+        ensures rises { self.old.failures ≤ self.new.failures }
+        ensures down { IsErrOf result StoreFault.Down ↔ (self.old.failures < self.new.failures) }
+        ensures full { IsErrOf result StoreFault.Full →
+            (self.old.index.room < length (rc_slice_items bytes))
+            × (self.new.index.room ≡ self.old.index.room) }
+        ensures full_only { IsErrOf result StoreFault.Full → IsTrue (H.honest self.old.shelf) →
+            map.get (⟦<ShelfStore<H> as Store>⟧.shares self.old) (index, number) ≡ None }
+        ensures put { IsTrue (H.honest self.old.shelf) →
+            IfOk result (λ put. put
+            ≡ not (map.contains_key (⟦<ShelfStore<H> as Store>⟧.shares self.old) (index, number))) }
+        ensures shares { IsTrue (H.honest self.old.shelf) →
+            OnOk result (⟦<ShelfStore<H> as Store>⟧.shares self.new
+            ≡ put_once (⟦<ShelfStore<H> as Store>⟧.shares self.old) (index, number)
+            (rc_slice_items bytes)) }
+        ensures err { IsTrue (H.honest self.old.shelf) →
+            OnErr result (⟦<ShelfStore<H> as Store>⟧.shares self.new
+            ≡ ⟦<ShelfStore<H> as Store>⟧.shares self.old) }
+        ensures room { self.new.index.room + self.new.index.held
+            ≡ self.old.index.room + self.old.index.held }
+        ensures crash { Crashes H.moment H.left_since H.honest H.shares
+            (in_doubt self.old.doubt) self.old.shelf self.new.shelf
+            (⟦<ShelfStore<H> as Store>⟧.shares self.old)
+            (put_once (⟦<ShelfStore<H> as Store>⟧.shares self.old) (index, number)
+            (rc_slice_items bytes)) }
+        ensures stays_down { is_some (in_doubt self.old.doubt) ≡ true →
+            self.new.doubt ≡ self.old.doubt }
+        ensures goes_down { H.failures self.old.shelf < H.failures self.new.shelf →
+            is_some (in_doubt self.new.doubt) ≡ true }
+    {
+        if self.index.get(&index, number).is_some() {
+            return Ok(false);
+        }
+        if self.doubt.is_some() {
+            return Err(self.refuse());
+        }
+        let size = bytes.len() as u64;
+        self.index.put(index, number, size)?;
+        match self.shelf.put(index, number, bytes) {
+            Ok(()) => Ok(true),
+            Err(ShelfFault::NoMemory) => {
+                self.index.remove(&index, number);
+                Err(StoreFault::NoMemory)
+            }
+            Err(ShelfFault::Failed) => {
+                self.index.remove(&index, number);
+                self.doubt = Some(Doubt {
+                    index,
+                    number,
+                    before: None,
+                });
+                Err(self.refuse())
+            }
+        }
+    }
+
+    /// Takes a share away: from the shelf, and then from the index. Its bytes are read before, since they still stand
+    /// where the shelf fails.
+    pub fn give_up(&mut self, index: [u8; 16], number: u16) -> Result<bool, StoreFault>
+        ensures rises { self.old.failures ≤ self.new.failures }
+        ensures down { IsErrOf result StoreFault.Down ↔ (self.old.failures < self.new.failures) }
+        ensures not_full { IsErrOf result StoreFault.Full → ⊥ }
+        ensures lost { IsTrue (H.honest self.old.shelf) →
+            IfOk result (λ lost. lost
+            ≡ map.contains_key (⟦<ShelfStore<H> as Store>⟧.shares self.old) (index, number)) }
+        ensures shares { IsTrue (H.honest self.old.shelf) →
+            OnOk result (⟦<ShelfStore<H> as Store>⟧.shares self.new
+            ≡ map.remove (⟦<ShelfStore<H> as Store>⟧.shares self.old) (index, number)) }
+        ensures err { IsTrue (H.honest self.old.shelf) →
+            OnErr result (⟦<ShelfStore<H> as Store>⟧.shares self.new
+            ≡ ⟦<ShelfStore<H> as Store>⟧.shares self.old) }
+        ensures room { self.new.index.room + self.new.index.held
+            ≡ self.old.index.room + self.old.index.held }
+        ensures crash { Crashes H.moment H.left_since H.honest H.shares
+            (in_doubt self.old.doubt) self.old.shelf self.new.shelf
+            (⟦<ShelfStore<H> as Store>⟧.shares self.old)
+            (map.remove (⟦<ShelfStore<H> as Store>⟧.shares self.old) (index, number)) }
+        ensures stays_down { is_some (in_doubt self.old.doubt) ≡ true →
+            self.new.doubt ≡ self.old.doubt }
+    {
+        if self.index.get(&index, number).is_none() {
+            return Ok(false);
+        }
+        if self.doubt.is_some() {
+            return Err(self.refuse());
+        }
+        let before = match self.stood(index, number) {
+            Ok(before) => before,
+            Err(ShelfFault::NoMemory) => return Err(StoreFault::NoMemory),
+            Err(ShelfFault::Failed) => return Err(self.refuse()),
+        };
+        match self.shelf.remove(index, number) {
+            Ok(()) => {
+                self.index.remove(&index, number);
+                Ok(true)
+            }
+            Err(ShelfFault::NoMemory) => Err(StoreFault::NoMemory),
+            Err(ShelfFault::Failed) => {
+                self.doubt = Some(Doubt {
+                    index,
+                    number,
+                    before,
+                });
+                Err(self.refuse())
+            }
+        }
+    }
+
+    /// Changes the lowest bit of one byte of a share: the share is read, and put whole with that bit changed.
+    pub fn alter(&mut self, index: [u8; 16], number: u16, place: u64) -> Result<bool, StoreFault>
+        ensures rises { self.old.failures ≤ self.new.failures }
+        ensures down { IsErrOf result StoreFault.Down ↔ (self.old.failures < self.new.failures) }
+        ensures not_full { IsErrOf result StoreFault.Full → ⊥ }
+        ensures toggled { IsTrue (H.honest self.old.shelf) →
+            IfOk result (λ toggled. toggled
+            ≡ has_byte (⟦<ShelfStore<H> as Store>⟧.shares self.old) (index, number) place) }
+        ensures shares { IsTrue (H.honest self.old.shelf) →
+            OnOk result (⟦<ShelfStore<H> as Store>⟧.shares self.new
+            ≡ with_toggle (⟦<ShelfStore<H> as Store>⟧.shares self.old) (index, number) place) }
+        ensures err { IsTrue (H.honest self.old.shelf) →
+            OnErr result (⟦<ShelfStore<H> as Store>⟧.shares self.new
+            ≡ ⟦<ShelfStore<H> as Store>⟧.shares self.old) }
+        ensures room { self.new.index.room + self.new.index.held
+            ≡ self.old.index.room + self.old.index.held }
+        ensures crash { Crashes H.moment H.left_since H.honest H.shares
+            (in_doubt self.old.doubt) self.old.shelf self.new.shelf
+            (⟦<ShelfStore<H> as Store>⟧.shares self.old)
+            (with_toggle (⟦<ShelfStore<H> as Store>⟧.shares self.old) (index, number) place) }
+        ensures stays_down { is_some (in_doubt self.old.doubt) ≡ true →
+            self.new.doubt ≡ self.old.doubt }
+    {
+        toggle_laws();
+        let Some(size) = self.index.get(&index, number) else {
+            return Ok(false);
+        };
+        if place >= size {
+            return Ok(false);
+        }
+        if self.doubt.is_some() {
+            return Err(self.refuse());
+        }
+        let Some(before) = self.whole(index, number, size)? else {
+            return Err(StoreFault::Down);
+        };
+        let changed = with_bit_changed(self.alloc, before.as_slice(), place as usize)?;
+        match self.shelf.put(index, number, changed) {
+            Ok(()) => Ok(true),
+            Err(ShelfFault::NoMemory) => Err(StoreFault::NoMemory),
+            Err(ShelfFault::Failed) => {
+                self.doubt = Some(Doubt {
+                    index,
+                    number,
+                    before: Some(before),
+                });
+                Err(self.refuse())
+            }
+        }
+    }
+}
+
+impl<H: Shelf> Store for ShelfStore<H> {
+    ghost honest = { λ store. H.honest store.shelf };
+
+    ghost shares = { λ store. as_before (in_doubt store.doubt) (H.shares store.shelf) };
+
+    ghost room = { λ store. store.index.room };
+
+    ghost held = { λ store. store.index.held };
+
+    ghost failures = { λ store. store.failures };
+
+    fn has(&mut self, index: [u8; 16], number: u16) -> Result<bool, AllocError> {
+        Ok(self.index.get(&index, number).is_some())
+    }
+
+    fn numbers(&mut self, index: [u8; 16]) -> Result<Vec<u16>, AllocError> {
+        self.index.lengths.numbers(&index)
+    }
+
+    fn get(&mut self, index: [u8; 16], number: u16) -> Result<Option<RcSlice<u8>>, AllocError> {
+        self.look(index, number)
+    }
+
+    fn nth(&mut self, at: u64) -> Result<Option<Share>, AllocError> {
+        let Some(name) = self.index.lengths.nth(at) else {
+            return Ok(None);
+        };
+        let index = name.0;
+        let number = name.1;
+        match self.look(index, number)? {
+            None => Ok(None),
+            Some(bytes) => Ok(Some(Share {
+                index,
+                number,
+                bytes,
+            })),
+        }
+    }
+
+    fn put(
+        &mut self,
+        index: [u8; 16],
+        number: u16,
+        bytes: RcSlice<u8>,
+    ) -> Result<bool, StoreFault> {
+        self.keep(index, number, bytes)
+    }
+
+    fn lose(&mut self, index: [u8; 16], number: u16) -> Result<bool, StoreFault> {
+        self.give_up(index, number)
+    }
+
+    fn toggle(&mut self, index: [u8; 16], number: u16, place: u64) -> Result<bool, StoreFault> {
+        self.alter(index, number, place)
+    }
+
+    fn room(&self) -> u64 {
+        self.index.room
+    }
+
+    fn held(&self) -> u64 {
+        self.index.held
+    }
+
+    fn failures(&self) -> u64 {
+        self.failures
+    }
+
+    ghost held_is = { λ store honest. held_as store.index
+        (as_before (in_doubt store.doubt) (H.shares store.shelf)) (store.in_step.sizes honest) };
+
+    ghost fits = { λ store honest. held_fits store.index.room store.index.held store.index.fits };
+
+    ghost none_empty = { λ store honest. some_as (known store.index)
+        (as_before (in_doubt store.doubt) (H.shares store.shelf)) (store.in_step.sizes honest)
+        store.index.some };
+}
