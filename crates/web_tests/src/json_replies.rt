@@ -8,7 +8,7 @@ use std::alloc::Global;
 use std::test::Fail;
 
 /// Caps of files, and their JSON.
-const FILES: &[(&str, &str)] = &[
+const FILES: [(&str, &str); 5] = [
     (
         "URI:LIT:",
         "[\"filenode\",{\"mutable\":false,\"ro_uri\":\"URI:LIT:\",\"size\":0}]",
@@ -30,9 +30,8 @@ const FILES: &[(&str, &str)] = &[
         "[\"filenode\",{\"mutable\":false,\"ro_uri\":\"URI:CHK:aaaaaaaaaaaaaaaaaaaaaaaaaa:aaaaaaaaaaaaaaaaaaaaaaaaaaaaaaaaaaaaaaaaaaaaaaaaaaaa:256:256:18446744073709551615\",\"size\":18446744073709551615,\"verify_uri\":\"URI:CHK-Verifier:mvv7loy75flm6daqd2orhr4iky:aaaaaaaaaaaaaaaaaaaaaaaaaaaaaaaaaaaaaaaaaaaaaaaaaaaa:256:256:18446744073709551615\"}]",
     ),
 ];
-
 /// Caps of directories, the JSON that names their children, and theirs.
-const DIRECTORIES: &[(&str, &str, &str)] = &[
+const DIRECTORIES: [(&str, &str, &str); 4] = [
     (
         "URI:DIR2-LIT:",
         "{}",
@@ -54,63 +53,6 @@ const DIRECTORIES: &[(&str, &str, &str)] = &[
         "[\"dirnode\",{\"children\":{\"\\u0000\\u0001\\u001f\\b\\f\\n\\r\\t\u{7f}\":[\"filenode\",{\"metadata\":{},\"mutable\":false,\"ro_uri\":\"URI:LIT:\",\"size\":0}],\"a\\\"b\\\\c\":[\"filenode\",{\"metadata\":{},\"mutable\":false,\"ro_uri\":\"URI:LIT:\",\"size\":0}],\"a/b\":[\"filenode\",{\"metadata\":{},\"mutable\":false,\"ro_uri\":\"URI:LIT:\",\"size\":0}],\"\u{e9}\":[\"filenode\",{\"metadata\":{},\"mutable\":false,\"ro_uri\":\"URI:LIT:\",\"size\":0}],\"\u{2028}\":[\"filenode\",{\"metadata\":{},\"mutable\":false,\"ro_uri\":\"URI:LIT:\",\"size\":0}],\"\u{1f600}\":[\"filenode\",{\"metadata\":{},\"mutable\":false,\"ro_uri\":\"URI:LIT:\",\"size\":0}],\"\u{10fffd}\":[\"filenode\",{\"metadata\":{},\"mutable\":false,\"ro_uri\":\"URI:LIT:\",\"size\":0}]},\"mutable\":false,\"ro_uri\":\"URI:DIR2-LIT:gi3dumj2mewdcmb2kvjesosmjfkdu3lzfqydulbshj5x2lbm\"}]",
     ),
 ];
-
-/// Checks: how many shares are needed, expected and good, the shares that aren't good, by store and number, and the JSON.
-const CHECKS: &[((u16, u16, u16), &[(usize, u16)], &str)] = &[
-    (
-        (3, 10, 10),
-        &[],
-        "{\"results\":{\"count-corrupt-shares\":0,\"count-shares-expected\":10,\"count-shares-good\":10,\"count-shares-needed\":3,\"healthy\":true,\"list-corrupt-shares\":[],\"recoverable\":true},\"storage-index\":\"eszhlbsqc5emluwbawwnl5adnu\"}",
-    ),
-    (
-        (3, 10, 9),
-        &[(0, 4)],
-        "{\"results\":{\"count-corrupt-shares\":1,\"count-shares-expected\":10,\"count-shares-good\":9,\"count-shares-needed\":3,\"healthy\":false,\"list-corrupt-shares\":[[0,\"eszhlbsqc5emluwbawwnl5adnu\",4]],\"recoverable\":true},\"storage-index\":\"eszhlbsqc5emluwbawwnl5adnu\"}",
-    ),
-    (
-        (3, 10, 3),
-        &[(0, 0), (4, 0), (255, 9)],
-        "{\"results\":{\"count-corrupt-shares\":3,\"count-shares-expected\":10,\"count-shares-good\":3,\"count-shares-needed\":3,\"healthy\":false,\"list-corrupt-shares\":[[0,\"eszhlbsqc5emluwbawwnl5adnu\",0],[4,\"eszhlbsqc5emluwbawwnl5adnu\",0],[255,\"eszhlbsqc5emluwbawwnl5adnu\",9]],\"recoverable\":true},\"storage-index\":\"eszhlbsqc5emluwbawwnl5adnu\"}",
-    ),
-    (
-        (3, 10, 2),
-        &[],
-        "{\"results\":{\"count-corrupt-shares\":0,\"count-shares-expected\":10,\"count-shares-good\":2,\"count-shares-needed\":3,\"healthy\":false,\"list-corrupt-shares\":[],\"recoverable\":false},\"storage-index\":\"eszhlbsqc5emluwbawwnl5adnu\"}",
-    ),
-    (
-        (256, 256, 0),
-        &[(0, 255)],
-        "{\"results\":{\"count-corrupt-shares\":1,\"count-shares-expected\":256,\"count-shares-good\":0,\"count-shares-needed\":256,\"healthy\":false,\"list-corrupt-shares\":[[0,\"eszhlbsqc5emluwbawwnl5adnu\",255]],\"recoverable\":false},\"storage-index\":\"eszhlbsqc5emluwbawwnl5adnu\"}",
-    ),
-];
-
-/// Whether a reply is this text, and is read back with its cap.
-fn is_reply(alloc: Global, text: &[u8], cap: &str, reply: &str) -> Result<bool, Fail> {
-    let value = Value::from_slice(alloc, text)?;
-    let read = value.pointer("/1/ro_uri").and_then(Value::as_str);
-    Ok(text == reply.as_bytes() && read == Some(cap))
-}
-
-/// The first of these caps whose file has another reply.
-fn other_file(
-    alloc: Global,
-    rows: &[(&'static str, &'static str)],
-) -> Result<Option<&'static str>, Fail> {
-    for (cap, reply) in rows {
-        let text = file_json(alloc, &parse(alloc, *cap)?)?;
-        if !is_reply(alloc, &text, *cap, *reply)? {
-            return Ok(Some(*cap));
-        }
-    }
-    Ok(None)
-}
-
-#[test]
-fn a_file_has_its_size_and_a_stored_one_its_verify_cap(rt: HostRuntime) -> Result<(), Fail> {
-    assert_eq!(rt; other_file(rt.alloc(), FILES)?, None);
-    Ok(())
-}
-
 /// The JSON of a directory with these children.
 fn listing(alloc: Global, cap: &str, children: &str) -> Result<Vec<u8>, Fail> {
     let cap = parse(alloc, cap)?;
@@ -118,48 +60,97 @@ fn listing(alloc: Global, cap: &str, children: &str) -> Result<Vec<u8>, Fail> {
     Ok(dir_json(alloc, &cap, &directory)?)
 }
 
-/// The first of these directories' children that have another reply.
-fn other_directory(
-    alloc: Global,
-    rows: &[(&'static str, &'static str, &'static str)],
-) -> Result<Option<&'static str>, Fail> {
-    for (cap, children, reply) in rows {
-        let text = listing(alloc, *cap, *children)?;
-        if !is_reply(alloc, &text, *cap, *reply)? {
-            return Ok(Some(*children));
-        }
+#[test]
+fn a_file_has_its_size_and_a_stored_one_its_verify_cap(rt: HostRuntime) -> Result<(), Fail> {
+    for (cap, reply) in FILES {
+        let cap = parse(rt.alloc(), cap)?;
+        let text = file_json(rt.alloc(), &cap)?;
+        assert_eq!(rt; text.as_slice(), reply.as_bytes());
     }
-    Ok(None)
+    Ok(())
 }
 
 #[test]
 fn a_directory_lists_its_children_with_their_metadata(rt: HostRuntime) -> Result<(), Fail> {
-    assert_eq!(rt; other_directory(rt.alloc(), DIRECTORIES)?, None);
+    for (cap, children, reply) in DIRECTORIES {
+        let text = listing(rt.alloc(), cap, children)?;
+        assert_eq!(rt; text.as_slice(), reply.as_bytes());
+    }
+    Ok(())
+}
+
+#[test]
+fn replies_are_read_back(rt: HostRuntime) -> Result<(), Fail> {
+    for (cap, _) in FILES {
+        let text = file_json(rt.alloc(), &parse(rt.alloc(), cap)?)?;
+        let value = Value::from_slice(rt.alloc(), &text)?;
+        assert_eq!(rt;
+            value.pointer("/1/ro_uri").and_then(Value::as_str),
+            Some(cap)
+        );
+    }
+    for (cap, children, _) in DIRECTORIES {
+        let text = listing(rt.alloc(), cap, children)?;
+        let value = Value::from_slice(rt.alloc(), &text)?;
+        assert_eq!(rt;
+            value.pointer("/1/ro_uri").and_then(Value::as_str),
+            Some(cap)
+        );
+    }
     Ok(())
 }
 
 #[test]
 fn a_check_counts_and_lists_what_is_not_good(rt: HostRuntime) -> Result<(), Fail> {
-    let alloc = rt.alloc();
     let text =
         "URI:CHK-Verifier:eszhlbsqc5emluwbawwnl5adnu:aaaqeayeaudaocajbifqydiob4ibceqtcqkrmfyydenbwha5dypq:3:10:56";
-    let Cap::ChkVerify(fields) = parse(alloc, text)? else {
+    let Cap::ChkVerify(fields) = parse(rt.alloc(), text)? else {
         panic!(rt; "no verify cap");
     };
-    for ((needed, expected, good), corrupt, reply) in CHECKS {
+    for ((needed, expected, good), corrupt, reply) in [
+        (
+            (3, 10, 10),
+            [].as_slice(),
+            "{\"results\":{\"count-corrupt-shares\":0,\"count-shares-expected\":10,\"count-shares-good\":10,\"count-shares-needed\":3,\"healthy\":true,\"list-corrupt-shares\":[],\"recoverable\":true},\"storage-index\":\"eszhlbsqc5emluwbawwnl5adnu\"}",
+        ),
+        (
+            (3, 10, 9),
+            [(0, 4)].as_slice(),
+            "{\"results\":{\"count-corrupt-shares\":1,\"count-shares-expected\":10,\"count-shares-good\":9,\"count-shares-needed\":3,\"healthy\":false,\"list-corrupt-shares\":[[0,\"eszhlbsqc5emluwbawwnl5adnu\",4]],\"recoverable\":true},\"storage-index\":\"eszhlbsqc5emluwbawwnl5adnu\"}",
+        ),
+        (
+            (3, 10, 3),
+            [(0, 0), (4, 0), (255, 9)].as_slice(),
+            "{\"results\":{\"count-corrupt-shares\":3,\"count-shares-expected\":10,\"count-shares-good\":3,\"count-shares-needed\":3,\"healthy\":false,\"list-corrupt-shares\":[[0,\"eszhlbsqc5emluwbawwnl5adnu\",0],[4,\"eszhlbsqc5emluwbawwnl5adnu\",0],[255,\"eszhlbsqc5emluwbawwnl5adnu\",9]],\"recoverable\":true},\"storage-index\":\"eszhlbsqc5emluwbawwnl5adnu\"}",
+        ),
+        (
+            (3, 10, 2),
+            [].as_slice(),
+            "{\"results\":{\"count-corrupt-shares\":0,\"count-shares-expected\":10,\"count-shares-good\":2,\"count-shares-needed\":3,\"healthy\":false,\"list-corrupt-shares\":[],\"recoverable\":false},\"storage-index\":\"eszhlbsqc5emluwbawwnl5adnu\"}",
+        ),
+        (
+            (256, 256, 0),
+            [(0, 255)].as_slice(),
+            "{\"results\":{\"count-corrupt-shares\":1,\"count-shares-expected\":256,\"count-shares-good\":0,\"count-shares-needed\":256,\"healthy\":false,\"list-corrupt-shares\":[[0,\"eszhlbsqc5emluwbawwnl5adnu\",255]],\"recoverable\":false},\"storage-index\":\"eszhlbsqc5emluwbawwnl5adnu\"}",
+        ),
+    ] {
         let health = Health {
-            needed: *needed,
-            expected: *expected,
-            good: *good,
-            corrupt: corrupt.to_vec(alloc)?,
+            needed,
+            expected,
+            good,
+            corrupt: corrupt.to_vec(rt.alloc())?,
         };
-        let text = check_json(alloc, &fields.si, &health)?;
+        let text = check_json(rt.alloc(), &fields.si, &health)?;
         assert_eq!(rt; text.as_slice(), reply.as_bytes());
     }
+    Ok(())
+}
+
+#[test]
+fn a_check_of_bytes_that_stand_in_their_cap(rt: HostRuntime) -> Result<(), Fail> {
     assert_eq!(rt;
-        literal_check_json(alloc)?.as_slice(),
-        b"{\"results\":{\"healthy\":true},\"storage-index\":\"\"}".as_slice(),
-        "bytes that stand in their cap"
+        literal_check_json(rt.alloc())?.as_slice(),
+        b"{\"results\":{\"healthy\":true},\"storage-index\":\"\"}".as_slice()
     );
     Ok(())
 }

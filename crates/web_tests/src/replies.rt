@@ -6,6 +6,7 @@ use octets::Bytes;
 use octets::fakes::counted_bytes;
 use share_store::{FailAt, MemStore, Store};
 use std::alloc::Global;
+use std::ops::Range;
 use std::test::Fail;
 use web_ops::*;
 use web_request::{Fields as HeadFields, Head, Resource, WebFault, interpret};
@@ -54,8 +55,15 @@ fn grid_of_one(alloc: Global, room: u64) -> Result<Grid<MemStore>, Fail> {
     Ok(Grid::new(stores))
 }
 
-/// The head of a request with one field at most, its Range field.
-fn head_of(alloc: Global, method: &str, target: &str, range: &str) -> Result<Head, Fail> {
+/// The reply to a request with one field at most: its status, its fields and its body.
+fn asked<S: Store>(
+    alloc: Global,
+    grid: &mut Grid<S>,
+    method: &str,
+    target: &str,
+    range: &str,
+    body: &[u8],
+) -> Result<String, Fail> {
     let mut fields = Vec::new(alloc);
     if !range.is_empty() {
         fields.push(web_request::Field {
@@ -63,111 +71,59 @@ fn head_of(alloc: Global, method: &str, target: &str, range: &str) -> Result<Hea
             value: Bytes::from_slice(alloc, range.as_bytes())?,
         })?;
     }
-    Ok(Head {
+    let head = Head {
         method: Bytes::from_slice(alloc, method.as_bytes())?,
         target: Bytes::from_slice(alloc, target.as_bytes())?,
         fields: HeadFields::from_vec(fields),
-    })
-}
-
-/// The reply to a request with this head.
-fn replied<S: Store>(
-    alloc: Global,
-    grid: &mut Grid<S>,
-    head: &Head,
-    body: &[u8],
-) -> Result<Reply, Fail> {
+    };
     let mut cache = Cache::new(alloc)?;
-    match interpret(alloc, head, Bytes::from_slice(alloc, body)?) {
-        Ok(request) => Ok(perform(alloc, grid, &mut cache, 3, 10, b"", request)?),
-        Err(fault) => Ok(refusal(alloc, &fault)?),
-    }
+    let reply = match interpret(alloc, &head, Bytes::from_slice(alloc, body)?) {
+        Ok(request) => perform(alloc, grid, &mut cache, 3, 10, b"", request)?,
+        Err(fault) => refusal(alloc, &fault)?,
+    };
+    shown(alloc, reply)
 }
 
-/// The bytes of a body that is taken piece by piece.
-fn taken(alloc: Global, body: &mut Body) -> Result<Vec<u8>, Fail> {
-    let mut bytes = Vec::new(alloc);
-    for _ in 0..64 {
-        let Some(more) = body.next(alloc)? else {
-            break;
-        };
-        bytes.extend_from_slice(&more)?;
-    }
-    Ok(bytes)
-}
-
-/// A reply as a text: its status, its fields and its body.
-fn shown(alloc: Global, reply: Reply) -> Result<String, Fail> {
-    let Reply {
-        status,
-        fields,
-        mut body,
-    } = reply;
-    let length = body.len();
-    let bytes = taken(alloc, &mut body)?;
-    if bytes.len() != length || !body.is_empty() {
-        return Err(Fail::from("another length"));
-    }
-    let text = str::from_utf8(&bytes)?;
-    Ok(format!(in alloc;
-        "{:?} {:?} {:?} {text}",
-        status, fields.content_type, fields.more
-    )?)
-}
-
-/// Whether a request gets its reply.
-fn is_answered<S: Store>(
-    alloc: Global,
-    grid: &mut Grid<S>,
-    head: &Head,
-    body: &[u8],
-    reply: &str,
-) -> Result<bool, Fail> {
-    let answered = shown(alloc, replied(alloc, grid, head, body)?)?;
-    Ok(answered.as_str() == reply)
-}
-
-/// The reply of the first of these requests that gets another.
-fn other_reply<S: Store>(
-    alloc: Global,
-    grid: &mut Grid<S>,
-    rows: &[Sent],
-) -> Result<Option<&'static str>, Fail> {
+/// Each of these requests gets its reply; the first that gets another fails with it.
+fn are_answered<S: Store>(alloc: Global, grid: &mut Grid<S>, rows: &[Sent]) -> Result<(), Fail> {
     for (method, target, body, reply) in rows {
-        let head = head_of(alloc, *method, *target, "")?;
-        if !is_answered(alloc, grid, &head, body.as_bytes(), *reply)? {
-            return Ok(Some(*reply));
+        let answered = asked(alloc, grid, *method, *target, "", body.as_bytes())?;
+        if answered.as_str() != *reply {
+            return Err(Fail::from(*reply));
         }
     }
-    Ok(None)
+    Ok(())
 }
 
 /// The same of requests of a cap.
-fn other_reply_of<S: Store>(
+fn are_answered_of<S: Store>(
     alloc: Global,
     grid: &mut Grid<S>,
     cap: &str,
     rows: &[OfCap],
-) -> Result<Option<&'static str>, Fail> {
+) -> Result<(), Fail> {
     for (method, rest, range, reply) in rows {
         let target = format!(in alloc; "/uri/{cap}{rest}")?;
-        let head = head_of(alloc, *method, target.as_str(), *range)?;
-        if !is_answered(alloc, grid, &head, b"", *reply)? {
-            return Ok(Some(*reply));
+        let answered = asked(alloc, grid, *method, target.as_str(), *range, b"")?;
+        if answered.as_str() != *reply {
+            return Err(Fail::from(*reply));
         }
     }
-    Ok(None)
+    Ok(())
 }
 
-/// The file of 200,000 bytes is put: its cap, where another is answered.
-fn other_big(alloc: Global, grid: &mut Grid<MemStore>) -> Result<Option<&'static str>, Fail> {
-    let head = head_of(alloc, "PUT", "/uri", "")?;
-    let bytes = counted_bytes(alloc, 200_000)?;
-    let reply = format!(in alloc; "Ok PlainText None {BIG_CAP}")?;
-    if is_answered(alloc, grid, &head, &bytes, reply.as_str())? {
-        Ok(None)
+/// A file is put, and has this cap.
+fn is_put<S: Store>(
+    alloc: Global,
+    grid: &mut Grid<S>,
+    bytes: &[u8],
+    cap: &str,
+) -> Result<(), Fail> {
+    let answered = asked(alloc, grid, "PUT", "/uri", "", bytes)?;
+    if answered.as_str().strip_prefix("Ok PlainText None ") == Some(cap) {
+        Ok(())
     } else {
-        Ok(Some(BIG_CAP))
+        Err(Fail::from("another cap"))
     }
 }
 
@@ -180,77 +136,55 @@ fn index_of(alloc: Global, cap: &str) -> Result<[u8; 16], Fail> {
     }
 }
 
-/// The shares of a cap from one number up to another are lost; the cap, where one of them stood nowhere.
-fn not_lost(
+/// The shares of a cap with these numbers are lost.
+fn are_lost(
     alloc: Global,
     grid: &mut Grid<MemStore>,
-    cap: &'static str,
-    from: u16,
-    to: u16,
-) -> Result<Option<&'static str>, Fail> {
+    cap: &str,
+    numbers: Range<u16>,
+) -> Result<(), Fail> {
     let index = index_of(alloc, cap)?;
-    for number in from..to {
+    for number in numbers {
         if !grid.lose(0, index, number)? {
-            return Ok(Some(cap));
+            return Err(Fail::from("no share to lose"));
         }
     }
-    Ok(None)
+    Ok(())
 }
 
-/// A byte of share 4 of a cap is changed, if that share has so many bytes; the cap, where that isn't as it is wanted.
-fn not_spoiled(
+/// Whether a byte of share 4 of a cap is changed.
+fn is_spoiled(
     alloc: Global,
     grid: &mut Grid<MemStore>,
-    cap: &'static str,
+    cap: &str,
     place: u64,
-    wanted: bool,
-) -> Result<Option<&'static str>, Fail> {
+) -> Result<bool, Fail> {
     let index = index_of(alloc, cap)?;
-    let spoiled = grid.spoil(0, index, 4, place)?;
-    Ok(if spoiled == wanted { None } else { Some(cap) })
+    Ok(grid.spoil(0, index, 4, place)?)
 }
 
-/// A step of a script.
-enum Step {
-    /// These requests have their replies.
-    Sends(&'static [Sent]),
-    /// So have these requests of a cap.
-    SendsOf(&'static str, &'static [OfCap]),
-    /// The file of 200,000 bytes is put.
-    PutsBig,
-    /// Shares of a cap are lost, from one number up to another.
-    Loses(&'static str, u16, u16),
-    /// A byte of share 4 of a cap is changed, if that share has so many bytes.
-    Spoils(&'static str, u64, bool),
-}
-
-/// Takes a step: what is expected, where something else comes.
-fn other_at(
-    alloc: Global,
-    grid: &mut Grid<MemStore>,
-    step: &Step,
-) -> Result<Option<&'static str>, Fail> {
-    match step {
-        Step::Sends(rows) => other_reply(alloc, grid, *rows),
-        Step::SendsOf(cap, rows) => other_reply_of(alloc, grid, *cap, *rows),
-        Step::PutsBig => other_big(alloc, grid),
-        Step::Loses(cap, from, to) => not_lost(alloc, grid, *cap, *from, *to),
-        Step::Spoils(cap, place, wanted) => not_spoiled(alloc, grid, *cap, *place, *wanted),
+fn shown(alloc: Global, reply: Reply) -> Result<String, Fail> {
+    let Reply {
+        status,
+        fields,
+        mut body,
+    } = reply;
+    let length = body.len();
+    let mut bytes = Vec::new(alloc);
+    for _ in 0..64 {
+        let Some(more) = body.next(alloc)? else {
+            break;
+        };
+        bytes.extend_from_slice(&more)?;
     }
-}
-
-/// Takes steps: what is expected at the first at which something else comes.
-fn other_in(
-    alloc: Global,
-    grid: &mut Grid<MemStore>,
-    steps: &[Step],
-) -> Result<Option<&'static str>, Fail> {
-    for step in steps {
-        if let Some(expected) = other_at(alloc, grid, step)? {
-            return Ok(Some(expected));
-        }
+    if bytes.len() != length || !body.is_empty() {
+        return Err(Fail::from("another length"));
     }
-    Ok(None)
+    let text = str::from_utf8(&bytes)?;
+    Ok(format!(in alloc;
+        "{:?} {:?} {:?} {text}",
+        status, fields.content_type, fields.more
+    )?)
 }
 
 /// Files and directories that stand in their caps, put, got and walked into.
@@ -307,6 +241,11 @@ const SHORT_FILES: &[Sent] = &[
     ),
 ];
 
+#[test]
+fn short_files_stand_in_their_caps(rt: HostRuntime) -> Result<(), Fail> {
+    are_answered(rt.alloc(), &mut grid_of_one(rt.alloc(), 0)?, SHORT_FILES)
+}
+
 /// Directories that stand in their caps.
 const SMALL_DIRECTORIES: &[Sent] = &[
     (
@@ -334,6 +273,15 @@ const SMALL_DIRECTORIES: &[Sent] = &[
         "Ok PlainText None URI:DIR2-LIT:gi3tumr2yousymjqhjkvesj2jreviotnpewdaormgi5hw7jmfq",
     ),
 ];
+
+#[test]
+fn small_directories_stand_in_their_caps(rt: HostRuntime) -> Result<(), Fail> {
+    are_answered(
+        rt.alloc(),
+        &mut grid_of_one(rt.alloc(), 0)?,
+        SMALL_DIRECTORIES,
+    )
+}
 
 /// Names below the small directory.
 const PATHS: &[OfCap] = &[
@@ -406,6 +354,13 @@ const TARGETS: &[Sent] = &[
     ),
 ];
 
+#[test]
+fn paths_lead_through_directories(rt: HostRuntime) -> Result<(), Fail> {
+    let mut grid = grid_of_one(rt.alloc(), 0)?;
+    are_answered_of(rt.alloc(), &mut grid, SMALL, PATHS)?;
+    are_answered(rt.alloc(), &mut grid, TARGETS)
+}
+
 /// The directory is made.
 const MADE: &[Sent] = &[(
     "POST",
@@ -438,6 +393,13 @@ const CHILD_ROWS: &[OfCap] = &[
     ),
 ];
 
+#[test]
+fn a_stored_directory_is_walked_into(rt: HostRuntime) -> Result<(), Fail> {
+    let mut grid = grid_of_one(rt.alloc(), 1_000_000)?;
+    are_answered(rt.alloc(), &mut grid, MADE)?;
+    are_answered_of(rt.alloc(), &mut grid, DIRECTORY, CHILD_ROWS)
+}
+
 /// Checks of the directory, of which a share was spoiled.
 const CHECKS: &[OfCap] = &[
     (
@@ -469,6 +431,16 @@ const LITERAL_CHECKS: &[OfCap] = &[(
     "",
     r#"Ok Json None {"results":{"healthy":true},"storage-index":""}"#,
 )];
+
+#[test]
+fn bad_shares_are_counted(rt: HostRuntime) -> Result<(), Fail> {
+    let mut grid = grid_of_one(rt.alloc(), 1_000_000)?;
+    are_answered(rt.alloc(), &mut grid, MADE)?;
+    assert!(rt; is_spoiled(rt.alloc(), &mut grid, DIRECTORY, 0)?);
+    are_answered_of(rt.alloc(), &mut grid, DIRECTORY, CHECKS)?;
+    are_answered_of(rt.alloc(), &mut grid, VERIFY, VERIFY_CHECKS)?;
+    are_answered_of(rt.alloc(), &mut grid, "URI:LIT:my", LITERAL_CHECKS)
+}
 
 /// Requests for the bytes of a verify cap.
 const NOT_READABLE: &[OfCap] = &[
@@ -506,6 +478,13 @@ const VERIFY_CHILD: &[Sent] = &[(
     "BadRequest PlainText None bad children\n",
 )];
 
+#[test]
+fn a_verify_cap_is_not_readable(rt: HostRuntime) -> Result<(), Fail> {
+    let mut grid = grid_of_one(rt.alloc(), 0)?;
+    are_answered_of(rt.alloc(), &mut grid, VERIFY, NOT_READABLE)?;
+    are_answered(rt.alloc(), &mut grid, VERIFY_CHILD)
+}
+
 /// Ranges of the empty file.
 const EMPTY_RANGES: &[OfCap] = &[
     (
@@ -542,6 +521,13 @@ const RANGES: &[OfCap] = &[
     ("HEAD", "", "bytes=6-", "Ok OctetStream None foobar"),
 ];
 
+#[test]
+fn ranges_cut_files(rt: HostRuntime) -> Result<(), Fail> {
+    let mut grid = grid_of_one(rt.alloc(), 0)?;
+    are_answered_of(rt.alloc(), &mut grid, "URI:LIT:", EMPTY_RANGES)?;
+    are_answered_of(rt.alloc(), &mut grid, "URI:LIT:mzxw6ytboi", RANGES)
+}
+
 /// A name is composed; two that are one then are refused.
 const COMPOSED_CHILDREN: &[Sent] = &[
     (
@@ -563,6 +549,13 @@ const COMPOSED_NAMES: &[OfCap] = &[
     ("GET", "/%C3%A9", "", "Ok OctetStream None f"),
     ("GET", "/e%CC%81", "", "Ok OctetStream None f"),
 ];
+
+#[test]
+fn composed_names_are_looked_up(rt: HostRuntime) -> Result<(), Fail> {
+    let mut grid = grid_of_one(rt.alloc(), 0)?;
+    are_answered(rt.alloc(), &mut grid, COMPOSED_CHILDREN)?;
+    are_answered_of(rt.alloc(), &mut grid, COMPOSED, COMPOSED_NAMES)
+}
 
 /// Requests of the file of letters.
 const STORED: &[OfCap] = &[
@@ -593,6 +586,13 @@ const STORED: &[OfCap] = &[
         r#"Ok Json None {"results":{"count-corrupt-shares":0,"count-shares-expected":10,"count-shares-good":10,"count-shares-needed":3,"healthy":true,"list-corrupt-shares":[],"recoverable":true},"storage-index":"sq4jz3p4ngj6es3fircm3jysru"}"#,
     ),
 ];
+
+#[test]
+fn a_stored_file_is_read_and_counted(rt: HostRuntime) -> Result<(), Fail> {
+    let mut grid = grid_of_one(rt.alloc(), 1_000_000)?;
+    is_put(rt.alloc(), &mut grid, LETTER_BYTES.as_bytes(), LETTERS)?;
+    are_answered_of(rt.alloc(), &mut grid, LETTERS, STORED)
+}
 
 /// Caps that differ from that of the letters in one field each.
 const OTHERS: &[Sent] = &[
@@ -634,16 +634,21 @@ const GONE: &[OfCap] = &[
     ),
 ];
 
-/// The file of letters is put.
-const PUT_LETTERS: &[Sent] = &[(
-    "PUT",
-    "/uri",
-    LETTER_BYTES,
-    "Ok PlainText None URI:CHK:xciehu7wkhrkdhseyznarsl6n4:ro65en3n4zxwl3gfinnekkeqado3jxpde7tfaj3sr7als57h4qoa:3:10:56",
-)];
-
 /// The file of letters is got whole.
 const FOUND: &[OfCap] = &[("GET", "", "", WHOLE)];
+
+#[test]
+fn a_file_with_too_few_shares_is_gone(rt: HostRuntime) -> Result<(), Fail> {
+    let mut grid = grid_of_one(rt.alloc(), 1_000_000)?;
+    is_put(rt.alloc(), &mut grid, LETTER_BYTES.as_bytes(), LETTERS)?;
+    are_answered(rt.alloc(), &mut grid, OTHERS)?;
+    are_lost(rt.alloc(), &mut grid, LETTERS, 0..7)?;
+    are_answered_of(rt.alloc(), &mut grid, LETTERS, FOUND)?;
+    are_lost(rt.alloc(), &mut grid, LETTERS, 7..8)?;
+    are_answered_of(rt.alloc(), &mut grid, LETTERS, GONE)?;
+    is_put(rt.alloc(), &mut grid, LETTER_BYTES.as_bytes(), LETTERS)?;
+    are_answered_of(rt.alloc(), &mut grid, LETTERS, FOUND)
+}
 
 /// A range over the big file's second segment.
 const BIG_RANGES: &[OfCap] = &[(
@@ -669,144 +674,19 @@ const BIG_CHECKS: &[OfCap] = &[
     ),
 ];
 
-/// What a script shows, how many bytes its one store takes, and its steps.
-type Script = (&'static str, u64, &'static [Step]);
-
-/// Scripts over files and directories that stand in their caps.
-const IN_CAPS: &[Script] = &[
-    (
-        "short files stand in their caps",
-        0,
-        &[Step::Sends(SHORT_FILES)],
-    ),
-    (
-        "small directories stand in their caps",
-        0,
-        &[Step::Sends(SMALL_DIRECTORIES)],
-    ),
-    (
-        "paths lead through directories",
-        0,
-        &[Step::SendsOf(SMALL, PATHS), Step::Sends(TARGETS)],
-    ),
-];
-
-/// Scripts over a stored directory.
-const DIRECTORIES: &[Script] = &[
-    (
-        "a stored directory is walked into",
-        1_000_000,
-        &[Step::Sends(MADE), Step::SendsOf(DIRECTORY, CHILD_ROWS)],
-    ),
-    (
-        "bad shares are counted",
-        1_000_000,
-        &[
-            Step::Sends(MADE),
-            Step::Spoils(DIRECTORY, 0, true),
-            Step::SendsOf(DIRECTORY, CHECKS),
-            Step::SendsOf(VERIFY, VERIFY_CHECKS),
-            Step::SendsOf("URI:LIT:my", LITERAL_CHECKS),
-        ],
-    ),
-];
-
-/// Scripts that store little or nothing.
-const FEW_STORED: &[Script] = &[
-    (
-        "a verify cap is not readable",
-        0,
-        &[
-            Step::SendsOf(VERIFY, NOT_READABLE),
-            Step::Sends(VERIFY_CHILD),
-        ],
-    ),
-    (
-        "ranges cut files",
-        0,
-        &[
-            Step::SendsOf("URI:LIT:", EMPTY_RANGES),
-            Step::SendsOf("URI:LIT:mzxw6ytboi", RANGES),
-        ],
-    ),
-    (
-        "composed names are looked up",
-        0,
-        &[
-            Step::Sends(COMPOSED_CHILDREN),
-            Step::SendsOf(COMPOSED, COMPOSED_NAMES),
-        ],
-    ),
-    ("a store that is full refuses", 0, &[Step::Sends(FULL)]),
-];
-
-/// Scripts over stored files.
-const FILES: &[Script] = &[
-    (
-        "a stored file is read and counted",
-        1_000_000,
-        &[Step::Sends(PUT_LETTERS), Step::SendsOf(LETTERS, STORED)],
-    ),
-    (
-        "a file with too few shares is gone",
-        1_000_000,
-        &[
-            Step::Sends(PUT_LETTERS),
-            Step::Sends(OTHERS),
-            Step::Loses(LETTERS, 0, 7),
-            Step::SendsOf(LETTERS, FOUND),
-            Step::Loses(LETTERS, 7, 8),
-            Step::SendsOf(LETTERS, GONE),
-            Step::Sends(PUT_LETTERS),
-            Step::SendsOf(LETTERS, FOUND),
-        ],
-    ),
-    (
-        "a big file is cut and counted",
-        1_000_000,
-        &[
-            Step::PutsBig,
-            Step::SendsOf(BIG_CAP, BIG_RANGES),
-            Step::Spoils(BIG_CAP, 67_084, true),
-            Step::Spoils(BIG_CAP, 67_085, false),
-            Step::SendsOf(BIG_CAP, BIG_CHECKS),
-        ],
-    ),
-];
-
-/// What the first of these scripts shows that goes another way.
-fn other_script(alloc: Global, scripts: &[Script]) -> Result<Option<&'static str>, Fail> {
-    for (name, room, steps) in scripts {
-        let mut grid = grid_of_one(alloc, *room)?;
-        if other_in(alloc, &mut grid, *steps)?.is_some() {
-            return Ok(Some(*name));
-        }
-    }
-    Ok(None)
-}
-
 #[test]
-fn what_stands_in_its_cap_is_answered(rt: HostRuntime) -> Result<(), Fail> {
-    assert_eq!(rt; other_script(rt.alloc(), IN_CAPS)?, None);
-    Ok(())
-}
-
-#[test]
-fn a_stored_directory_is_walked_into_and_counted(rt: HostRuntime) -> Result<(), Fail> {
-    assert_eq!(rt; other_script(rt.alloc(), DIRECTORIES)?, None);
-    Ok(())
-}
-
-#[test]
-fn verify_caps_ranges_names_and_full_stores_are_answered(rt: HostRuntime) -> Result<(), Fail> {
-    assert_eq!(rt; other_script(rt.alloc(), FEW_STORED)?, None);
-    Ok(())
-}
-
-#[test]
-fn stored_files_are_read_and_counted(rt: HostRuntime) -> Result<(), Fail> {
-    assert_eq!(rt; other_script(rt.alloc(), FILES)?, None);
-    Ok(())
+fn a_big_file_is_cut_and_counted(rt: HostRuntime) -> Result<(), Fail> {
+    let mut grid = grid_of_one(rt.alloc(), 1_000_000)?;
+    is_put(
+        rt.alloc(),
+        &mut grid,
+        &counted_bytes(rt.alloc(), 200_000)?,
+        BIG_CAP,
+    )?;
+    are_answered_of(rt.alloc(), &mut grid, BIG_CAP, BIG_RANGES)?;
+    assert!(rt; is_spoiled(rt.alloc(), &mut grid, BIG_CAP, 67_084)?);
+    assert!(rt; !is_spoiled(rt.alloc(), &mut grid, BIG_CAP, 67_085)?);
+    are_answered_of(rt.alloc(), &mut grid, BIG_CAP, BIG_CHECKS)
 }
 
 /// Faults and their replies.
@@ -871,10 +751,9 @@ const DOWN: &[Sent] = &[(
 )];
 
 #[test]
-fn a_store_that_is_down_refuses(rt: HostRuntime) -> Result<(), Fail> {
-    let mut grid = failing_grid(rt.alloc())?;
-    assert_eq!(rt; other_reply(rt.alloc(), &mut grid, DOWN)?, None);
-    Ok(())
+fn a_store_that_is_full_or_down_refuses(rt: HostRuntime) -> Result<(), Fail> {
+    are_answered(rt.alloc(), &mut grid_of_one(rt.alloc(), 0)?, FULL)?;
+    are_answered(rt.alloc(), &mut failing_grid(rt.alloc())?, DOWN)
 }
 
 /// A grid whose store fails from its first call on.

@@ -20,13 +20,6 @@ const DIRECTORY: &str =
 /// A directory in its cap, with the file `a`.
 const SMALL: &str = "URI:DIR2-LIT:gi3dumj2mewdcmb2kvjesosmjfkdu3lzfqydulbshj5x2lbm";
 
-/// A directory above it.
-const ABOVE: &str =
-    r#"{"down": ["dirnode", {"ro_uri": "URI:DIR2-CHK:3jcp4de6j2kigz46ls2mmoi4wu:x6yc4s52wnu5kaz32xmzyus35hcqnq7kztn57tgji2leja75r6fq:3:10:237"}]}"#;
-
-/// Names, and what a walk along them comes to.
-type Row = (&'static [&'static str], &'static str);
-
 fn grid_of_one(alloc: Global) -> Result<Grid<MemStore>, Fail> {
     let mut stores = Vec::new(alloc);
     stores.push(MemStore::new(alloc, 1_000_000))?;
@@ -67,109 +60,87 @@ fn ends(
     }
 }
 
-/// The end of the first of these walks from a cap that comes to another.
-fn other_end(
-    alloc: Global,
-    grid: &mut Grid<MemStore>,
-    cap: &Cap,
-    rows: &[Row],
-) -> Result<Option<&'static str>, Fail> {
-    for (names, end) in rows {
-        if ends(alloc, grid, cap, *names)?.as_str() != *end {
-            return Ok(Some(*end));
-        }
-    }
-    Ok(None)
-}
-
-/// Walks from the small directory.
-const FROM_SMALL: &[Row] = &[
-    (&[], SMALL),
-    (&["a"], "URI:LIT:my"),
-    (&["b"], "no such child b"),
-    (&["a", "b"], "not a directory"),
-    (&["b", "a"], "no such child b"),
-];
-
-/// Walks from a directory above the large one.
-const FROM_ABOVE: &[Row] = &[
-    (&["down"], DIRECTORY),
-    (&["down", "b/c"], "URI:LIT:"),
-    (&["down", "B"], "URI:DIR2-LIT:"),
-    (&["down", "B", "x"], "no such child x"),
-    (&["down", "b"], "no such child b"),
-    (&["down", "日", "x"], "not a directory"),
-    (&["B"], "no such child B"),
-];
-
 #[test]
-fn directories_are_walked_through(rt: HostRuntime) -> Result<(), Fail> {
+fn a_directory_in_its_cap_is_walked_through(rt: HostRuntime) -> Result<(), Fail> {
     let alloc = rt.alloc();
     let mut grid = grid_of_one(alloc)?;
     let small = parse(alloc, SMALL)?;
-    assert_eq!(rt; other_end(alloc, &mut grid, &small, FROM_SMALL)?, None);
-    let directory = make(alloc, &mut grid, CHILDREN)?;
-    assert_eq!(rt; print(alloc, &directory)?.as_str(), DIRECTORY);
-    let above = make(alloc, &mut grid, ABOVE)?;
-    assert_eq!(rt; other_end(alloc, &mut grid, &above, FROM_ABOVE)?, None);
+    for (names, end) in [
+        ([].as_slice(), SMALL),
+        (["a"].as_slice(), "URI:LIT:my"),
+        (["b"].as_slice(), "no such child b"),
+        (["a", "b"].as_slice(), "not a directory"),
+        (["b", "a"].as_slice(), "no such child b"),
+    ] {
+        assert_eq!(rt; ends(alloc, &mut grid, &small, names)?.as_str(), end);
+    }
     Ok(())
 }
 
-/// Caps of no directory, or of none that is read.
-const NO_DIRECTORIES: &[&str] = &[
-    "URI:LIT:my",
-    "URI:DIR2-LIT:my",
-    "URI:CHK:aaaqeayeaudaocajbifqydiob4:aaaqeayeaudaocajbifqydiob4ireeyuculbogazdinryhi6d4pq:3:10:0",
-    "URI:DIR2-CHK-Verifier:yslfiuaixl7f6qelvvaj3u446i:x6yc4s52wnu5kaz32xmzyus35hcqnq7kztn57tgji2leja75r6fq:3:10:237",
-];
-
-/// A walk from what is no directory.
-const REFUSED: &[Row] = &[(&["a"], "not a directory")];
-
 #[test]
-fn what_is_no_directory_is_not_walked_through(rt: HostRuntime) -> Result<(), Fail> {
+fn a_directory_on_stores_is_walked_through(rt: HostRuntime) -> Result<(), Fail> {
     let alloc = rt.alloc();
     let mut grid = grid_of_one(alloc)?;
-    for text in NO_DIRECTORIES {
-        let cap = parse(alloc, *text)?;
-        assert_eq!(rt; other_end(alloc, &mut grid, &cap, REFUSED)?, None, "{text}");
+    let directory = make(alloc, &mut grid, CHILDREN)?;
+    assert_eq!(rt; print(alloc, &directory)?.as_str(), DIRECTORY);
+    let above = format!(in alloc; "{{\"down\": [\"dirnode\", {{\"ro_uri\": \"{DIRECTORY}\"}}]}}")?;
+    let above = make(alloc, &mut grid, above.as_str())?;
+    for (names, end) in [
+        (["down"].as_slice(), DIRECTORY),
+        (["down", "b/c"].as_slice(), "URI:LIT:"),
+        (["down", "B"].as_slice(), "URI:DIR2-LIT:"),
+        (["down", "B", "x"].as_slice(), "no such child x"),
+        (["down", "b"].as_slice(), "no such child b"),
+        (["down", "日", "x"].as_slice(), "not a directory"),
+        (["B"].as_slice(), "no such child B"),
+    ] {
+        assert_eq!(rt; ends(alloc, &mut grid, &above, names)?.as_str(), end);
+    }
+    Ok(())
+}
+
+#[test]
+fn each_step_that_fails_has_its_fault(rt: HostRuntime) -> Result<(), Fail> {
+    let alloc = rt.alloc();
+    let mut grid = grid_of_one(alloc)?;
+    let directory = make(alloc, &mut grid, CHILDREN)?;
+    let Cap::DirChk(fields) = directory else {
+        return Err("no directory on stores".into());
+    };
+    for cap in [
+        "URI:LIT:my",
+        "URI:DIR2-LIT:my",
+        "URI:CHK:aaaqeayeaudaocajbifqydiob4:aaaqeayeaudaocajbifqydiob4ireeyuculbogazdinryhi6d4pq:3:10:0",
+        "URI:DIR2-CHK-Verifier:yslfiuaixl7f6qelvvaj3u446i:x6yc4s52wnu5kaz32xmzyus35hcqnq7kztn57tgji2leja75r6fq:3:10:237",
+    ] {
+        let cap = parse(alloc, cap)?;
+        assert_eq!(rt;
+            ends(alloc, &mut grid, &cap, &["a"])?.as_str(),
+            "not a directory"
+        );
     }
     let file = upload(alloc, &mut grid, 3, 10, b"", [b'a'; 56].to_vec(alloc)?)?;
     let Cap::Chk(letters) = file else {
         return Err("no file on stores".into());
     };
-    let letters = Cap::DirChk(letters);
-    assert_eq!(rt; other_end(alloc, &mut grid, &letters, REFUSED)?, None);
-    Ok(())
-}
-
-/// Loses the shares of store 0 with these numbers.
-fn lose(grid: &mut Grid<MemStore>, cap: &Cap, from: u16, to: u16) -> Result<bool, Fail> {
-    let Cap::DirChk(fields) = cap else {
-        return Ok(false);
-    };
-    for number in from..to {
-        if !grid.lose(0, storage_index(&fields.key), number)? {
-            return Ok(false);
-        }
+    assert_eq!(rt;
+        ends(alloc, &mut grid, &Cap::DirChk(letters), &["a"])?.as_str(),
+        "not a directory"
+    );
+    let index = storage_index(&fields.key);
+    for number in 0..7 {
+        assert!(rt; grid.lose(0, index, number)?);
     }
-    Ok(true)
-}
-
-/// A walk through a directory whose shares are enough.
-const ENOUGH: &[Row] = &[(&["B"], "URI:DIR2-LIT:")];
-
-/// Walks from a directory with too few.
-const TOO_FEW: &[Row] = &[(&["B"], "not enough shares"), (&[], DIRECTORY)];
-
-#[test]
-fn a_directory_with_too_few_shares_has_its_fault(rt: HostRuntime) -> Result<(), Fail> {
-    let alloc = rt.alloc();
-    let mut grid = grid_of_one(alloc)?;
-    let cap = make(alloc, &mut grid, CHILDREN)?;
-    assert!(rt; lose(&mut grid, &cap, 0, 7)?);
-    assert_eq!(rt; other_end(alloc, &mut grid, &cap, ENOUGH)?, None);
-    assert!(rt; lose(&mut grid, &cap, 7, 8)?);
-    assert_eq!(rt; other_end(alloc, &mut grid, &cap, TOO_FEW)?, None);
+    let cap = Cap::DirChk(fields);
+    assert_eq!(rt;
+        ends(alloc, &mut grid, &cap, &["B"])?.as_str(),
+        "URI:DIR2-LIT:"
+    );
+    assert!(rt; grid.lose(0, index, 7)?);
+    assert_eq!(rt;
+        ends(alloc, &mut grid, &cap, &["B"])?.as_str(),
+        "not enough shares"
+    );
+    assert_eq!(rt; ends(alloc, &mut grid, &cap, &[])?.as_str(), DIRECTORY);
     Ok(())
 }
