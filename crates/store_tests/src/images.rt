@@ -13,6 +13,13 @@ use std::io::Read;
 use std::rc::RcSlice;
 use std::test::Fail;
 
+/// The versions of an image.
+#[derive(Clone, Copy)]
+enum Layout {
+    VersionOne,
+    VersionTwo,
+}
+
 // The empty grid of five servers, in versions 1 and 2.
 const EMPTY_ONE: [u8; 16] = *b"TGRIDIM1\x00\x00\x00\x05\x00\x00\x00\x00";
 
@@ -35,23 +42,6 @@ const THREE_TWO: [u8; 122] = *b"TGRIDIM2\x00\x00\x00\x05\x00\x00\x00\x00\x00\x00
     \x00\x00\x00\x03\x02\x02\x02\x02\x02\x02\x02\x02\x02\x02\x02\x02\x02\x02\x02\x02\
     \x00\x00\x00\xff\x00\x00\x00\x00\x00\x00\x00\x01f";
 
-/// The versions of an image.
-#[derive(Clone, Copy)]
-enum Layout {
-    VersionOne,
-    VersionTwo,
-}
-
-const LAYOUTS: [Layout; 2] = [Layout::VersionOne, Layout::VersionTwo];
-
-// The image of those three shares.
-fn three(layout: Layout) -> &'static [u8] {
-    match layout {
-        Layout::VersionOne => &THREE_ONE,
-        Layout::VersionTwo => &THREE_TWO,
-    }
-}
-
 fn stores_of(alloc: Global, count: usize, room: u64) -> Result<Vec<MemStore>, Fail>
     ensures count { IfOk result (λ stores. vec_len stores ≡ count) }
     ensures empty { IfOk result (λ stores.
@@ -64,24 +54,17 @@ fn stores_of(alloc: Global, count: usize, room: u64) -> Result<Vec<MemStore>, Fa
     Ok(stores)
 }
 
-// What comes of an image that is read into five stores of so much room.
-fn read_into<R: Read>(
-    alloc: Global,
-    room: u64,
-    reader: &mut R,
-) -> Result<Result<Grid<MemStore>, GridFault>, Fail> {
-    match Grid::read_image(alloc, stores_of(alloc, 5, room)?, reader) {
+// What comes of an image that is read into five stores.
+fn read(alloc: Global, image: &[u8]) -> Result<Result<Grid<MemStore>, GridFault>, Fail> {
+    let mut reader = image;
+    let stores = stores_of(alloc, 5, 1_000)?;
+    match Grid::read_image(alloc, stores, &mut reader) {
         Ok(grid) => Ok(Ok(grid)),
         Err((error, stores)) => {
             drop(stores);
             Ok(Err(error))
         }
     }
-}
-
-fn read(alloc: Global, image: &[u8]) -> Result<Result<Grid<MemStore>, GridFault>, Fail> {
-    let mut reader = image;
-    read_into(alloc, 1_000, &mut reader)
 }
 
 fn fault(alloc: Global, image: &[u8]) -> Result<Option<GridFault>, Fail> {
@@ -132,48 +115,45 @@ fn the_empty_grid_is_written_in_twenty_bytes(rt: HostRuntime) -> Result<(), Fail
     Ok(())
 }
 
-// Images that aren't those of a grid of five, and the place of the first fault of each.
-const NO_GRID_OF_FIVE: [(&str, u64); 18] = [
-    ("", 0),
-    ("TGRIDIM", 0),
-    ("TGRIDIM0\x00\x00\x00\x05\x00\x00\x00\x00", 0),
-    ("TGRIDIM3\x00\x00\x00\x05\x00\x00\x00\x00", 0),
-    ("tGRIDIM2\x00\x00\x00\x05\x00\x00\x00\x00", 0),
-    ("TGRIDIM1", 8),
-    ("TGRIDIM1\x00\x00\x00", 8),
-    ("TGRIDIM1\x00\x00\x00\x05\x00\x00\x00", 12),
-    ("TGRIDIM1\x00\x00\x00\x04\x00\x00\x00\x00", 8),
-    ("TGRIDIM1\x00\x00\x00\x05\x00\x00\x00\x00\x00", 16),
-    ("TGRIDIM2", 8),
-    ("TGRIDIM2\x00\x00\x00", 8),
-    ("TGRIDIM2\x00\x00\x00\x05", 12),
-    ("TGRIDIM2\x00\x00\x00\x05\x00\x00\x00\x00", 12),
-    ("TGRIDIM2\x00\x00\x00\x05\x00\x00\x00\x00\x00\x00\x00", 12),
-    (
-        "TGRIDIM2\x00\x00\x00\x04\x00\x00\x00\x00\x00\x00\x00\x00",
-        8,
-    ),
-    (
-        "TGRIDIM2\x00\x00\x00\x05\x00\x00\x00\x00\x00\x00\x00\x00\x00",
-        20,
-    ),
-    // A number of shares above 32 bits, and none of them.
-    (
-        "TGRIDIM2\x00\x00\x00\x05\x00\x00\x00\x01\x00\x00\x00\x00",
-        20,
-    ),
-];
-
 #[test]
 fn an_image_that_is_no_grid_of_five_is_refused_at_its_first_fault(
     rt: HostRuntime,
 ) -> Result<(), Fail> {
-    for (image, place) in NO_GRID_OF_FIVE {
-        assert_eq!(rt;
-            fault(rt.alloc(), image.as_bytes())?,
-            Some(GridFault::BadImage(place)),
-            "{image:?}"
-        );
+    let cases = [
+        (b"".as_slice(), 0),
+        (b"TGRIDIM".as_slice(), 0),
+        (b"TGRIDIM0\x00\x00\x00\x05\x00\x00\x00\x00".as_slice(), 0),
+        (b"TGRIDIM3\x00\x00\x00\x05\x00\x00\x00\x00".as_slice(), 0),
+        (b"tGRIDIM2\x00\x00\x00\x05\x00\x00\x00\x00".as_slice(), 0),
+        (&EMPTY_ONE[..8], 8),
+        (&EMPTY_ONE[..11], 8),
+        (&EMPTY_ONE[..15], 12),
+        (b"TGRIDIM1\x00\x00\x00\x04\x00\x00\x00\x00".as_slice(), 8),
+        (
+            b"TGRIDIM1\x00\x00\x00\x05\x00\x00\x00\x00\x00".as_slice(),
+            16,
+        ),
+        (&EMPTY_TWO[..8], 8),
+        (&EMPTY_TWO[..11], 8),
+        (&EMPTY_TWO[..12], 12),
+        (&EMPTY_TWO[..16], 12),
+        (&EMPTY_TWO[..19], 12),
+        (
+            b"TGRIDIM2\x00\x00\x00\x04\x00\x00\x00\x00\x00\x00\x00\x00".as_slice(),
+            8,
+        ),
+        (
+            b"TGRIDIM2\x00\x00\x00\x05\x00\x00\x00\x00\x00\x00\x00\x00\x00".as_slice(),
+            20,
+        ),
+        // A number of shares above 32 bits, and none of them.
+        (
+            b"TGRIDIM2\x00\x00\x00\x05\x00\x00\x00\x01\x00\x00\x00\x00".as_slice(),
+            20,
+        ),
+    ];
+    for (image, place) in cases {
+        assert_eq!(rt; fault(rt.alloc(), image)?, Some(GridFault::BadImage(place)));
     }
     Ok(())
 }
@@ -218,13 +198,18 @@ fn a_grid_is_copied_by_its_image(rt: HostRuntime) -> Result<(), Fail> {
 
 #[test]
 fn an_image_of_either_version_is_written_again_in_version_2(rt: HostRuntime) -> Result<(), Fail> {
-    for layout in LAYOUTS {
-        let mut grid = read(rt.alloc(), three(layout))??;
+    for image in [THREE_ONE.as_slice(), THREE_TWO.as_slice()] {
+        let mut grid = read(rt.alloc(), image)??;
         let found = grid.gather([7; 16])?;
         assert_eq!(rt; found.len(), 2);
         for (server, number, bytes) in found {
-            let wanted = if number == 0 { "ab" } else { "cde" };
-            assert_eq!(rt; (server, bytes.as_slice()), (1, wanted.as_bytes()));
+            assert_eq!(rt; server, 1);
+            let wanted = if number == 0 {
+                b"ab".as_slice()
+            } else {
+                b"cde".as_slice()
+            };
+            assert_eq!(rt; bytes.as_slice(), wanted);
         }
         let mut again = Vec::new(rt.alloc());
         grid.write_image(&mut again)?;
@@ -233,38 +218,26 @@ fn an_image_of_either_version_is_written_again_in_version_2(rt: HostRuntime) -> 
     Ok(())
 }
 
-// Where the fields of those images begin.
-const FIELDS_ONE: [u64; 18] = [
-    0, 8, 12, 16, 20, 36, 40, 44, 46, 50, 66, 70, 74, 77, 81, 97, 101, 105,
-];
-
-const FIELDS_TWO: [u64; 18] = [
-    0, 8, 12, 20, 24, 40, 44, 52, 54, 58, 74, 78, 86, 89, 93, 109, 113, 121,
-];
-
-// Where the field begins in which a place is.
-fn field_at(layout: Layout, place: u64) -> u64 {
-    let fields = match layout {
-        Layout::VersionOne => &FIELDS_ONE,
-        Layout::VersionTwo => &FIELDS_TWO,
-    };
-    let mut last = 0;
-    for field in fields {
-        if *field <= place {
-            last = *field;
-        }
-    }
-    last
-}
-
 #[test]
 fn an_image_is_refused_wherever_it_is_cut_off(rt: HostRuntime) -> Result<(), Fail> {
-    for layout in LAYOUTS {
-        let image = three(layout);
+    // Where the fields begin.
+    let one = [
+        0, 8, 12, 16, 20, 36, 40, 44, 46, 50, 66, 70, 74, 77, 81, 97, 101, 105,
+    ];
+    let two = [
+        0, 8, 12, 20, 24, 40, 44, 52, 54, 58, 74, 78, 86, 89, 93, 109, 113, 121,
+    ];
+    for (image, fields) in [(THREE_ONE.as_slice(), one), (THREE_TWO.as_slice(), two)] {
         for length in 0..image.len() {
+            let mut place = 0;
+            for field in fields {
+                if field as usize <= length {
+                    place = field;
+                }
+            }
             assert_eq!(rt;
                 fault(rt.alloc(), &image[..length])?,
-                Some(GridFault::BadImage(field_at(layout, length as u64)))
+                Some(GridFault::BadImage(place))
             );
         }
     }
@@ -293,33 +266,35 @@ fn two(
     Ok(image)
 }
 
-// Server, storage index, number and length of the second share, and the places of its fault in versions 1 and 2.
-const SECOND_ROWS: [(u8, u8, u16, u8, Option<u64>, Option<u64>); 11] = [
-    (1, 7, 5, 1, None, None),
-    (1, 8, 0, 1, None, None),
-    (4, 0, 0, 1, None, None),
-    (1, 7, 4, 1, Some(45), Some(53)),
-    (1, 7, 3, 1, Some(45), Some(53)),
-    (1, 6, 9, 1, Some(45), Some(53)),
-    (0, 9, 9, 1, Some(45), Some(53)),
-    (5, 9, 9, 1, Some(45), Some(53)),
-    (1, 7, 256, 1, Some(65), Some(73)),
-    (1, 7, 9, 0, Some(69), Some(77)),
-    (1, 7, 9, 2, Some(73), Some(85)),
-];
-
 #[test]
 fn a_row_out_of_order_or_range_is_refused_at_its_field(rt: HostRuntime) -> Result<(), Fail> {
     let alloc = rt.alloc();
-    for (server, index, number, length, one, other) in SECOND_ROWS {
-        for (layout, place) in [(Layout::VersionOne, one), (Layout::VersionTwo, other)] {
-            let image = two(alloc, layout, server, index, number, length)?;
-            assert_eq!(rt;
-                fault(alloc, &image)?,
-                place.map(GridFault::BadImage),
-                "{server} {index} {number} {length}"
-            );
-        }
+    // Its server, storage index, number and length, and the places of its fault in versions 1 and 2.
+    let rows = [
+        (1, 7, 5, 1, None),
+        (1, 8, 0, 1, None),
+        (4, 0, 0, 1, None),
+        (1, 7, 4, 1, Some((45, 53))),
+        (1, 7, 3, 1, Some((45, 53))),
+        (1, 6, 9, 1, Some((45, 53))),
+        (0, 9, 9, 1, Some((45, 53))),
+        (5, 9, 9, 1, Some((45, 53))),
+        (1, 7, 256, 1, Some((65, 73))),
+        (1, 7, 9, 0, Some((69, 77))),
+        (1, 7, 9, 2, Some((73, 85))),
+    ];
+    for (server, index, number, length, places) in rows {
+        let one = two(alloc, Layout::VersionOne, server, index, number, length)?;
+        let two = two(alloc, Layout::VersionTwo, server, index, number, length)?;
+        let wanted = match places {
+            Some((one, two)) => (
+                Some(GridFault::BadImage(one)),
+                Some(GridFault::BadImage(two)),
+            ),
+            None => (None, None),
+        };
+        assert_eq!(rt; fault(alloc, &one)?, wanted.0);
+        assert_eq!(rt; fault(alloc, &two)?, wanted.1);
     }
     Ok(())
 }
@@ -354,15 +329,17 @@ fn a_store_that_is_full_is_named_before_a_later_fault(rt: HostRuntime) -> Result
         }
     }
     let mut reader = first(&THREE_ONE, 76);
-    let error = read_into(alloc, 4, &mut reader)?.err();
+    let stores = stores_of(alloc, 5, 4)?;
+    let error = Grid::read_image(alloc, stores, &mut reader)
+        .err()
+        .map(|refusal| refusal.0);
     assert_eq!(rt; error, Some(GridFault::BadImage(74)));
     Ok(())
 }
 
 #[test]
 fn a_reader_may_be_slow_but_not_break(rt: HostRuntime) -> Result<(), Fail> {
-    for layout in LAYOUTS {
-        let image = three(layout);
+    for image in [THREE_ONE.as_slice(), THREE_TWO.as_slice()] {
         for left in 0..=image.len() + 1 {
             let mut reader = SlowReader {
                 bytes: first(image, left),
@@ -370,7 +347,10 @@ fn a_reader_may_be_slow_but_not_break(rt: HostRuntime) -> Result<(), Fail> {
                 interrupts: Some(true),
                 fails: left <= image.len(),
             };
-            let error = read_into(rt.alloc(), 10, &mut reader)?.err();
+            let stores = stores_of(rt.alloc(), 5, 10)?;
+            let error = Grid::read_image(rt.alloc(), stores, &mut reader)
+                .err()
+                .map(|refusal| refusal.0);
             let wanted = if left > image.len() {
                 None
             } else {
@@ -475,43 +455,46 @@ const SHARE_TWO: [u8; 44] = *b"TGRIDIM2\x00\x00\x00\x05\x00\x00\x00\x00\x00\x00\
     \x00\x00\x00\x01\x07\x07\x07\x07\x07\x07\x07\x07\x07\x07\x07\x07\x07\x07\x07\x07\
     \x00\x00\x00\x00";
 
-// The image of one share, whose length field says this, with so many bytes behind it.
-fn said(alloc: Global, layout: Layout, length: u64, behind: usize) -> Result<Vec<u8>, Fail> {
-    let mut image = Vec::new(alloc);
-    match layout {
-        Layout::VersionOne => {
-            image.extend_from_slice(&SHARE_ONE)?;
-            image.extend_from_slice(&length.to_be_bytes()[4..])?;
-        }
-        Layout::VersionTwo => {
-            image.extend_from_slice(&SHARE_TWO)?;
-            image.extend_from_slice(&length.to_be_bytes())?;
-        }
-    }
-    image.extend_from_slice(first(&[1; 10], behind))?;
-    Ok(image)
-}
-
-// A length, how many bytes stand behind it, and the place where they begin.
-const TOO_LONG: [(Layout, u64, usize, u64); 5] = [
-    (Layout::VersionOne, 0xffff_ffff, 10, 44),
-    (Layout::VersionOne, 0xffff_ffff, 0, 44),
-    (Layout::VersionTwo, 0xffff_ffff_ffff_ffff, 10, 52),
-    (Layout::VersionTwo, 0xffff_ffff_ffff_ffff, 0, 52),
-    (Layout::VersionTwo, 0x0000_0001_0000_0001, 1, 52),
-];
-
 #[test]
 fn bytes_are_asked_for_in_pieces_whatever_a_length_says(rt: HostRuntime) -> Result<(), Fail> {
-    for (layout, length, behind, place) in TOO_LONG {
-        let image = said(rt.alloc(), layout, length, behind)?;
+    let alloc = rt.alloc();
+    // Its length, and how many bytes stand behind it.
+    let cases = [
+        (SHARE_ONE.as_slice(), b"\xff\xff\xff\xff".as_slice(), 10, 44),
+        (SHARE_ONE.as_slice(), b"\xff\xff\xff\xff".as_slice(), 0, 44),
+        (
+            SHARE_TWO.as_slice(),
+            b"\xff\xff\xff\xff\xff\xff\xff\xff".as_slice(),
+            10,
+            52,
+        ),
+        (
+            SHARE_TWO.as_slice(),
+            b"\xff\xff\xff\xff\xff\xff\xff\xff".as_slice(),
+            0,
+            52,
+        ),
+        (
+            SHARE_TWO.as_slice(),
+            b"\x00\x00\x00\x01\x00\x00\x00\x01".as_slice(),
+            1,
+            52,
+        ),
+    ];
+    for (front, length, behind, place) in cases {
+        let mut image = front.to_vec(alloc)?;
+        image.extend_from_slice(length)?;
+        image.extend_from_slice(first(&[1; 10], behind))?;
         let mut reader = Widest {
             bytes: &image,
             asked: 0,
         };
-        let error = read_into(rt.alloc(), 1_000, &mut reader)?.err();
-        assert_eq!(rt; error, Some(GridFault::BadImage(place)), "{length}");
-        assert_eq!(rt; reader.asked, 65_536, "{length}");
+        let stores = stores_of(alloc, 5, 1_000)?;
+        let error = Grid::read_image(alloc, stores, &mut reader)
+            .err()
+            .map(|refusal| refusal.0);
+        assert_eq!(rt; error, Some(GridFault::BadImage(place)));
+        assert_eq!(rt; reader.asked, 65_536);
     }
     Ok(())
 }

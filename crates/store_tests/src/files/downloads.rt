@@ -1,13 +1,14 @@
 //! What no clause says of downloads: how many segments there are, that they need no store any more, and that a segment
 //! is asked for again after a refusal.
 
-use super::{grid_of, grid_of_a_liar, is_read, kept, read_fields, stored};
-use caps::{ReadFields, storage_index};
-use chk_file::{Cache, Download, ReadFault, begin};
+use super::read_fields;
+use caps::storage_index;
+use chk_file::{Cache, Download, ReadFault, begin, read, upload};
 use grid::Grid;
 use octets::fakes::counted_bytes;
-use share_store::{FailAt, MemStore};
+use share_store::{FailAt, Liar, MemStore};
 use std::alloc::{AllocError, Global};
+use std::rc::RcSlice;
 use std::test::Fail;
 
 /// The next segment, which is asked for once more where memory was refused.
@@ -32,55 +33,32 @@ fn given(alloc: Global, mut download: Download) -> Result<(Vec<u8>, Vec<usize>),
     Ok((bytes, lengths))
 }
 
-/// Loses all shares of a file.
-fn lose_all(grid: &mut Grid<MemStore>, fields: &ReadFields) -> Result<(), Fail> {
-    let index = storage_index(&fields.key);
-    for number in 0..fields.n {
-        if !grid.lose(0, index, number)? {
-            return Err("no such share".into());
-        }
-    }
-    Ok(())
-}
-
-/// k, n, a file's size, how many segments it has, and how many bytes the last of them. A segment has 131,072 bytes,
-/// rounded up to a multiple of k. Up to 1,048,576 bytes a file is held whole.
-const SEGMENTS: [(u16, u16, usize, usize, usize); 5] = [
-    (3, 10, 56, 1, 56),
-    (1, 1, 131_072, 1, 131_072),
-    (1, 1, 131_073, 2, 1),
-    (3, 10, 200_000, 2, 68_927),
-    (3, 3, 1_048_585, 9, 1),
-];
-
+/// A segment has 131,072 bytes, rounded up to a multiple of k. Up to 1,048,576 bytes a file is held whole.
 #[test]
 fn a_download_goes_on_when_all_shares_are_lost(rt: HostRuntime) -> Result<(), Fail> {
     let alloc = rt.alloc();
-    for (k, n, size, count, last) in SEGMENTS {
+    for (k, n, size, count, last) in [
+        (3u16, 10u16, 56, 1, 56),
+        (1, 1, 131_072, 1, 131_072),
+        (1, 1, 131_073, 2, 1),
+        (3, 10, 200_000, 2, 68_927),
+        (3, 3, 1_048_585, 9, 1),
+    ] {
         let mut cache = Cache::new(alloc)?;
-        let mut grid = grid_of(alloc, MemStore::new(alloc, 10_000_000))?;
-        let bytes = counted_bytes(alloc, size)?;
-        let fields = read_fields(&stored(
-            alloc,
-            &mut grid,
-            k,
-            n,
-            "",
-            counted_bytes(alloc, size)?,
-        )?)?;
+        let mut stores = Vec::new(alloc);
+        stores.push(MemStore::new(alloc, 10_000_000))?;
+        let mut grid = Grid::new(stores);
+        let cap = upload(alloc, &mut grid, k, n, b"", counted_bytes(alloc, size)?)?;
+        let fields = read_fields(&cap)?;
         let download = begin(alloc, &mut grid, &mut cache, &fields)?;
-        lose_all(&mut grid, &fields)?;
-        assert!(rt;
-            begin(alloc, &mut grid, &mut cache, &fields).is_err(),
-            "{size}"
-        );
-        let (given, lengths) = given(alloc, download)?;
-        assert!(rt; given == bytes, "{size}");
-        assert_eq!(rt;
-            (lengths.len(), lengths.last().copied()),
-            (count, Some(last)),
-            "{size}"
-        );
+        for number in 0..n {
+            assert!(rt; grid.lose(0, storage_index(&fields.key), number)?);
+        }
+        assert!(rt; begin(alloc, &mut grid, &mut cache, &fields).is_err());
+        let (bytes, lengths) = given(alloc, download)?;
+        assert!(rt; bytes == counted_bytes(alloc, size)?);
+        assert_eq!(rt; lengths.len(), count);
+        assert_eq!(rt; lengths.last().copied(), Some(last));
     }
     Ok(())
 }
@@ -92,19 +70,16 @@ fn a_download_keeps_the_file_and_takes_it_from_what_is_kept(rt: HostRuntime) -> 
     let bytes = counted_bytes(alloc, 200_000)?;
     let mut cache = Cache::new(alloc)?;
     let mut other = Cache::new(alloc)?;
-    let mut grid = grid_of(
-        alloc,
-        FailAt::new(alloc, MemStore::new(alloc, 1_000_000), 22, true),
-    )?;
-    let fields = kept(alloc, &mut grid, counted_bytes(alloc, 200_000)?)?;
-    for turn in 0..2 {
+    let mut stores = Vec::new(alloc);
+    stores.push(FailAt::new(alloc, MemStore::new(alloc, 1_000_000), 22, true))?;
+    let mut grid = Grid::new(stores);
+    let cap = upload(alloc, &mut grid, 3, 10, b"", counted_bytes(alloc, 200_000)?)?;
+    let fields = read_fields(&cap)?;
+    for _turn in 0..2 {
         let download = begin(alloc, &mut grid, &mut cache, &fields)?;
-        assert!(rt; given(alloc, download)?.0 == bytes, "turn {turn}");
+        assert!(rt; given(alloc, download)?.0 == bytes);
     }
-    assert_eq!(rt;
-        is_read(alloc, &mut grid, &mut cache, &fields, &bytes)?,
-        Some(true)
-    );
+    assert!(rt; read(alloc, &mut grid, &mut cache, &fields)? == bytes);
     assert!(rt; begin(alloc, &mut grid, &mut other, &fields).is_err());
     Ok(())
 }
@@ -114,10 +89,17 @@ fn a_liar_begins_no_download(rt: HostRuntime) -> Result<(), Fail> {
     let alloc = rt.alloc();
     for size in [56, 1_048_577] {
         let mut cache = Cache::new(alloc)?;
-        let mut grid = grid_of_a_liar(alloc)?;
-        let cap = stored(alloc, &mut grid, 1, 1, "", counted_bytes(alloc, size)?)?;
-        let begun = begin(alloc, &mut grid, &mut cache, &read_fields(&cap)?).err();
-        assert_eq!(rt; begun, Some(ReadFault::NotEnoughShares), "{size}");
+        let mut answers = Vec::new(alloc);
+        answers.push(RcSlice::from_vec(b"1:1,1:0,".to_vec(alloc)?)?)?;
+        let mut stores = Vec::new(alloc);
+        stores.push(Liar::new(alloc, answers))?;
+        let mut grid = Grid::new(stores);
+        let cap = upload(alloc, &mut grid, 1, 1, b"", counted_bytes(alloc, size)?)?;
+        let gone = matches!(
+            begin(alloc, &mut grid, &mut cache, &read_fields(&cap)?),
+            Err(ReadFault::NotEnoughShares)
+        );
+        assert!(rt; gone);
     }
     Ok(())
 }
