@@ -1,134 +1,113 @@
 //! Files that are given a segment at a time.
 
+use super::runs::index_of;
 use super::*;
 
-/// A file that is kept when it was read, and one that isn't: their caps and storage indices.
-const KEPT: Part<'static> = Part::Text(
-    b"URI:CHK:cpgmyfu7y4nqyhvkcqfcsmnqvq:cvffjve3vt7bw5r2bn4fpzm22wnb5vsv7pduk635eeclhal7bo5q:3:10:200000",
-);
-
-const KEPT_INDEX: [u8; 16] = [
-    129, 180, 8, 182, 3, 136, 172, 185, 117, 123, 44, 125, 69, 178, 192, 230,
-];
-
-const LONG: Part<'static> = Part::Text(
-    b"URI:CHK:tusmnc7xhya6p7uh4btj7vjl64:7c7ylqnipiwqkvdcxz5m5xvxqbu54ll6tclzqsutzqvegmv4weoa:3:10:1200000",
-);
-
-const LONG_INDEX: [u8; 16] = [
-    121, 152, 202, 209, 27, 242, 44, 68, 26, 67, 178, 151, 91, 198, 184, 50,
-];
+/// Bytes of a file that is kept when it was read, and of one that isn't.
+const SIZES: [usize; 2] = [200_000, 1_200_000];
 
 /// A request for a part of a file that stands in two segments.
-const PART: Part<'static> = Part::Text(
-    b" HTTP/1.1\r\nHost: g\r\nRange: bytes=131000-131999\r\n\r\n",
-);
+const PART: &[u8] = b" HTTP/1.1\r\nHost: g\r\nRange: bytes=131000-131999\r\n\r\n";
 
 /// Its reply, up to the size of the file.
-const PART_HEAD: Part<'static> = Part::Text(
-    b"HTTP/1.1 206 Partial Content\r\nContent-Type: application/octet-stream\r\nContent-Length: 1000\r\nContent-Range: bytes 131000-131999/",
-);
-
-/// That part: bytes 131,000 to 131,021 are 229 to 250, and then they begin with 0 again.
-const PART_START: Part<'static> = Part::Text(&[
-    229, 230, 231, 232, 233, 234, 235, 236, 237, 238, 239, 240, 241, 242, 243, 244, 245, 246, 247,
-    248, 249, 250,
-]);
-
-const PART_END: Part<'static> = Part::Counted(978);
-
-const ROOMY: Setting = Setting {
-    k: 3,
-    n: 10,
-    servers: 1,
-    room: 10_000_000,
-    secret: b"",
-};
-
-/// A file is put and asked for twice, with a part of it, in one piece. After the first bytes another file is stored and all
-/// shares of this one are lost; what waits is given whole, and the file is not found then.
-const DOWNLOADS: &[Script] = &[
-    Script {
-        name: "a file that is kept when it was read",
-        setting: ROOMY,
-        steps: &[
-            Step::Open(1, None, Ok(())),
-            Step::Open(2, None, Ok(())),
-            Step::Ask(
-                1,
-                &[PUT, Part::Text(b"200000\r\n\r\n"), Part::Counted(200_000)],
-                &[TEXT, Part::Text(b"99\r\n\r\n"), KEPT],
-            ),
-            Step::Send(
-                1,
-                &[GET, KEPT, HTTP, GET, KEPT, HTTP, GET, KEPT, PART],
-                Ok(()),
-            ),
-            Step::Take(1, 200, 1),
-            Step::Send(2, PUT_LETTERS, Ok(())),
-            Step::Lose(KEPT_INDEX, 10, true),
-            Step::Take(1, 40, 131_073),
-            Step::Taken(&[
-                FILE,
-                Part::Text(b"200000\r\n\r\n"),
-                Part::Counted(200_000),
-                FILE,
-                Part::Text(b"200000\r\n\r\n"),
-                Part::Counted(200_000),
-                PART_HEAD,
-                Part::Text(b"200000\r\n\r\n"),
-                PART_START,
-                PART_END,
-            ]),
-            Step::Ask(1, &[GET, KEPT, HTTP], NOT_FOUND),
-        ],
-    },
-    Script {
-        name: "a file that is too long to be kept",
-        setting: ROOMY,
-        steps: &[
-            Step::Open(1, None, Ok(())),
-            Step::Open(2, None, Ok(())),
-            Step::Ask(
-                1,
-                &[
-                    PUT,
-                    Part::Text(b"1200000\r\n\r\n"),
-                    Part::Counted(1_200_000),
-                ],
-                &[TEXT, Part::Text(b"100\r\n\r\n"), LONG],
-            ),
-            Step::Send(
-                1,
-                &[GET, LONG, HTTP, GET, LONG, HTTP, GET, LONG, PART],
-                Ok(()),
-            ),
-            Step::Take(1, 200, 1),
-            Step::Send(2, PUT_LETTERS, Ok(())),
-            Step::Lose(LONG_INDEX, 10, true),
-            Step::Take(1, 40, 131_073),
-            Step::Taken(&[
-                FILE,
-                Part::Text(b"1200000\r\n\r\n"),
-                Part::Counted(1_200_000),
-                FILE,
-                Part::Text(b"1200000\r\n\r\n"),
-                Part::Counted(1_200_000),
-                PART_HEAD,
-                Part::Text(b"1200000\r\n\r\n"),
-                PART_START,
-                PART_END,
-            ]),
-            Step::Ask(1, &[GET, LONG, HTTP], NOT_FOUND),
-        ],
-    },
-];
+const PART_HEAD: &[u8] =
+    b"HTTP/1.1 206 Partial Content\r\nContent-Type: application/octet-stream\r\nContent-Length: 1000\r\nContent-Range: bytes 131000-131999/";
 
 #[test]
 fn what_waits_is_given_though_all_shares_are_lost(rt: HostRuntime) -> Result<(), Fail> {
-    for script in DOWNLOADS {
-        let gone = steps_gone(rt.alloc(), script)?;
-        assert_eq!(rt; gone, script.steps.len(), "{}", script.name);
+    for size in SIZES {
+        assert!(rt; is_given_after_a_loss(rt.alloc(), size)?, "{size}");
+    }
+    Ok(())
+}
+
+/// Whether a file, twice, and a part of it are given whole where its shares were lost and another file was stored after
+/// the first bytes were taken; and not found then.
+fn is_given_after_a_loss(alloc: Global, size: usize) -> Result<bool, Fail> {
+    let mut gateway = gateway(alloc, 10_000_000)?;
+    let file = counted_bytes(alloc, size)?;
+    let cap = cap_of(alloc, &mut gateway, &file)?;
+    let taken = taken_around_a_loss(alloc, &mut gateway, &cap)?;
+    let is_gone = is_answered(alloc, &mut gateway, (&[GET, &cap, HTTP], NOT_FOUND.1))?;
+    Ok(is_gone && is_whole(alloc, &taken, &file)?)
+}
+
+/// What is taken of three replies, of which the first bytes are taken before the shares are lost.
+fn taken_around_a_loss(
+    alloc: Global,
+    gateway: &mut Gateway<MemStore>,
+    cap: &[u8],
+) -> Result<Vec<u8>, Fail> {
+    ask_thrice(alloc, gateway, cap)?;
+    let mut taken = Vec::new(alloc);
+    take_many(gateway, &mut taken, 200, 1)?;
+    store_letters(alloc, gateway)?;
+    lose_each(alloc, gateway, cap)?;
+    take_many(gateway, &mut taken, 40, 131_073)?;
+    Ok(taken)
+}
+
+/// Connection 1 asks for a file, twice, and for a part of it, in one piece.
+fn ask_thrice(alloc: Global, gateway: &mut Gateway<MemStore>, cap: &[u8]) -> Result<(), Fail> {
+    let piece = joined(alloc, &[GET, cap, HTTP, GET, cap, HTTP, GET, cap, PART])?;
+    send(gateway, 1, &piece)
+}
+
+/// Connection 2 stores another file.
+fn store_letters(alloc: Global, gateway: &mut Gateway<MemStore>) -> Result<(), Fail> {
+    open(gateway, 2)?;
+    let piece = joined(alloc, PUT_LETTERS)?;
+    send(gateway, 2, &piece)
+}
+
+/// The shares of a cap are lost.
+fn lose_each(alloc: Global, gateway: &mut Gateway<MemStore>, cap: &[u8]) -> Result<(), Fail> {
+    let index = index_of(alloc, cap)?;
+    for number in 0..10 {
+        let _ = gateway.lose(0, index, number)?;
+    }
+    Ok(())
+}
+
+/// Whether these are the replies to the three requests.
+fn is_whole(alloc: Global, taken: &[u8], file: &[u8]) -> Result<bool, Fail> {
+    let whole = message(alloc, FILE, file)?;
+    let reply = whole.as_slice();
+    let digits = file.len().to_string(alloc)?;
+    let part = file.get(131_000..132_000).ok_or("no part")?;
+    Ok(is_joined(
+        taken,
+        &[
+            reply,
+            reply,
+            PART_HEAD,
+            digits.as_bytes(),
+            b"\r\n\r\n",
+            part,
+        ],
+    ))
+}
+
+/// The cap that connection 1 is given of a file that it puts.
+fn cap_of(alloc: Global, gateway: &mut Gateway<MemStore>, file: &[u8]) -> Result<Vec<u8>, Fail> {
+    let reply = asked(gateway, &put(alloc, file)?)?;
+    let at = reply
+        .iter()
+        .rposition(|byte| *byte == b'\n')
+        .ok_or("no cap")?;
+    let cap = reply.get(at + 1..).ok_or("no cap")?;
+    Ok(Vec::from_slice(alloc, cap)?)
+}
+
+/// So many portions of so many bytes are taken.
+fn take_many(
+    gateway: &mut Gateway<MemStore>,
+    taken: &mut Vec<u8>,
+    times: usize,
+    most: usize,
+) -> Result<(), Fail> {
+    for _ in 0..times {
+        take_portion(gateway, taken, most)?;
     }
     Ok(())
 }

@@ -2,61 +2,44 @@
 
 use super::*;
 
-const FORGOTTEN: &[Script] = &[
-    Script {
-        name: "an ended connection is forgotten, once and again, and the other goes on",
-        setting: ONE,
-        steps: &[
-            Step::Open(1, None, Ok(())),
-            Step::Open(2, None, Ok(())),
-            Step::Send(1, ASK_FOO, Ok(())),
-            Step::Send(2, ASK_FOO, Ok(())),
-            Step::End(1, Ok(())),
-            Step::Forget(1, Ok(())),
-            Step::IsGone(1),
-            Step::Forget(1, Ok(())),
-            Step::IsGone(1),
-            Step::Take(2, 1, 1_000),
-            Step::Taken(GIVE_FOO),
-        ],
-    },
-    Script {
-        name: "what goes on is not forgotten",
-        setting: ONE,
-        steps: &[
-            Step::Open(1, None, Ok(())),
-            Step::Open(2, None, Ok(())),
-            Step::Send(1, ASK_FOO, Ok(())),
-            Step::Send(2, ASK_FOO, Ok(())),
-            Step::End(1, Ok(())),
-            Step::Forget(2, Err(GatewayFault::StillOpen)),
-            Step::Forget(3, Err(GatewayFault::NotOpen)),
-            Step::Take(2, 1, 1_000),
-            Step::Taken(GIVE_FOO),
-            Step::Take(1, 1, 1_000),
-            Step::Taken(GIVE_FOO),
-        ],
-    },
-    Script {
-        name: "the greatest id is forgotten",
-        setting: ONE,
-        steps: &[
-            Step::Open(u64::MAX, None, Ok(())),
-            Step::End(u64::MAX, Ok(())),
-            Step::Forget(u64::MAX, Ok(())),
-            Step::IsGone(u64::MAX),
-            Step::Open(0, None, Ok(())),
-        ],
-    },
-];
+#[test]
+fn an_ended_connection_is_forgotten(rt: HostRuntime) -> Result<(), Fail> {
+    let mut gateway = ended_beside_another(rt.alloc())?;
+    gateway.forget(1)?;
+    assert!(rt; is_gone(&mut gateway, 1)?);
+    gateway.forget(1)?;
+    assert!(rt; is_gone(&mut gateway, 1)?);
+    assert!(rt; given(&mut gateway, 2, 1000)?.as_slice() == FOO);
+    Ok(())
+}
 
 #[test]
-fn what_ended_is_forgotten_and_nothing_else(rt: HostRuntime) -> Result<(), Fail> {
-    for script in FORGOTTEN {
-        let gone = steps_gone(rt.alloc(), script)?;
-        assert_eq!(rt; gone, script.steps.len(), "{}", script.name);
-    }
+fn what_goes_on_is_not_forgotten(rt: HostRuntime) -> Result<(), Fail> {
+    let mut gateway = ended_beside_another(rt.alloc())?;
+    assert!(rt; matches!(gateway.forget(2), Err(GatewayFault::StillOpen)));
+    assert!(rt; matches!(gateway.forget(3), Err(GatewayFault::NotOpen)));
+    assert!(rt; given(&mut gateway, 2, 1000)?.as_slice() == FOO);
+    assert!(rt; given(&mut gateway, 1, 1000)?.as_slice() == FOO);
     Ok(())
+}
+
+/// Two connections to which a reply waits, the first of which ended.
+fn ended_beside_another(alloc: Global) -> Result<Gateway<MemStore>, Fail> {
+    let mut gateway = gateway(alloc, 0)?;
+    open(&mut gateway, 2)?;
+    send(&mut gateway, 1, GET_FOO)?;
+    send(&mut gateway, 2, GET_FOO)?;
+    gateway.end(1)?;
+    Ok(gateway)
+}
+
+/// Whether an id is used and ended, and nothing waits.
+fn is_gone(gateway: &mut Gateway<MemStore>, id: u64) -> Result<bool, Fail> {
+    let ended = matches!(gateway.bytes(id, GET_FOO), Err(GatewayFault::NotOpen))
+        && matches!(gateway.end(id), Err(GatewayFault::NotOpen));
+    let known = matches!(gateway.open(id, None), Err(GatewayFault::Known));
+    let quiet = !gateway.waiting(id) && gateway.closed(id);
+    Ok(ended && known && quiet && given(gateway, id, 1000)?.is_empty())
 }
 
 /// How many connections come and go.
@@ -64,17 +47,36 @@ const MANY: u64 = 200;
 
 #[test]
 fn ids_are_forgotten_in_any_order(rt: HostRuntime) -> Result<(), Fail> {
-    let mut play = Play::new(rt.alloc(), &ONE)?;
-    for id in 0..MANY {
-        play.goes_on(Step::Open(id, None, Ok(())))?;
-        play.goes_on(Step::End(id, Ok(())))?;
+    let mut gateway = made(rt.alloc(), 3, 10, 0, b"")?;
+    for i in 0..MANY {
+        open(&mut gateway, i)?;
+        gateway.end(i)?;
     }
-    for id in 0..MANY {
-        play.goes_on(Step::Forget(id * 77 % MANY, Ok(())))?;
+    for i in 0..MANY {
+        gateway.forget(i * 77 % MANY)?;
     }
-    for id in 0..MANY {
-        play.goes_on(Step::IsGone(id))?;
+    assert!(rt; are_all_gone(&mut gateway)?);
+    Ok(())
+}
+
+/// Whether all of them are used and ended, and the next id is not.
+fn are_all_gone(gateway: &mut Gateway<MemStore>) -> Result<bool, Fail> {
+    for i in 0..MANY {
+        if !is_gone(gateway, i)? {
+            return Ok(false);
+        }
     }
-    play.goes_on(Step::Open(MANY, None, Ok(())))?;
-    play.goes_on(Step::Is(MANY, false, false))
+    open(gateway, MANY)?;
+    Ok(!gateway.closed(MANY))
+}
+
+#[test]
+fn the_greatest_id_is_forgotten(rt: HostRuntime) -> Result<(), Fail> {
+    let mut gateway = made(rt.alloc(), 3, 10, 0, b"")?;
+    open(&mut gateway, u64::MAX)?;
+    gateway.end(u64::MAX)?;
+    gateway.forget(u64::MAX)?;
+    assert!(rt; is_gone(&mut gateway, u64::MAX)?);
+    open(&mut gateway, 0)?;
+    Ok(())
 }
