@@ -11,7 +11,8 @@ use Rattle.gate_flow.specs.State.{FlowState, IsSound, Stands}
 use Rattle.gate_flow.specs.Led.{IsLed, IsLedCalmly, IsMoved, IsMovedCalmly}
 use Rattle.gate_flow.specs.Steps.{Advances, AdvancesCalmly, Rests}
 use Rattle.gate_flow.proofs.Leading.{Beginnings, led_none}
-use Rattle.gate_flow.proofs.Moving.{moved_none, moved_more, moved_then, moved_take, moved_behind, moved_calmly_behind}
+use Rattle.gate_flow.specs.Brought.{AreBrought, AreInParts, IsEnough}
+use Rattle.gate_flow.proofs.Moving.{failing_behind, parts_behind, parts_taken}
 
 some_taken : (n : ℕ) (waits : List ℕ) → waits ≢ [] → take (suc n) waits ≢ []
 some_taken n [] some = absurd (some refl)
@@ -27,25 +28,40 @@ module _ (old : FlowState) (id : ℕ) (piece portion : List ℕ) (ended : Bool) 
   abbrev before : FlowState
   before = record { id = id; piece = piece; portion = portion; ended = ended; want = want }
 
-  abbrev after : List ℕ → List ℕ → Want → FlowState
+  abbrev pub after : List ℕ → List ℕ → Want → FlowState
   after left more next = record { id = id; piece = left; portion = more; ended = ended; want = next }
 
   module _ (is : before ≡ old) (g m : State) (left : List ℕ) where
-    pub failing : IsMoved id g m piece left [] [] → Advances old (after left portion want) g m
-    failing moved = subst (λ o. Advances o (after left portion want) g m) is record { id = refl; moved = moved_behind id g m piece left portion moved }
+    advances : (h : State) → ((now : IsMoved id g h piece left portion portion) × AreInParts id now.calls g h piece left) → Advances old (after left portion want) g h
+    advances h (now, parts) = subst (λ o. Advances o (after left portion want) g h) is record { id = refl; moved = now; parts = parts }
 
-    -- a further call was refused and changed nothing
-    pub failing_then : (h : State) → IsMovedCalmly id g m piece left [] [] → h ≡ m → Advances old (after left portion want) g h
-    failing_then h moved same = subst (λ s. Advances old (after left portion want) g s) (sym same) (failing moved.moved)
-
-    pub staying : (next : Want) → IsMovedCalmly id g m piece left [] [] → AdvancesCalmly old (after left portion next) g m
-    staying next moved = subst (λ o. AdvancesCalmly o (after left portion next) g m) is record { id = refl; moved = moved_calmly_behind id g m piece left portion moved }
-
-    pub writing : Beginnings → (h : State) (given items : List ℕ) → given ≡ items → portion ≡ [] → IsMovedCalmly id g m piece left [] [] → bytes_refusal (held_at h id) ≡ bytes_refusal (held_at m id) → IsLed id (Take id items ∷ []) m h → GoesOn m h (Take id items) → AdvancesCalmly old (after left given Write) g h
-    writing begins h given items same none moved stays led on = subst (λ o. AdvancesCalmly o (after left given Write) g h) is record {
+    calmly : (h : State) (more : List ℕ) (next : Want) → IsEnough left (held_at m id)
+        → ((now : IsMovedCalmly id g h piece left portion more) × ((parts : AreInParts id now.moved.calls g h piece left) × (parts.at ≡ m))) → AdvancesCalmly old (after left more next) g h
+    calmly h more next enough (now, (parts, at)) = subst (λ o. AdvancesCalmly o (after left more next) g h) is record {
       id = refl;
-      moved = moved_more id g m h piece left left portion portion given begins (moved_calmly_behind id g m piece left portion moved) (subst (IsMovedCalmly id m h left left portion) (sym same) (moved_take id m h left portion items stays led on none));
+      moved = now;
+      parts = parts;
+      enough = subst (λ (s : State). IsEnough left (held_at s id)) (sym at) enough;
     }
+
+    pub failing : ((now : IsMoved id g m piece left [] []) × AreInParts id now.calls g m piece left) → Advances old (after left portion want) g m
+    failing is_in = advances m (failing_behind id g m piece left portion is_in)
+
+    module _ (brought : (now : IsMovedCalmly id g m piece left [] []) × AreBrought id now.moved.calls g m piece left) where
+      behind : (now : IsMovedCalmly id g m piece left portion portion) × ((parts : AreInParts id now.moved.calls g m piece left) × (parts.at ≡ m))
+      behind = parts_behind id g m piece left portion brought
+
+      -- a further call was refused and changed nothing
+      pub failing_then : (h : State) → h ≡ m → Advances old (after left portion want) g h
+      failing_then h same = subst (λ s. Advances old (after left portion want) g s) (sym same) (advances m (behind.0.moved, behind.1.0))
+
+      module _ (enough : IsEnough left (held_at m id)) where
+        pub staying : (next : Want) → AdvancesCalmly old (after left portion next) g m
+        staying next = calmly m portion next enough behind
+
+        pub writing : Beginnings → (h : State) (given items : List ℕ) → given ≡ items → portion ≡ [] → bytes_refusal (held_at h id) ≡ bytes_refusal (held_at m id) → IsLed id (Take id items ∷ []) m h → GoesOn m h (Take id items) → AdvancesCalmly old (after left given Write) g h
+        writing begins h given items same none stays led on = subst (λ (gs : List ℕ). AdvancesCalmly old (after left gs Write) g h) (sym same)
+            (calmly h items Write enough (parts_taken id g m piece left portion brought begins h items stays led on none))
 
   -- ---- it is sound
 

@@ -11,6 +11,8 @@ use Rattle.std.proofs.lemmas.List.Folds.{list_any-append}
 use Rattle.gate_core.specs.Held.{State, held_at, waiting, bytes_refusal, is_closed_in}
 use Rattle.gate_core.specs.Came.{GoesOn}
 use Rattle.gate_core.specs.Faithful.{Faithful}
+use Rattle.gate_flow.specs.Parts.{IsPart}
+use Rattle.gate_flow.specs.Brought.{AreBrought, AreInParts}
 use Rattle.gate_flow.specs.Led.{AreOf, TakesBytes, IsTimely, AreTimely, IsLed, IsLedCalmly, IsMoved, IsMovedCalmly, IsGivenUp}
 use Rattle.gate_flow.proofs.Leading.{Beginnings, led_none, led_more, calm_none, calm_more, calm_on, joined_more, handed_more, joined_one, handed_one, calls_of_one, unclosed}
 
@@ -135,6 +137,82 @@ moved_behind id g h a b p was = record {
 pub moved_calmly_behind : (id : ℕ) (g h : State) (a b p : List ℕ) → IsMovedCalmly id g h a b [] [] → IsMovedCalmly id g h a b p p
 unfolding moved_behind
 moved_calmly_behind id g h a b p was = record { moved = moved_behind id g h a b p was.moved; calm = was.calm; takes = was.takes }
+
+-- ---- a piece is brought in parts
+
+-- parts, and then others
+brought_more : (id : ℕ) (a b : List Event) (g m h : State) (p q r : List ℕ) → AreBrought id a g m p q → AreBrought id b m h q r → AreBrought id (a ++ b) g h p r
+brought_more id [] b g m h p q r first second = subst (λ (s : State). AreBrought id b s h p r) first.0 (subst (λ (s : List ℕ). AreBrought id b m h s r) first.1 second)
+brought_more id (e ∷ a) b g m h p q r (k, behind, one, others) second = (k, behind, one, brought_more id a b k m h behind q r others second)
+
+-- parts, and then calls that bring nothing
+in_parts : (id : ℕ) (a b : List Event) (g m h : State) (p q : List ℕ) → AreBrought id a g m p q → IsLed id b m h → joined id b ≡ [] → AreInParts id (a ++ b) g h p q
+in_parts id a b g m h p q brought after bare = record { parts = a; others = b; all = refl; at = m; brought = brought; after = after; bare = bare }
+
+-- one part
+pub part_moves : (id n : ℕ) (g h : State) (piece left part : List ℕ) → part ≡ take n piece → left ≡ drop n piece → IsPart piece n → waiting g id ≡ []
+    → is_closed_in (held_at g id) ≡ false → TakesBytes (held_at h id) → IsLed id (Bytes id part ∷ []) g h → IsLedCalmly (Bytes id part ∷ []) g h
+    → (now : IsMovedCalmly id g h piece left [] []) × AreBrought id now.moved.calls g h piece left
+unfolding moved_bytes moved_one
+part_moves id n g h piece left part first rest cut quiet none takes led calm = (
+  moved_bytes id n g h piece left part first rest none takes led calm,
+  (h, left, record { size = n; cut = cut; call = ap (Bytes id) first; rest = rest; quiet = quiet; going = none; led = led; calm = calm }, (refl, refl)),
+)
+
+-- no part, where it was refused
+pub part_fails : (id : ℕ) (g h : State) (piece left : List ℕ) → IsLed id [] g h → left ≡ piece → (now : IsMoved id g h piece left [] []) × AreInParts id now.calls g h piece left
+unfolding moved_still
+part_fails id g h piece left led still = (moved_still id g h piece left [] [] led still refl, in_parts id [] [] g g h piece left (refl, still) led refl)
+
+pub parts_none : (id : ℕ) (g : State) (piece : List ℕ) → (now : IsMovedCalmly id g g piece piece [] []) × AreBrought id now.moved.calls g g piece piece
+unfolding moved_none
+parts_none id g piece = (moved_none id g g piece piece [] [] refl refl refl, (refl, refl))
+
+module _ (id : ℕ) (g m h : State) (p q r : List ℕ) where
+  pub parts_more : Beginnings → ((was : IsMovedCalmly id g m p q [] []) × AreBrought id was.moved.calls g m p q) → ((now : IsMovedCalmly id m h q r [] []) × AreBrought id now.moved.calls m h q r)
+      → (all : IsMovedCalmly id g h p r [] []) × AreBrought id all.moved.calls g h p r
+  unfolding moved_more moved_then
+  parts_more begins (was, first) (now, second) = (moved_more id g m h p q r [] [] [] begins was now, brought_more id was.moved.calls now.moved.calls g m h p q r first second)
+
+  pub parts_fail : ((was : IsMovedCalmly id g m p q [] []) × AreBrought id was.moved.calls g m p q) → ((now : IsMoved id m h q r [] []) × AreInParts id now.calls m h q r)
+      → (all : IsMoved id g h p r [] []) × AreInParts id all.calls g h p r
+  unfolding moved_then
+  parts_fail (was, first) (now, second) = (
+    moved_then id g m h p q r [] [] [] was.moved now,
+    record {
+      parts = was.moved.calls ++ second.parts;
+      others = second.others;
+      all = ap (λ cs. was.moved.calls ++ cs) second.all ∙ sym (append_assoc was.moved.calls second.parts second.others);
+      at = second.at;
+      brought = brought_more id was.moved.calls second.parts g m second.at p q r first second.brought;
+      after = second.after;
+      bare = second.bare;
+    },
+  )
+
+module _ (id : ℕ) (g m : State) (piece left portion : List ℕ) where
+  -- with a portion in front of what was handed out
+  pub failing_behind : ((was : IsMoved id g m piece left [] []) × AreInParts id was.calls g m piece left) → (now : IsMoved id g m piece left portion portion) × AreInParts id now.calls g m piece left
+  unfolding moved_behind
+  failing_behind (was, parts) = (moved_behind id g m piece left portion was, parts)
+
+  module _ (is : (was : IsMovedCalmly id g m piece left [] []) × AreBrought id was.moved.calls g m piece left) where
+    -- nothing was called behind the parts
+    pub parts_behind : (now : IsMovedCalmly id g m piece left portion portion) × ((parts : AreInParts id now.moved.calls g m piece left) × (parts.at ≡ m))
+    unfolding moved_calmly_behind moved_behind
+    parts_behind = (
+      moved_calmly_behind id g m piece left portion is.0,
+      (record { parts = is.0.moved.calls; others = []; all = sym (append-nil is.0.moved.calls); at = m; brought = is.1; after = led_none id m; bare = refl }, refl),
+    )
+
+    -- what waits was taken
+    pub parts_taken : Beginnings → (h : State) (given : List ℕ) → bytes_refusal (held_at h id) ≡ bytes_refusal (held_at m id) → IsLed id (Take id given ∷ []) m h → GoesOn m h (Take id given) → portion ≡ []
+        → (now : IsMovedCalmly id g h piece left portion given) × ((parts : AreInParts id now.moved.calls g h piece left) × (parts.at ≡ m))
+    unfolding moved_more moved_then moved_calmly_behind moved_behind moved_take moved_one in_parts
+    parts_taken begins h given stays led on none = (
+      moved_more id g m h piece left left portion portion given begins (moved_calmly_behind id g m piece left portion is.0) (moved_take id m h left portion given stays led on none),
+      (in_parts id is.0.moved.calls (Take id given ∷ []) g m h piece left is.1 led (joined_one id (Take id given) refl), refl),
+    )
 
 -- ---- a connection is given up
 

@@ -110,7 +110,7 @@ module _ (id : ℕ) (secret : List ℕ) (g h : State) (old new : FlowState) (rea
         }
 
   plainly : (k : State) → AdvancesCalmly old new h k → Advances old new h k
-  plainly k now = record { id = now.id; moved = now.moved.moved }
+  plainly k now = record { id = now.id; moved = now.moved.moved; parts = now.parts }
 
   pub advances : Beginnings → (k : State) → HasRunCalmly id secret g h old read left before after → AdvancesCalmly old new h k → HasRunCalmly id secret g k new read left before after
   unfolding run_advances plainly

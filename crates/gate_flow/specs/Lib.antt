@@ -2,6 +2,7 @@ pub mod Parts
 pub mod Faults
 pub mod State
 pub mod Led
+pub mod Brought
 pub mod Steps
 pub mod Flowed
 pub mod Run

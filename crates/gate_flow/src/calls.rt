@@ -5,6 +5,7 @@ ghost use Rattle.gate_core.specs.Held.{held_at, waiting, is_closed_in, bytes_ref
 ghost use Rattle.gate_core.specs.Came.{GoesOn};
 ghost use Rattle.gate_flow.specs.Faults.{IsCallFault};
 ghost use Rattle.gate_flow.specs.Led.{TakesBytes, IsLed, IsLedCalmly, IsMoved, IsMovedCalmly, IsGivenUp};
+ghost use Rattle.gate_flow.specs.Brought.{AreBrought, AreInParts, IsEnough};
 
 use crate::fault::FlowFault;
 use crate::part::part_len;
@@ -105,16 +106,21 @@ fn bring_end<S: Store>(gateway: &mut Gateway<S>, id: u64) -> Result<(), FlowFaul
     }
 }
 
-/// Brings the first part of a piece.
+/// Brings the first part of a piece, while nothing waits.
 fn bring_part<S: Store>(
     gateway: &mut Gateway<S>,
     id: u64,
     piece: &mut Stretch,
 ) -> Result<(), FlowFault>
     requires some { piece.old ≢ [] }
+    requires quiet { waiting gateway.old id ≡ [] }
     requires going { is_closed_in (held_at gateway.old id) ≡ false }
-    ensures ok { OnOk result (IsMovedCalmly id gateway.old gateway.new piece.old piece.new [] []) }
-    ensures err { OnErr result (IsMoved id gateway.old gateway.new piece.old piece.new [] []) }
+    ensures ok { OnOk result (
+        (now : IsMovedCalmly id gateway.old gateway.new piece.old piece.new [] [])
+        × AreBrought id now.moved.calls gateway.old gateway.new piece.old piece.new) }
+    ensures err { OnErr result (
+        (now : IsMoved id gateway.old gateway.new piece.old piece.new [] [])
+        × AreInParts id now.calls gateway.old gateway.new piece.old piece.new) }
     ensures less { OnOk result (length piece.new < length piece.old) }
     ensures same { OnErr result (piece.new ≡ piece.old) }
     ensures faults { IfErr result (IsCallFault (held_at gateway.old id)) }
@@ -132,16 +138,19 @@ pub fn bring_parts<S: Store>(
     id: u64,
     piece: &mut Stretch,
 ) -> Result<(), FlowFault>
-    ensures ok { OnOk result (IsMovedCalmly id gateway.old gateway.new piece.old piece.new [] []) }
-    ensures err { OnErr result (IsMoved id gateway.old gateway.new piece.old piece.new [] []) }
-    ensures until { OnOk result ((waiting gateway.new id ≢ [])
-        ⊎ (IsTrue (is_closed_in (held_at gateway.new id)) ⊎ (piece.new ≡ []))) }
+    ensures ok { OnOk result (
+        (now : IsMovedCalmly id gateway.old gateway.new piece.old piece.new [] [])
+        × AreBrought id now.moved.calls gateway.old gateway.new piece.old piece.new) }
+    ensures err { OnErr result (
+        (now : IsMoved id gateway.old gateway.new piece.old piece.new [] [])
+        × AreInParts id now.calls gateway.old gateway.new piece.old piece.new) }
+    ensures until { OnOk result (IsEnough piece.new (held_at gateway.new id)) }
     ensures less { length piece.new ≤ length piece.old }
     ensures faults { IfErr result (IsCallFault (held_at gateway.old id)) }
 {
     gate_core::laws::beginnings_have_room();
     'parts: while !piece.is_empty() {
-        if gateway.waiting(id) {
+        if waits(gateway, id) {
             return Ok(());
         }
         if gateway.closed(id) {

@@ -1,6 +1,6 @@
 //! Flows over streams that give few bytes, block, are interrupted and fail, beside the same bytes brought in one piece.
 use super::*;
-use gate_core::Gateway;
+use gate_core::{Gateway, GatewayFault};
 use share_store::MemStore;
 use std::alloc::Global;
 use std::io::{self, ErrorKind, Read, Write};
@@ -111,6 +111,20 @@ fn run(
     Ok(())
 }
 
+/// Calls a flow under id 7 until it wants nothing, or a fault, and closes it. Tells that fault, what it wanted then, and
+/// whether the gateway takes no more bytes of it.
+fn close_after(
+    alloc: Global,
+    stream: &mut Stream<'_>,
+) -> Result<(Option<FlowFault>, Want, bool), Fail> {
+    let mut one = gateway(alloc)?;
+    let mut flow = Flow::open(alloc, &mut one, 7, None)?;
+    let fault = run(&mut flow, stream, &mut one).err();
+    let want = flow.want();
+    flow.close(&mut one);
+    Ok((fault, want, one.closed(7)))
+}
+
 /// What callers send: literal files, an upload with its length, one in chunks, a request that closes with bytes behind it, and
 /// what isn't a request.
 const SENT: &[&[u8]] = &[
@@ -123,12 +137,15 @@ const SENT: &[&[u8]] = &[
     b"",
 ];
 
-/// What the gateway says of bytes that come in one piece.
+/// What a gateway says of bytes that come in one piece.
+fn said_by(gateway: &mut Gateway<MemStore>, sent: &[u8]) -> Result<Vec<u8>, GatewayFault> {
+    gateway.open(1, None)?;
+    gateway.bytes(1, sent)?;
+    gateway.take(1, 100_000)
+}
+
 fn said(alloc: Global, sent: &[u8]) -> Result<Vec<u8>, Fail> {
-    let mut straight = gateway(alloc)?;
-    straight.open(1, None)?;
-    straight.bytes(1, sent)?;
-    Ok(straight.take(1, 100_000)?)
+    Ok(said_by(&mut gateway(alloc)?, sent)?)
 }
 
 /// How many bytes a stream gives and takes at a time.
@@ -141,25 +158,86 @@ const TOLD: &[Option<ErrorKind>] = &[
     Some(ErrorKind::Interrupted),
 ];
 
+/// Whether a flow over a stream that sends these bytes gives what is wanted, and is over then.
+fn is_given(
+    alloc: Global,
+    sent: &[u8],
+    wanted: &[u8],
+    at_a_time: usize,
+    told: Option<ErrorKind>,
+) -> Result<bool, Fail> {
+    let mut stream = Stream::new(alloc, sent, at_a_time, told, u32::MAX);
+    let closed = close_after(alloc, &mut stream)?;
+    Ok(matches!(closed, (None, Want::Nothing, true)) && stream.took.as_slice() == wanted)
+}
+
 #[test]
 fn flows_give_what_the_gateway_says(rt: HostRuntime) -> Result<(), Fail> {
     let alloc = rt.alloc();
     for sent in SENT {
-        let wanted = said(alloc, sent)?;
+        let wanted = said(alloc, *sent)?;
         for at_a_time in AT_A_TIME {
             for told in TOLD {
-                let mut one = gateway(alloc)?;
-                let mut flow = Flow::open(alloc, &mut one, 7, None)?;
-                let mut stream = Stream::new(alloc, sent, *at_a_time, *told, u32::MAX);
-                run(&mut flow, &mut stream, &mut one)?;
-                assert_eq!(rt; flow.want(), Want::Nothing);
-                assert_eq!(rt; stream.took.as_slice(), wanted.as_slice());
-                flow.close(&mut one);
-                assert!(rt; one.closed(7));
+                assert!(rt;
+                    is_given(alloc, *sent, &wanted, *at_a_time, *told)?,
+                    "{at_a_time} at a time, {told:?}"
+                );
             }
         }
     }
     Ok(())
+}
+
+/// A flow and its stream.
+#[derive(Drop)]
+struct Side<'a> {
+    flow: Flow,
+    stream: Stream<'a>,
+}
+
+/// Calls two flows in turn until neither wants anything, or a fault.
+fn take_turns(
+    first: &mut Side<'_>,
+    second: &mut Side<'_>,
+    gateway: &mut Gateway<MemStore>,
+) -> Result<(), FlowFault> {
+    for _ in 0..100_000u32 {
+        let a = call(&mut first.flow, &mut first.stream, gateway)?;
+        let b = call(&mut second.flow, &mut second.stream, gateway)?;
+        if !a && !b {
+            break;
+        }
+    }
+    Ok(())
+}
+
+/// Whether a flow with this id has ended, and these bytes were written.
+fn is_done(side: &Side<'_>, id: u64, wanted: &[u8]) -> bool {
+    side.flow.has_ended() && side.flow.id() == id && side.stream.took.as_slice() == wanted
+}
+
+/// Whether two flows in turn that send the same bytes, the second one byte at a time, are given what is wanted.
+fn are_given_by(
+    alloc: Global,
+    gateway: &mut Gateway<MemStore>,
+    sent: &[u8],
+    wanted: &[u8],
+    at_a_time: usize,
+) -> Result<bool, FlowFault> {
+    let mut first = Side {
+        flow: Flow::open(alloc, gateway, 7, None)?,
+        stream: Stream::new(alloc, sent, at_a_time, None, u32::MAX),
+    };
+    let mut second = Side {
+        flow: Flow::open(alloc, gateway, 9, Some(b"own"))?,
+        stream: Stream::new(alloc, sent, 1, Some(ErrorKind::WouldBlock), u32::MAX),
+    };
+    take_turns(&mut first, &mut second, gateway)?;
+    Ok(is_done(&first, 7, wanted) && is_done(&second, 9, wanted))
+}
+
+fn are_given(alloc: Global, sent: &[u8], wanted: &[u8], at_a_time: usize) -> Result<bool, Fail> {
+    Ok(are_given_by(alloc, &mut gateway(alloc)?, sent, wanted, at_a_time)?)
 }
 
 #[test]
@@ -168,22 +246,10 @@ fn flows_in_turn_do_not_meet(rt: HostRuntime) -> Result<(), Fail> {
     let sent = SENT[0];
     let wanted = said(alloc, sent)?;
     for at_a_time in AT_A_TIME {
-        let mut many = gateway(alloc)?;
-        let mut first = Flow::open(alloc, &mut many, 7, None)?;
-        let mut second = Flow::open(alloc, &mut many, 9, Some(b"own"))?;
-        let mut one = Stream::new(alloc, sent, *at_a_time, None, u32::MAX);
-        let mut other = Stream::new(alloc, sent, 1, Some(ErrorKind::WouldBlock), u32::MAX);
-        for _ in 0..100_000u32 {
-            let a = call(&mut first, &mut one, &mut many)?;
-            let b = call(&mut second, &mut other, &mut many)?;
-            if !a && !b {
-                break;
-            }
-        }
-        assert!(rt; first.has_ended() && second.has_ended());
-        assert_eq!(rt; (first.id(), second.id()), (7, 9));
-        assert_eq!(rt; one.took.as_slice(), wanted.as_slice());
-        assert_eq!(rt; other.took.as_slice(), wanted.as_slice());
+        assert!(rt;
+            are_given(alloc, sent, &wanted, *at_a_time)?,
+            "{at_a_time} at a time"
+        );
     }
     Ok(())
 }
@@ -194,55 +260,54 @@ fn flows_stop_where_a_stream_fails(rt: HostRuntime) -> Result<(), Fail> {
     let sent = SENT[0];
     let wanted = said(alloc, sent)?;
     for calls in 0..22u32 {
-        let mut one = gateway(alloc)?;
-        let mut flow = Flow::open(alloc, &mut one, 7, None)?;
         let mut stream = Stream::new(alloc, sent, 20, None, calls);
-        let wants = run(&mut flow, &mut stream, &mut one);
-        let fault = if flow.want() == Want::Read {
-            FlowFault::ReadFailed
-        } else {
-            FlowFault::WriteFailed
-        };
-        assert_eq!(rt; wants, Err(fault), "after {calls} calls");
-        assert!(rt; wanted.starts_with(&stream.took));
-        flow.close(&mut one);
-        assert!(rt; one.closed(7));
-    }
-    Ok(())
-}
-
-#[test]
-fn ids_are_opened_once_and_secrets_are_short(rt: HostRuntime) -> Result<(), Fail> {
-    let alloc = rt.alloc();
-    let long = [b's'; 257];
-    let mut one = gateway(alloc)?;
-    for (id, secret, refused) in [
-        (1, None, false),
-        (1, None, true),
-        (2, Some(&long[..]), true),
-        (2, Some(&long[..256]), false),
-        (3, Some(&long[..0]), false),
-    ] {
-        let opened = Flow::open(alloc, &mut one, id, secret);
-        assert_eq!(rt;
-            opened.err(),
-            if refused {
-                Some(FlowFault::Refused)
-            } else {
-                None
-            }
+        let closed = close_after(alloc, &mut stream)?;
+        let is_told = matches!(
+            closed,
+            (Some(FlowFault::ReadFailed), Want::Read, true)
+                | (Some(FlowFault::WriteFailed), Want::Write, true)
+        );
+        assert!(rt;
+            is_told && wanted.starts_with(&stream.took),
+            "after {calls} calls"
         );
     }
     Ok(())
 }
 
-/// How many of these bytes are brought at once, from the first place up to the second.
-fn part(bytes: &[u8], from: usize, to: usize) -> usize {
-    if from < to && to <= bytes.len() {
-        part::part_len(&bytes[from..to])
-    } else {
-        0
+/// Ids that are opened one after the other, how many bytes their secrets have, and why that is refused.
+const OPENED: &[(u64, Option<usize>, Option<FlowFault>)] = &[
+    (1, None, None),
+    (1, None, Some(FlowFault::Refused)),
+    (2, Some(257), Some(FlowFault::Refused)),
+    (2, Some(256), None),
+    (3, Some(0), None),
+];
+
+const LETTERS: &[u8] = &[b's'; 257];
+
+/// The first row of these that is answered otherwise than it says.
+fn wrong_row_of(alloc: Global, gateway: &mut Gateway<MemStore>) -> Option<usize> {
+    for (row, (id, length, fault)) in OPENED.iter().enumerate() {
+        let secret = match length {
+            Some(length) => LETTERS.get(..*length),
+            None => None,
+        };
+        if Flow::open(alloc, gateway, *id, secret).err() != *fault {
+            return Some(row);
+        }
     }
+    None
+}
+
+fn wrong_row(alloc: Global) -> Result<Option<usize>, Fail> {
+    Ok(wrong_row_of(alloc, &mut gateway(alloc)?))
+}
+
+#[test]
+fn ids_are_opened_once_and_secrets_are_short(rt: HostRuntime) -> Result<(), Fail> {
+    assert_eq!(rt; wrong_row(rt.alloc())?, None);
+    Ok(())
 }
 
 /// Bytes, and how many of them are brought at once.
@@ -262,17 +327,26 @@ const CUT: &[(usize, usize, usize)] = &[
     (131, 396, 133),
 ];
 
+/// How many of these bytes are brought at once, where there are any.
+fn part(bytes: &[u8]) -> usize {
+    if bytes.is_empty() {
+        0
+    } else {
+        part::part_len(bytes)
+    }
+}
+
 #[test]
 fn parts_end_behind_blank_lines(rt: HostRuntime) -> Result<(), Fail> {
     for (bytes, wanted) in PARTS {
-        assert_eq!(rt; part(bytes, 0, bytes.len()), *wanted);
+        assert_eq!(rt; part(*bytes), *wanted);
     }
     let mut heads = Vec::new(rt.alloc());
     for _ in 0..12u32 {
         heads.extend_from_slice(b"GET / HTTP/1.1\r\nHost: gateway\r\n\r\n")?;
     }
     for (from, to, wanted) in CUT {
-        assert_eq!(rt; part(&heads, *from, *to), *wanted);
+        assert_eq!(rt; part(heads.get(*from..*to).unwrap_or(b"")), *wanted);
     }
     Ok(())
 }
