@@ -21,6 +21,9 @@ mod directories;
 /// Several messages hashed at once.
 #[cfg(test)]
 mod hash_lanes;
+/// Replies of the Redis protocol.
+#[cfg(test)]
+mod redis_texts;
 /// Netstrings and tagged hashes.
 #[cfg(test)]
 mod tagged_hashes;

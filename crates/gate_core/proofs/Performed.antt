@@ -23,7 +23,7 @@ use Rattle.web_ops.specs.Replies.{refusal_reply}
 use Rattle.web_ops.specs.Uploads.{upload_in, after_stored}
 use Rattle.web_ops.specs.Answers.{request_reply}
 use Rattle.web_ops.specs.Replied.{IsReply}
-use Rattle.web_ops.specs.Changes.{HasRoomFor, IsStoredIn, IsBegunIn, Follows}
+use Rattle.web_ops.specs.Changes.{HasRoomFor, IsStoredIn, IsBegunIn, TellsOfIn, Follows}
 use Rattle.gate_core.specs.Settings.{Settings, settings_of}
 use Rattle.gate_core.specs.Requests.{Interpreted, web_head, asked_of}
 use Rattle.gate_core.specs.Uploaded.{BringsBytes}
@@ -87,10 +87,12 @@ performed : {E : Type 0} (e : Encoding) (request : Request) (r : Result Reply E)
     → (IsHonest old → HasRoomFor old (upload_in e request) → NoneFailed old new → OnOk r (IsStoredIn (upload_in e request) old new))
     → (IsHonest old → HasRoomFor old (upload_in e request) → NoneFailed old new → OnOk r (Follows (upload_in e request) old new))
     → OnOk r (BringsBytes (upload_in e request))
+    → IfOk r (λ reply. TellsOfIn (upload_in e request) reply old new)
     → IfOk r (λ reply. IsCarriedOut (settings_of e (length old.stores)) (Ok request) reply old new)
-performed e request (Ok reply) old new leaves fits written stored follows bytes = record {
+performed e request (Ok reply) old new leaves fits written stored follows bytes tells = record {
   fits = fits;
   bytes = bytes;
+  tells = tells;
   calm = λ w rooms shows brings none.
       let room : HasRoomFor old (upload_in e request) = room_for (upload_in e request) old w rooms shows brings in
       record {
@@ -98,7 +100,7 @@ performed e request (Ok reply) old new leaves fits written stored follows bytes 
         stores = Shows-stored (upload_in e request) old new w rooms leaves (stored shows.honest room none) (follows shows.honest room none) shows;
       };
 }
-performed e request (Err failed) old new leaves fits written stored follows bytes = tt
+performed e request (Err failed) old new leaves fits written stored follows bytes tells = tt
 
 -- ---- what was asked for
 
@@ -117,11 +119,12 @@ pub carried_out : {E : Type 0} (e : Encoding) (k n : ℕ) (secret : List ℕ) (h
     → (IsHonest old → HasRoomFor old (upload_in (encoding_of k n secret) request) → NoneFailed old new → OnOk r (IsStoredIn (upload_in (encoding_of k n secret) request) old new))
     → (IsHonest old → HasRoomFor old (upload_in (encoding_of k n secret) request) → NoneFailed old new → OnOk r (Follows (upload_in (encoding_of k n secret) request) old new))
     → OnOk r (BringsBytes (upload_in (encoding_of k n secret) request))
+    → IfOk r (λ reply. TellsOfIn (upload_in (encoding_of k n secret) request) reply old new)
     → IfOk r (λ reply. IsCarriedOut (settings_of e (length old.stores)) (asked_of head body) reply old new)
-carried_out e k n secret head body same request r old new is_k is_n is_secret is_head read leaves fits written stored follows bytes =
+carried_out e k n secret head body same request r old new is_k is_n is_secret is_head read leaves fits written stored follows bytes tells =
     subst (λ asked. IfOk r (λ reply. IsCarriedOut (settings_of e (length old.stores)) asked reply old new)) (sym (asked_as head body same (Ok request) is_head read))
     (subst (λ f. IfOk r (λ reply. IsCarriedOut (settings_of f (length old.stores)) (Ok request) reply old new)) (same_encoding e k n secret is_k is_n is_secret)
-    (performed (encoding_of k n secret) request r old new leaves fits written stored follows bytes))
+    (performed (encoding_of k n secret) request r old new leaves fits written stored follows bytes tells))
 
 -- a beginning of its upload was put, if any
 pub begun_out : (e : Encoding) (k n : ℕ) (secret : List ℕ) (head : Head) (body : List ℕ) (same : WebHead) (request : Request) (old new : GridState)
@@ -148,5 +151,5 @@ pub refused : {E : Type 0} (settings : Settings) (head : Head) (body : List ℕ)
     → IfOk r (λ reply. IsCarriedOut settings (asked_of head body) reply g g)
 refused {E = E} settings head body same fault (Ok reply) g is_head read is memory =
     subst (λ asked. IsCarriedOut settings asked reply g g) (sym (asked_as head body same (Err fault) is_head (read (λ e. no_error E reply (memory e)))))
-    (record { fits = is; bytes = tt; calm = λ w rooms shows brings none. record { written = is; stores = Shows-same g w rooms shows } })
+    (record { fits = is; bytes = tt; tells = tt; calm = λ w rooms shows brings none. record { written = is; stores = Shows-same g w rooms shows } })
 refused settings head body same fault (Err failed) g is_head read is memory = tt

@@ -3,52 +3,15 @@
 //! on an address and serves connections one after the other, over stores in memory.
 #![tactic(auto)]
 
-/// The program's arguments.
-mod arguments;
-/// The calls of a gateway that commands ask for.
-mod calls;
-/// A line of a script.
-mod command;
-/// Why a run ended before its end.
-mod fault;
-/// What holds of the definitions.
-pub mod laws;
-/// The lines of a script, one at a time.
-mod lines;
-/// What a line is answered.
-mod reply;
-/// The run of a script.
-mod script;
-/// Connections, served one after the other.
-mod serving;
-/// What a server begins with.
-mod setup;
-/// Base32.
-mod spelling;
-/// The status with which the program exits.
-mod status;
-#[cfg(test)]
-mod tests;
-/// The stores of a gateway.
-mod stores;
-/// Bytes as text.
-mod text;
-/// One connection's turns.
-mod turns;
-
-pub use arguments::{Service, Task, read_task};
-pub use fault::{ProgramFault, ScriptFault, ServeFault};
+use gate_tasks::{
+    ProgramFault, Service, Task, exit_status, read_task, run_script, serve_on, set_up,
+};
 use octets::Bytes;
-pub use script::run_script;
-pub use serving::serve_on;
-pub use setup::set_up;
-pub use status::exit_status;
 use std::io::{BufReader, BufWriter, ErrorKind};
 use std::net::{Net, TcpListener, TcpStream};
 use std::process::ExitCode;
 use std::rt::Env;
 use std::{env, io};
-pub use turns::turns;
 
 /// How many bytes are read and written at a time.
 const BUFFER: usize = 65_536;

@@ -29,7 +29,5 @@ pub use control::{Answer, Control, NoControl, text_reply};
 pub use counts::Counts;
 pub use fault::ServeFault;
 pub use limits::Limits;
+pub use pace::{Pace, Way};
 pub use serving::serve_on;
-
-#[cfg(test)]
-mod tests;

@@ -22,6 +22,8 @@ mod premises;
 mod secrets;
 /// Connections that are forgotten.
 mod forgetting;
+/// Stores that are full, fail or lie.
+mod hostile;
 /// Images of both versions.
 mod images;
 /// Files that are given a segment at a time.
@@ -74,13 +76,13 @@ const STORED: Row<'static> = (PUT_LETTERS, &[TEXT, b"95\r\n\r\n", LETTERS_CAP]);
 /// The cap of the file of letters gives these bytes.
 const FOUND: Row<'static> = (&[GET, LETTERS_CAP, HTTP], &[FILE, b"56\r\n\r\n", LETTERS]);
 
+/// Too few shares stand.
+const GONE: &[&[u8]] = &[
+    b"HTTP/1.1 410 Gone\r\nContent-Type: text/plain; charset=utf-8\r\nContent-Length: 18\r\n\r\nnot enough shares\n",
+];
+
 /// The cap of the file of letters gives none.
-const NOT_FOUND: Row<'static> = (
-    &[GET, LETTERS_CAP, HTTP],
-    &[
-        b"HTTP/1.1 410 Gone\r\nContent-Type: text/plain; charset=utf-8\r\nContent-Length: 18\r\n\r\nnot enough shares\n",
-    ],
-);
+const NOT_FOUND: Row<'static> = (&[GET, LETTERS_CAP, HTTP], GONE);
 
 /// k of n on one store in memory, with this room and this secret.
 fn made(
@@ -327,44 +329,25 @@ fn a_directory_is_served(rt: HostRuntime) -> Result<(), Fail> {
     Ok(())
 }
 
-/// 3 of 10 on one store, whose fourth call fails, and those after it where it fails for good.
-fn failing(alloc: Global, room: u64, for_good: bool) -> Result<Gateway<FailAt>, Fail> {
+/// 3 of 10 on one store, of which this call fails, and those after it where it fails for good.
+fn failing(alloc: Global, room: u64, at: u64, for_good: bool) -> Result<Gateway<FailAt>, Fail> {
     let mut stores = Vec::new(alloc);
-    stores.push(FailAt::new(alloc, MemStore::new(alloc, room), 4, for_good))?;
+    stores.push(FailAt::new(alloc, MemStore::new(alloc, room), at, for_good))?;
     Ok(Gateway::new(alloc, 3, 10, stores, b"")?)
 }
 
-/// The file of letters is not stored, and not found.
-const DOWN: &[Row<'static>] = &[
-    (
-        PUT_LETTERS,
-        &[
-            b"HTTP/1.1 503 Service Unavailable\r\nContent-Type: text/plain; charset=utf-8\r\nContent-Length: 11\r\n\r\nstore down\n",
-        ],
-    ),
-    NOT_FOUND,
+/// A store failed.
+const STORE_DOWN: &[&[u8]] = &[
+    b"HTTP/1.1 503 Service Unavailable\r\nContent-Type: text/plain; charset=utf-8\r\nContent-Length: 11\r\n\r\nstore down\n",
 ];
+
+/// The file of letters is not stored: a store failed.
+const DOWN: Row<'static> = (PUT_LETTERS, STORE_DOWN);
 
 #[test]
 fn a_store_that_fails_is_said(rt: HostRuntime) -> Result<(), Fail> {
     let alloc = rt.alloc();
-    assert!(rt; serves(alloc, failing(alloc, 10_000, true)?, DOWN)?);
-    Ok(())
-}
-
-/// 3 of 10 on one store that lies.
-fn lying(alloc: Global) -> Result<Gateway<Liar>, Fail> {
-    let mut answers = Vec::new(alloc);
-    answers.push(RcSlice::from_vec(joined(alloc, &[b"1:1,1:0,"])?)?)?;
-    let mut stores = Vec::new(alloc);
-    stores.push(Liar::new(alloc, answers))?;
-    Ok(Gateway::new(alloc, 3, 10, stores, b"")?)
-}
-
-#[test]
-fn a_store_that_lies_gives_no_other_bytes(rt: HostRuntime) -> Result<(), Fail> {
-    let alloc = rt.alloc();
-    assert!(rt; serves(alloc, lying(alloc)?, &[STORED, NOT_FOUND])?);
+    assert!(rt; serves(alloc, failing(alloc, 10_000, 4, true)?, &[DOWN, NOT_FOUND])?);
     Ok(())
 }
 

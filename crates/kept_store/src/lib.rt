@@ -13,8 +13,6 @@ mod calls;
 mod opened;
 // Why a store was not opened.
 mod fault;
-#[cfg(test)]
-mod tests;
 
 pub use calls::Call;
 pub use fault::OpenFault;

@@ -21,8 +21,6 @@ mod replies;
 mod commands;
 /// What holds of the definitions.
 pub mod laws;
-#[cfg(test)]
-mod tests;
 
 pub use commands::command;
 pub use fault::{RespFault, Wrong};

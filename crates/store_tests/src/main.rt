@@ -14,6 +14,9 @@ mod grids;
 /// Images of grids.
 #[cfg(test)]
 mod images;
+/// Stores in memory with a shelf beside them.
+#[cfg(test)]
+mod kept_stores;
 /// Shelves.
 #[cfg(test)]
 mod shelves;

@@ -12,23 +12,26 @@ use Rattle.erasure.specs.Code.{AreBytes}
 use Rattle.grid.specs.GridState.{GridState, stood, maps_of, room_at, failures_at, IsHonest, NoneFailed}
 use Rattle.grid.specs.Leaves.{Leaves, IsUnchanged}
 use Rattle.grid.specs.NewBytes.{HasRoom}
-use Rattle.grid.specs.Changed.{ArePut}
+use Rattle.grid.specs.declared.fault.GridFault.TheVariants.{Full, Down}
+use Rattle.grid.specs.Changed.{ArePut, StopsAt}
+use Rattle.chk_file.specs.AllStand.{AllStand}
 use Rattle.chk_file.specs.Look.{Look}
 use Rattle.chk_file.specs.Marks.{shown}
 use Rattle.chk_file.specs.Upload.{Upload, index, shares_of, cap_of}
 use Rattle.chk_file.specs.World.{World, after_upload}
 use Rattle.web_request.specs.declared.request.Request.{Request}
 use Rattle.web_ops.specs.declared.reply.Reply.{Reply}
+use Rattle.web_ops.specs.declared.reply.Status.TheVariants as status
 use Rattle.dir_codec.specs.declared.entry.Entry.{Entry}
 use Rattle.dir_codec.specs.Children.{made}
 use Rattle.dir_codec.specs.DirectoryText.{directory_text}
 use Rattle.web_request.specs.declared.request.Request.TheVariants.{Mkdir}
 use Rattle.web_ops.specs.Encoding.{Encoding, upload_of}
 use Rattle.web_ops.specs.Uploads.{if_long, as_directory, made_upload, upload_in}
-use Rattle.web_ops.specs.Replies.{cap_reply, bad_children}
+use Rattle.web_ops.specs.Replies.{cap_reply, bad_children, store_full, store_down}
 use Rattle.web_ops.specs.Answers.{made_reply}
 use Rattle.web_ops.specs.Replied.{IsStored, IsMade}
-use Rattle.web_ops.specs.Changes.{IsBegunIn}
+use Rattle.web_ops.specs.Changes.{IsBegunIn, TellsOf}
 use Rattle.web_ops.specs.Calls.{IsFound, IsCarriedOut, IsRequest, IsPerformed}
 use Rattle.grid.proofs.Standing.{placed_none}
 use Rattle.grid.proofs.Turns.{leaves_none, unchanged_none}
@@ -43,6 +46,7 @@ nothing_stored Fresh Fits says r old new found = record {
   fits = found.fits;
   bytes = IfOk-weaker r _ _ (λ x e. tt) found.fits;
   begun = found.unchanged;
+  tells = IfOk-weaker r _ _ (λ x e. tt) found.fits;
   written = λ fresh honest room calm. found.written fresh honest calm;
   stored = λ honest room calm. IfOk-weaker r _ _ (λ x e. found.unchanged honest) found.fits;
   world = λ honest room calm. IfOk-weaker r _ _ (λ x e w is. ap standing (found.unchanged honest).maps ∙ is) found.fits;
@@ -62,25 +66,64 @@ long n e = grind (arith, nat_tests)
 short : (n : ℕ) → nat_lt 55 n ≡ false → n ≤ 55
 short n e = grind (arith, nat_tests)
 
+-- ---- what replies tell
+
+at_six : List ℕ → ℕ
+at_six text = get_or text 6 0
+
+full_is_not_down : store_full ≡ store_down → ⊥
+full_is_not_down e = let letters : at_six store_full.body ≡ at_six store_down.body = ap (λ r. at_six r.body) e in cc
+
+cap_is_no_fault : (cap : Cap) (x : Reply) → x ≡ cap_reply cap → x.status ≡ status.ServiceUnavailable → ⊥
+cap_is_no_fault cap x is other = let ok : x.status ≡ status.Ok = ap (λ r. r.status) is in cc
+
+fault_is_no_cap : (x : Reply) → x.status ≡ status.ServiceUnavailable → x.status ≡ status.Ok → ⊥
+fault_is_no_cap x is ok = cc
+
+cap_tells : (u : Upload) (cap : Cap) (x : Reply) (old new : GridState) → x ≡ cap_reply cap → (IsHonest old → AllStand u old new) → TellsOf u x old new
+cap_tells u cap x old new is all = record {
+  all_stand = λ honest ok. all honest;
+  full = λ e. absurd (cap_is_no_fault cap x is (ap (λ r. r.status) e));
+  down = λ e. absurd (cap_is_no_fault cap x is (ap (λ r. r.status) e));
+}
+
+pub full_tells : (u : Upload) (server : ℕ) (x : Reply) (old new : GridState) → x ≡ store_full → StopsAt (index u) (shares_of u) old new (Full server) → TellsOf u x old new
+full_tells u server x old new is stops = record {
+  all_stand = λ honest ok. absurd (fault_is_no_cap x (ap (λ r. r.status) is) ok);
+  full = λ e. (server, stops);
+  down = λ e. absurd (full_is_not_down (sym is ∙ e));
+}
+
+pub down_tells : (u : Upload) (server : ℕ) (x : Reply) (old new : GridState) → x ≡ store_down → StopsAt (index u) (shares_of u) old new (Down server)
+    → failures_at old server < failures_at new server → TellsOf u x old new
+down_tells u server x old new is stops failed = record {
+  all_stand = λ honest ok. absurd (fault_is_no_cap x (ap (λ r. r.status) is) ok);
+  full = λ e. absurd (full_is_not_down (sym e ∙ is));
+  down = λ e. (server, record { stops = stops; failed = failed });
+}
+
 module _ (u : Upload) (cap : Cap) (r : Result Reply AllocError) (old new : GridState) (leaves : Leaves old new) (bytes : AreBytes u.bytes) (same : length u.bytes ≤ 55 → new ≡ old) where
   stored_by : (b : Bool) → (b ≡ true → 55 < length u.bytes) → (b ≡ false → length u.bytes ≤ 55) → IfOk r (λ x. x ≡ cap_reply cap)
       → (55 < length u.bytes → IsHonest old → ArePut (index u) (shares_of u) old new)
+      → (55 < length u.bytes → IsHonest old → AllStand u old new)
       → (IsHonest old → (w : World) → stood old ≡ shown w.marks → stood new ≡ shown (after_upload (length old.stores) u w).marks)
       → IsCarriedOut ⊤ (cond b (Some u) None) (IsStored cap) (λ look. cap_reply cap) r old new
-  stored_by true many few is put stand = record {
+  stored_by true many few is put all stand = record {
     leaves = leaves;
     fits = IfOk-weaker r _ _ (λ x e. inl e) is;
     bytes = IfOk-weaker r _ _ (λ x e. bytes) is;
     begun = λ honest. (length (shares_of u), subst (λ s. ArePut (index u) s old new) (sym (take_all (length (shares_of u)) (shares_of u) (no_more (length (shares_of u))))) (put (many refl) honest));
+    tells = IfOk-weaker r _ _ (λ x e. cap_tells u cap x old new e (all (many refl))) is;
     written = λ fresh honest room calm. is;
     stored = λ honest room calm. IfOk-weaker r _ _ (λ x e. put (many refl) honest) is;
     world = λ honest room calm. IfOk-weaker r _ _ (λ x e. stand honest) is;
   }
-  stored_by false many few is put stand = record {
+  stored_by false many few is put all stand = record {
     leaves = leaves;
     fits = IfOk-weaker r _ _ (λ x e. inl e) is;
     bytes = IfOk-weaker r _ _ (λ x e. tt) is;
     begun = λ honest. same_grid old new (same (few refl));
+    tells = IfOk-weaker r _ _ (λ x e. tt) is;
     written = λ fresh honest room calm. is;
     stored = λ honest room calm. IfOk-weaker r _ _ (λ x e. same_grid old new (same (few refl))) is;
     world = λ honest room calm. IfOk-weaker r _ _ (λ x e w stands. ap stood (same (few refl)) ∙ stands) is;
@@ -89,28 +132,32 @@ module _ (u : Upload) (cap : Cap) (r : Result Reply AllocError) (old new : GridS
   -- the upload was stored
   pub stored : IfOk r (λ x. x ≡ cap_reply cap)
       → (55 < length u.bytes → IsHonest old → ArePut (index u) (shares_of u) old new)
+      → (55 < length u.bytes → IsHonest old → AllStand u old new)
       → (IsHonest old → (w : World) → stood old ≡ shown w.marks → stood new ≡ shown (after_upload (length old.stores) u w).marks)
       → IsCarriedOut ⊤ (if_long u) (IsStored cap) (λ look. cap_reply cap) r old new
-  stored is put stand = stored_by (nat_lt 55 (length u.bytes)) (long (length u.bytes)) (short (length u.bytes)) is put stand
+  stored is put all stand = stored_by (nat_lt 55 (length u.bytes)) (long (length u.bytes)) (short (length u.bytes)) is put all stand
 
   stopped_by : (b : Bool) → (b ≡ true → 55 < length u.bytes) → (b ≡ false → length u.bytes ≤ 55) → IfOk r (IsStored cap)
+      → IfOk r (λ x. TellsOf u x old new)
       → (IsHonest old → (m : ℕ) × ArePut (index u) (take m (shares_of u)) old new)
       → (IsHonest old → HasRoom old (index u) (shares_of u) → NoneFailed old new → OnOk r ⊥) → (length u.bytes ≤ 55 → OnOk r ⊥)
       → IsCarriedOut ⊤ (cond b (Some u) None) (IsStored cap) (λ look. cap_reply cap) r old new
-  stopped_by true many few fits begun never_long never_short = record {
+  stopped_by true many few fits tells begun never_long never_short = record {
     leaves = leaves;
     fits = fits;
     bytes = IfOk-weaker r _ _ (λ x e. bytes) fits;
     begun = begun;
+    tells = tells;
     written = λ fresh honest room calm. IfOk-weaker r _ _ (λ x e. absurd e) (never_long honest room calm);
     stored = λ honest room calm. IfOk-weaker r _ _ (λ x e. absurd e) (never_long honest room calm);
     world = λ honest room calm. IfOk-weaker r _ _ (λ x e. absurd e) (never_long honest room calm);
   }
-  stopped_by false many few fits begun never_long never_short = record {
+  stopped_by false many few fits tells begun never_long never_short = record {
     leaves = leaves;
     fits = fits;
     bytes = IfOk-weaker r _ _ (λ x e. tt) fits;
     begun = λ honest. same_grid old new (same (few refl));
+    tells = IfOk-weaker r _ _ (λ x e. tt) fits;
     written = λ fresh honest room calm. IfOk-weaker r _ _ (λ x e. absurd e) (never_short (few refl));
     stored = λ honest room calm. IfOk-weaker r _ _ (λ x e. absurd e) (never_short (few refl));
     world = λ honest room calm. IfOk-weaker r _ _ (λ x e. absurd e) (never_short (few refl));
@@ -118,10 +165,11 @@ module _ (u : Upload) (cap : Cap) (r : Result Reply AllocError) (old new : GridS
 
   -- the upload was stopped: not where there is room and no store fails, nor where it is short
   pub stopped : IfOk r (IsStored cap)
+      → IfOk r (λ x. TellsOf u x old new)
       → (IsHonest old → (m : ℕ) × ArePut (index u) (take m (shares_of u)) old new)
       → (IsHonest old → HasRoom old (index u) (shares_of u) → NoneFailed old new → OnOk r ⊥) → (length u.bytes ≤ 55 → OnOk r ⊥)
       → IsCarriedOut ⊤ (if_long u) (IsStored cap) (λ look. cap_reply cap) r old new
-  stopped fits begun never_long never_short = stopped_by (nat_lt 55 (length u.bytes)) (long (length u.bytes)) (short (length u.bytes)) fits begun never_long never_short
+  stopped fits tells begun never_long never_short = stopped_by (nat_lt 55 (length u.bytes)) (long (length u.bytes)) (short (length u.bytes)) fits tells begun never_long never_short
 
 -- numbers of eight bits are bytes
 pub all_fit : (bytes : List ℕ) → ((i : ℕ) → Fits w8 (get_or bytes i 0)) → AreBytes bytes
@@ -160,6 +208,7 @@ not_begun e request fault g = record {
   fits = tt;
   bytes = tt;
   begun = λ honest. nothing_begun (upload_in e request) g;
+  tells = tt;
   written = λ fresh honest room calm. tt;
   stored = λ honest room calm. tt;
   world = λ honest room calm. tt;

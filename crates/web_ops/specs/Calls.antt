@@ -12,7 +12,7 @@ use Rattle.web_ops.specs.Encoding.{Encoding}
 use Rattle.web_ops.specs.Uploads.{upload_in}
 use Rattle.web_ops.specs.Answers.{request_reply}
 use Rattle.web_ops.specs.Replied.{IsReply}
-use Rattle.web_ops.specs.Changes.{HasRoomFor, IsStoredIn, IsBegunIn, Follows}
+use Rattle.web_ops.specs.Changes.{HasRoomFor, IsStoredIn, IsBegunIn, TellsOfIn, Follows}
 
 -- A call that stores nothing: a reply fits over any stores, and over honest ones that don't fail, where what is kept of
 -- files is fresh, it is what a look at them says.
@@ -28,6 +28,7 @@ pub record IsCarriedOut (Fresh : Type 0) (upload : Option Upload) (Fits : Reply 
   pub fits : IfOk result Fits
   pub bytes : OnOk result (IfSome upload (λ u. AreBytes u.bytes))
   pub begun : IsHonest old → IsBegunIn upload old new
+  pub tells : IfOk result (λ reply. TellsOfIn upload reply old new)
   pub written : Fresh → IsHonest old → HasRoomFor old upload → NoneFailed old new → IfOk result (λ reply. reply ≡ says (found_in (stood old)))
   pub stored : IsHonest old → HasRoomFor old upload → NoneFailed old new → OnOk result (IsStoredIn upload old new)
   pub world : IsHonest old → HasRoomFor old upload → NoneFailed old new → OnOk result (Follows upload old new)

@@ -1,12 +1,17 @@
 -- What a request leaves of honest stores.
-use Rattle.std.specs.Prelude.{◌≡◌, ⊤, ℕ, take, length, Option, Some, None}
-use Rattle.grid.specs.GridState.{GridState, stood}
+use Rattle.std.specs.Prelude.{◌≡◌, ◌<◌, ⊤, ℕ, take, length, Option, Some, None}
+use Rattle.grid.specs.declared.fault.GridFault.TheVariants.{Full, Down}
+use Rattle.grid.specs.GridState.{GridState, stood, failures_at, IsHonest}
 use Rattle.grid.specs.Leaves.{IsUnchanged}
 use Rattle.grid.specs.NewBytes.{HasRoom}
-use Rattle.grid.specs.Changed.{ArePut}
+use Rattle.grid.specs.Changed.{ArePut, StopsAt}
+use Rattle.chk_file.specs.AllStand.{AllStand}
 use Rattle.chk_file.specs.Upload.{Upload, index, shares_of}
 use Rattle.chk_file.specs.Marks.{shown}
 use Rattle.chk_file.specs.World.{World}
+use Rattle.web_ops.specs.declared.reply.Reply.{Reply}
+use Rattle.web_ops.specs.declared.reply.Status.TheVariants as status
+use Rattle.web_ops.specs.Replies.{store_full, store_down}
 use Rattle.web_ops.specs.Uploads.{after_stored}
 
 -- the stores have room for the shares of an upload, if there is one
@@ -27,3 +32,20 @@ IsBegunIn (Some u) old new = (m : ℕ) × ArePut (index u) (take m (shares_of u)
 -- whatever world stood, the one after what was stored stands
 abbrev pub Follows : Option Upload → GridState → GridState → Type 0
 Follows o old new = (w : World) → stood old ≡ shown w.marks → stood new ≡ shown (after_stored (length old.stores) o w).marks
+
+-- a store failed in an upload, which stopped there
+pub record IsDownAt (u : Upload) (old new : GridState) (server : ℕ) : Type 0 where
+  pub stops : StopsAt (index u) (shares_of u) old new (Down server)
+  pub failed : failures_at old server < failures_at new server
+
+-- What the reply to an upload tells of the stores. 200: over honest ones, however full or failing, a share of each number
+-- stands at its server. `store full`: a store had no room for a share of which none stood there. `store down`: one failed.
+pub record TellsOf (u : Upload) (reply : Reply) (old new : GridState) : Type 0 where
+  pub all_stand : IsHonest old → reply.status ≡ status.Ok → AllStand u old new
+  pub full : reply ≡ store_full → (server : ℕ) × StopsAt (index u) (shares_of u) old new (Full server)
+  pub down : reply ≡ store_down → (server : ℕ) × IsDownAt u old new server
+
+-- the same, if there is an upload
+abbrev pub TellsOfIn : Option Upload → Reply → GridState → GridState → Type 0
+TellsOfIn None reply old new = ⊤
+TellsOfIn (Some u) reply old new = TellsOf u reply old new

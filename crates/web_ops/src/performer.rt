@@ -10,7 +10,7 @@ ghost use Rattle.web_ops.specs.Encoding.{encoding_of};
 ghost use Rattle.web_ops.specs.Uploads.{upload_in};
 ghost use Rattle.web_ops.specs.Answers.{heeded, request_reply};
 ghost use Rattle.web_ops.specs.Replied.{IsReply};
-ghost use Rattle.web_ops.specs.Changes.{HasRoomFor, IsStoredIn, IsBegunIn, Follows};
+ghost use Rattle.web_ops.specs.Changes.{HasRoomFor, IsStoredIn, IsBegunIn, TellsOfIn, Follows};
 
 use crate::checking::check;
 use crate::node::get;
@@ -50,6 +50,10 @@ pub fn perform<S: Store>(
     // What is stored are bytes.
     ensures bytes { OnOk result (IfSome (upload_in (encoding_of k n secret.now) request)
         (λ u. AreBytes u.bytes)) }
+
+    // What a reply to an upload tells of the stores, however full or failing they are.
+    ensures tells { IfOk result (λ reply.
+        TellsOfIn (upload_in (encoding_of k n secret.now) request) reply grid.old grid.new) }
 
     // Of honest stores, also where memory is refused or a store is full or fails.
     ensures begun { IsHonest grid.old →

@@ -22,9 +22,9 @@ fn a_store_that_fails_tells_of_what_is_dropped(rt: HostRuntime) -> Result<(), Fa
 }
 
 fn failing_runs(alloc: Global) -> Result<Runs<FailAt>, Fail> {
-    let whole = failing(alloc, 100_000, false)?;
-    let kept = failing(alloc, 100_000, false)?;
-    let own = failing(alloc, 100_000, false)?;
+    let whole = failing(alloc, 100_000, 4, false)?;
+    let kept = failing(alloc, 100_000, 4, false)?;
+    let own = failing(alloc, 100_000, 4, false)?;
     Ok(Runs::over(alloc, whole, kept, own))
 }
 

@@ -5,7 +5,7 @@ use Rattle.grid.specs.declared.fault.GridFault.TheVariants.{NoMemory, Down}
 use Rattle.chk_file.specs.Upload.{uploaded}
 use Rattle.web_ops.specs.Uploads.{as_directory}
 use Rattle.web_ops.specs.Replies.{cap_reply}
-use Rattle.web_ops.proofs.CarriedOut.{stored, stopped, rose, unless}
+use Rattle.web_ops.proofs.CarriedOut.{stored, stopped, down_tells, rose, unless}
 use Rattle.web_ops.proofs.storing.store.Goals as goal
 
 down_is_not_memory : (s : ℕ) → Down s ≡ NoMemory → ⊥
@@ -15,13 +15,14 @@ pub returns-in-Ok-clause-done : goal.returns-in-Ok-clause-done
 returns-in-Ok-clause-done g c =
     stored (uploaded c.args.k c.args.n c.args.secret.now c.args.bytes.items) _ c.cap_reply.result c.args.grid.now c.upload.new.grid c.upload.ensures.leaves (subst AreBytes c.deref.ensures.value c.are_bytes.ensures) (λ few. (c.upload.ensures.short few).0)
     (IfOk-weaker c.cap_reply.result _ _ (λ reply is. is ∙ ap cap_reply (c.named-named.ensures ∙ ap (λ cap. cond c.args.directory (as_directory cap) cap) c.in-Ok.ensures.cap)) c.cap_reply.ensures)
-    c.in-Ok.ensures.stored c.in-Ok.ensures.world
+    c.in-Ok.ensures.stored c.in-Ok.ensures.all_stand c.in-Ok.ensures.world
 
 pub returns-in-Err-Down-clause-done : goal.returns-in-Err-Down-clause-done
 returns-in-Err-Down-clause-done g c =
     let was = c.in-Err-Down.is ∙ ap Err c.in-Err-Down.field-0-is in
     stopped (uploaded c.args.k c.args.n c.args.secret.now c.args.bytes.items) _ c.store_down.result c.args.grid.now c.upload.new.grid c.upload.ensures.leaves (subst AreBytes c.deref.ensures.value c.are_bytes.ensures) (λ few. (c.upload.ensures.short few).0)
     (IfOk-weaker c.store_down.result _ _ (λ reply is. inr (inr is)) c.store_down.ensures)
+    (IfOk-weaker c.store_down.result _ _ (λ reply is. down_tells _ _ reply _ _ is (c.upload.ensures.stops_down _ was) ((c.upload.ensures.down _).0 was)) c.store_down.ensures)
     c.in-Err-Down.ensures.begun
     (λ honest room calm. absurd (rose c.args.grid.now c.upload.new.grid _ ((c.upload.ensures.down _).0 was) calm))
     (λ few. absurd (down_is_not_memory _ (unless c.upload.result _ _ was (c.upload.ensures.short few).1)))

@@ -1,0 +1,13 @@
+//! Tests of connections, over the public calls of `gate_flow` and `gate_poll`. The gate proves a crate with tests twice,
+//! with them and without, so they stand in a crate of their own. The program itself does nothing.
+#![tactic(auto)]
+
+/// Connections without their sockets.
+#[cfg(test)]
+mod flows;
+/// Many connections over sockets.
+#[cfg(test)]
+mod polling;
+
+/// Nothing: the tests are all that this crate has.
+fn main() {}

@@ -1,0 +1,305 @@
+//! Connections over sockets of the loopback, within limits of time and number.
+
+use gate_core::Gateway;
+use gate_poll::*;
+use http_edge::{Head, Status};
+use log::Log;
+use mio::net::TcpListener;
+use share_store::MemStore;
+use std::alloc::{AllocError, Global};
+use std::io::{Read, Write};
+use std::net::{Net, Shutdown, SocketAddr, TcpStream};
+use std::process::Abort;
+use std::test::Fail;
+use std::time::{Clock, CpuClock, Duration, Instant};
+
+/// A gateway over one store in memory.
+fn gateway(alloc: Global) -> Result<Gateway<MemStore>, Fail> {
+    let mut stores = Vec::new(alloc);
+    stores.push(MemStore::new(alloc, 8_000_000))?;
+    Ok(Gateway::new(alloc, 1, 1, stores, b"")?)
+}
+
+/// Listens on a port of the loopback that the system chooses.
+fn listen(rt: &impl Net) -> Result<TcpListener, Fail> {
+    match SocketAddr::parse_ascii(b"127.0.0.1:0") {
+        Ok(address) => Ok(TcpListener::bind(rt, address)?),
+        Err(_) => Err(Fail::from("no address")),
+    }
+}
+
+/// What a client sends, whether it ends its side, and what it is given.
+#[derive(Clone, Copy, Debug)]
+struct Row {
+    sent: &'static [u8],
+    ends: bool,
+    given: &'static [u8],
+}
+
+/// A client that connected and sent these bytes.
+fn client(
+    rt: &impl Net<Stream = TcpStream>,
+    address: SocketAddr,
+    sent: &[u8],
+    ends: bool,
+) -> Result<TcpStream, Fail> {
+    let mut stream = TcpStream::connect(rt, address)?;
+    stream.write_all(sent)?;
+    if ends {
+        stream.shutdown(Shutdown::Write)?;
+    }
+    Ok(stream)
+}
+
+/// Serves these clients, all of which came before, and compares what each was given.
+fn serves<R: Net<Stream = TcpStream> + Clock + CpuClock + AllocGlobal + Log + Abort>(
+    rt: &R,
+    limits: &Limits,
+    gateway: &mut Gateway<MemStore>,
+    rows: &[Row],
+) -> Result<Counts, Fail> {
+    let listener = listen(rt)?;
+    let address = listener.local_addr()?;
+    let mut clients = Vec::new(rt.alloc());
+    for row in rows {
+        clients.push(client(rt, address, row.sent, row.ends)?)?;
+    }
+    let mut limits = *limits;
+    limits.served = Some(rows.len() as u64);
+    let counts = serve_on(rt, listener, None, &limits, gateway, &mut NoControl)?;
+    for (client, row) in clients.iter_mut().zip(rows) {
+        let mut given = Vec::new(rt.alloc());
+        let _ = client.read_to_end(&mut given);
+        assert!(rt; given.as_slice() == row.given);
+    }
+    Ok(counts)
+}
+
+const GET: &[u8] = b"GET /uri/URI:LIT:mzxw6 HTTP/1.1\r\nHost: g\r\n\r\n";
+
+const FOO: &[u8] =
+    b"HTTP/1.1 200 OK\r\nContent-Type: application/octet-stream\r\nContent-Length: 3\r\n\r\nfoo";
+
+/// Bytes behind a request that closes its connection.
+const CLOSES: &[u8] =
+    b"GET /uri/URI:LIT:mzxw6 HTTP/1.1\r\nHost: g\r\nConnection: close\r\n\r\nGET /uri/URI:LIT:mzxw6 HTTP/1.1\r\nHost: g\r\n\r\n";
+
+const CLOSED: &[u8] =
+    b"HTTP/1.1 200 OK\r\nContent-Type: application/octet-stream\r\nContent-Length: 3\r\nConnection: close\r\n\r\nfoo";
+
+#[test]
+fn connections_are_answered(rt: HostRuntime) -> Result<(), Fail> {
+    let limits = Limits::new(2, Duration::from_secs(20));
+    let whole = Row {
+        sent: GET,
+        ends: true,
+        given: FOO,
+    };
+    let closing = Row {
+        sent: CLOSES,
+        ends: false,
+        given: CLOSED,
+    };
+    let nothing = Row {
+        sent: b"",
+        ends: true,
+        given: b"",
+    };
+    let rows = [whole, closing, nothing];
+    let counts = serves(&rt, &limits, &mut gateway(rt.alloc())?, &rows)?;
+    assert_eq!(rt; counts.open, 0);
+    assert_eq!(rt; counts.opened, 3);
+    assert_eq!(rt; counts.over, 3);
+    assert_eq!(rt; counts.bytes_in, (GET.len() + CLOSES.len()) as u64);
+    assert_eq!(rt; counts.bytes_out, (FOO.len() + CLOSED.len()) as u64);
+    Ok(())
+}
+
+#[test]
+fn connections_that_take_too_long_are_cut(rt: HostRuntime) -> Result<(), Fail> {
+    let mut limits = Limits::new(10, Duration::from_millis(300));
+    limits.grace = Duration::from_millis(100);
+    let silent = Row {
+        sent: b"",
+        ends: false,
+        given: b"",
+    };
+    let slow_head = Row {
+        sent: b"GET /uri/URI",
+        ends: false,
+        given: b"",
+    };
+    let idle = Row {
+        sent: GET,
+        ends: false,
+        given: FOO,
+    };
+    let rows = [silent, slow_head, idle];
+    let counts = serves(&rt, &limits, &mut gateway(rt.alloc())?, &rows)?;
+    assert_eq!(rt; counts.opened, 3);
+    assert_eq!(rt; counts.late, 3);
+    assert_eq!(rt; counts.over, 0);
+    Ok(())
+}
+
+/// Stores a file of 4 MiB, and gives the request for it.
+fn large_request(alloc: Global, gateway: &mut Gateway<MemStore>) -> Result<Vec<u8>, Fail> {
+    gateway.open(1_000_000, None)?;
+    gateway.bytes(
+        1_000_000,
+        b"PUT /uri HTTP/1.1\r\nHost: g\r\nContent-Length: 4194304\r\n\r\n",
+    )?;
+    let part = vec![in alloc; 7u8; 65_536]?;
+    for _ in 0..64u32 {
+        gateway.bytes(1_000_000, &part)?;
+    }
+    let reply = gateway.take(1_000_000, 100_000)?;
+    let mut request = Vec::new(alloc);
+    request.extend_from_slice(b"GET /uri/")?;
+    let cap = reply.as_slice().split(|byte| *byte == b'\n').last();
+    request.extend_from_slice(cap.unwrap_or(b""))?;
+    request.extend_from_slice(b" HTTP/1.1\r\nHost: g\r\n\r\n")?;
+    Ok(request)
+}
+
+#[test]
+fn a_reader_that_takes_nothing_is_cut(rt: HostRuntime) -> Result<(), Fail> {
+    let alloc = rt.alloc();
+    let mut many = gateway(alloc)?;
+    let request = large_request(alloc, &mut many)?;
+    let listener = listen(&rt)?;
+    let mut stream = client(&rt, listener.local_addr()?, b"", false)?;
+    for _ in 0..8u32 {
+        stream.write_all(&request)?;
+    }
+    let mut limits = Limits::new(10, Duration::from_millis(300));
+    limits.served = Some(1);
+    let counts = serve_on(&rt, listener, None, &limits, &mut many, &mut NoControl)?;
+    assert_eq!(rt; counts.late, 1);
+    assert!(rt; counts.bytes_out > 0);
+    assert!(rt; counts.bytes_out < 8 * 4_194_304);
+    Ok(())
+}
+
+#[test]
+fn a_socket_whose_id_was_used_is_refused(rt: HostRuntime) -> Result<(), Fail> {
+    let alloc = rt.alloc();
+    let mut many = gateway(alloc)?;
+    many.open(1, None)?;
+    let listener = listen(&rt)?;
+    let refused = client(&rt, listener.local_addr()?, b"", false)?;
+    let mut served = client(&rt, listener.local_addr()?, GET, true)?;
+    let mut limits = Limits::new(10, Duration::from_secs(20));
+    limits.served = Some(1);
+    let counts = serve_on(&rt, listener, None, &limits, &mut many, &mut NoControl)?;
+    assert_eq!(rt; counts.refused, 1);
+    assert_eq!(rt; counts.over, 1);
+    let mut given = Vec::new(alloc);
+    served.read_to_end(&mut given)?;
+    assert!(rt; given.as_slice() == FOO);
+    drop(refused);
+    Ok(())
+}
+
+/// Asks that serving stop, whatever is asked.
+#[derive(Drop)]
+struct Stops {
+    asked: u32,
+}
+
+impl Control<MemStore> for Stops {
+    fn answer(
+        &mut self,
+        alloc: Global,
+        head: &Head,
+        _counts: &Counts,
+        _gateway: &Gateway<MemStore>,
+    ) -> Result<Answer, AllocError> {
+        self.asked = self.asked.saturating_add(1);
+        Ok(Answer {
+            reply: text_reply(alloc, Status::Ok, head.target.as_slice())?,
+            stops: true,
+        })
+    }
+}
+
+#[test]
+fn a_control_request_stops_the_loop(rt: HostRuntime) -> Result<(), Fail> {
+    let alloc = rt.alloc();
+    let mut many = gateway(alloc)?;
+    let (listener, control) = (listen(&rt)?, listen(&rt)?);
+    let stop = b"POST /stop HTTP/1.1\r\nHost: g\r\n\r\n".as_slice();
+    // What is asked on the gateway's port is no control request.
+    let mut asked = client(&rt, listener.local_addr()?, stop, false)?;
+    let silent = client(&rt, listener.local_addr()?, b"", false)?;
+    let mut caller = client(&rt, control.local_addr()?, stop, true)?;
+    let limits = Limits::new(10, Duration::from_secs(20));
+    let mut answers = Stops { asked: 0 };
+    let counts = serve_on(
+        &rt,
+        listener,
+        Some(control),
+        &limits,
+        &mut many,
+        &mut answers,
+    )?;
+    assert_eq!(rt; answers.asked, 1);
+    assert_eq!(rt; counts.opened, 2);
+    assert_eq!(rt; counts.stopped, 2);
+    let mut given = Vec::new(alloc);
+    caller.read_to_end(&mut given)?;
+    assert!(rt;
+        given.as_slice()
+            == b"HTTP/1.1 200 OK\r\nContent-Type: text/plain; charset=utf-8\r\nContent-Length: 5\r\nConnection: close\r\n\r\n/stop".as_slice()
+    );
+    given.clear();
+    asked.read_to_end(&mut given)?;
+    assert!(rt; given.as_slice().starts_with(b"HTTP/1.1 4".as_slice()));
+    drop(silent);
+    Ok(())
+}
+
+/// So many milliseconds after another time.
+fn after(begin: Instant, millis: u64) -> Result<Instant, Fail> {
+    match begin.checked_add(Duration::from_millis(millis)) {
+        Some(time) => Ok(time),
+        None => Err(Fail::from("no time")),
+    }
+}
+
+#[test]
+fn bytes_of_a_request_count_from_the_first_one(rt: HostRuntime) -> Result<(), Fail> {
+    let begin = Instant::now(&rt)?;
+    let limits = Limits::new(10, Duration::from_secs(60));
+    let mut pace = Pace::new(begin);
+    assert!(rt; !pace.is_late(after(begin, 60_000)?, &limits));
+    assert!(rt; pace.is_late(after(begin, 60_001)?, &limits));
+    pace.moves(after(begin, 59_000)?, 1);
+    assert!(rt; !pace.is_late(after(begin, 69_000)?, &limits));
+    assert!(rt; pace.is_late(after(begin, 69_001)?, &limits));
+    pace.moves(after(begin, 60_000)?, 2047);
+    assert!(rt; !pace.is_late(after(begin, 71_000)?, &limits));
+    assert!(rt; pace.is_late(after(begin, 71_001)?, &limits));
+    Ok(())
+}
+
+#[test]
+fn bytes_of_a_reply_count_once_a_write_blocked(rt: HostRuntime) -> Result<(), Fail> {
+    let begin = Instant::now(&rt)?;
+    let limits = Limits::new(10, Duration::from_secs(60));
+    let mut pace = Pace::new(begin);
+    pace.turns(begin, Way::Takes);
+    pace.moves(begin, 10_000_000);
+    pace.blocks(after(begin, 1000)?, &limits);
+    pace.moves(after(begin, 31_000)?, 2048);
+    pace.blocks(after(begin, 31_000)?, &limits);
+    assert!(rt; !pace.is_late(after(begin, 63_000)?, &limits));
+    assert!(rt; pace.is_late(after(begin, 63_001)?, &limits));
+    // After a minute the count begins anew.
+    pace.moves(after(begin, 61_000)?, 1_000_000);
+    pace.blocks(after(begin, 61_000)?, &limits);
+    pace.moves(after(begin, 101_000)?, 1024);
+    assert!(rt; !pace.is_late(after(begin, 122_000)?, &limits));
+    assert!(rt; pace.is_late(after(begin, 122_001)?, &limits));
+    Ok(())
+}

@@ -1,5 +1,0 @@
-use Rattle.gate_main.proofs.LineLists.{lines_join}
-use Rattle.gate_main.proofs.laws.lines_join_to_the_script.Goals as goal
-
-pub returns : goal.returns
-returns c = lines_join

@@ -1,5 +1,0 @@
-use Rattle.gate_main.proofs.TextLaws.{read_back}
-use Rattle.gate_main.proofs.laws.texts_are_read_back.Goals as goal
-
-pub returns : goal.returns
-returns c = read_back

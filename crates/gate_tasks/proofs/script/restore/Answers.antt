@@ -1,0 +1,40 @@
+use Rattle.std.proofs.Common.{◌≡◌, None, Some, Err, subst, sym, ap, ◌∙◌, rules}
+use Rattle.grid.specs.ImageReading.{image_said}
+use Rattle.grid.specs.declared.fault.GridFault.{GridFault}
+use Rattle.grid.specs.declared.fault.GridFault.TheVariants.{BadImage}
+use Rattle.gate_core.specs.declared.fault.RestoreFault.TheVariants as restore_fault
+use Rattle.gate_tasks.specs.Running.{IsAt, IsAnswer}
+use Rattle.gate_tasks.specs.Script.{Step, is_refusal}
+use Rattle.gate_tasks.specs.declared.command.Command.TheVariants as command
+use Rattle.gate_tasks.specs.declared.reply.Reply.TheVariants.{Done, GridRefused}
+use Rattle.gate_tasks.proofs.Begins.{restored, restore_refused, set_is}
+use Rattle.gate_tasks.proofs.script.restore.Goals as goal
+
+pub returns-in-Ok : goal.returns-in-Ok
+returns-in-Ok c log at told =
+    let grid = c.in-Some.grid in
+    let some : c.args.progress.now.grid ≡ Some grid = search rules in
+    let none : c.take.new.self ≡ None = search rules in
+    let step : Step = record { command = command.Restore c.args.image.now; reply = Done } in
+    subst (λ was. IsAnswer log step was (Some c.in-Ok.made)) (sym none)
+    (restored log grid c.args.progress.now.gateway c.args.image.now c.in-Ok.made (subst (λ was. IsAt log was c.args.progress.now.gateway) some at) told
+    (c.in-Ok.ensures.held.0 ∙ set_is grid c.as_slice.result.now _ c.as_slice.ensures c.in_ok-stores.ensures.count)
+    (subst (λ servers. (image_said servers c.args.image.now).fault ≡ None) c.in_ok-stores.ensures.count c.in-Ok.ensures.no_fault))
+
+same_fault : (a b : GridFault) → GridRefused a ≡ GridRefused b → a ≡ b
+same_fault a b is = cc
+
+pub returns : goal.returns
+returns c log at told =
+    let grid = c.in-Some.grid in
+    let some : c.args.progress.now.grid ≡ Some grid = search rules in
+    let none : c.take.new.self ≡ None = search rules in
+    let reply = c.in_ok-reply-in-Err-Grid.reply in
+    let is = c.in_ok-reply-in-Err-Grid.ensures.0 in
+    let step : Step = record { command = command.Restore c.args.image.now; reply = reply } in
+    subst (λ was. IsAnswer log step was None) (sym none)
+    (restore_refused log grid c.args.progress.now.gateway c.args.image.now reply (subst (λ was. IsAt log was c.args.progress.now.gateway) some at) told (ap is_refusal is)
+    record {
+      done = λ other. absurd cc;
+      bad = λ place other. subst (λ servers. (image_said servers c.args.image.now).fault ≡ Some place) c.in_ok-stores.ensures.count (c.in-Err-Grid.ensures.bad_image place (ap Err (c.in-Err-Grid.field-0-is ∙ ap restore_fault.Grid (same_fault c.in-Err-Grid.fault (BadImage place) (sym is ∙ other)))));
+    })

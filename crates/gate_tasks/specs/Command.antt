@@ -1,0 +1,126 @@
+-- What a line of a script asks.
+use Rattle.std.specs.Prelude.{ℕ, ◌-◌, ◌^◌, ◌==◌, nat_le, List, [], ◌∷◌, length, if◌then◌else◌, Option, Some, None, Result, Ok, Err, option_and_then, codes}
+use Rattle.std.specs.Option.{option_map}
+use Rattle.std.specs.List.{slice_split, join_with_byte}
+use Rattle.std.specs.Str.{bytes_eq}
+use Rattle.base32_text.specs.Reading.{reading}
+use Rattle.gate_tasks.specs.declared.command.Share.{Share}
+use Rattle.gate_tasks.specs.declared.command.Command.{Command}
+use Rattle.gate_tasks.specs.declared.command.Command.TheVariants.{Grid as GridLine, Restore, Open, Bytes, End, Take, Lose, Spoil, Image}
+use Rattle.octets.specs.Decimal.{number_to}
+use Rattle.gate_tasks.specs.Text.{unescaped}
+
+-- the words of a line, parted by one space; a word may be empty
+abbrev pub words : List ℕ → List (List ℕ)
+words line = slice_split (λ byte. byte == 32) line
+
+-- numbers that fit 16, 32 and 64 bits
+abbrev pub short_number : List ℕ → Option ℕ
+short_number word = number_to (2 ^ 16 - 1) word
+
+abbrev pub middle_number : List ℕ → Option ℕ
+middle_number word = number_to (2 ^ 32 - 1) word
+
+abbrev pub long_number : List ℕ → Option ℕ
+long_number word = number_to (2 ^ 64 - 1) word
+
+-- the number of servers: 1 to 256
+abbrev pub servers_of : List ℕ → Option ℕ
+servers_of word = option_and_then (λ servers. if nat_le 1 servers then Some servers else None) (number_to 256 word)
+
+-- the bytes that a base32 text spells
+abbrev pub spelled : {F : Type 0} → Result (List ℕ) F → Option (List ℕ)
+spelled (Ok bytes) = Some bytes
+spelled (Err fault) = None
+
+-- SECRET: `-` for the empty one, else base32, which is not empty
+abbrev pub secret_of : List ℕ → Option (List ℕ)
+secret_of word = if bytes_eq word (codes "-") then Some [] else (if length word == 0 then None else spelled (reading word))
+
+-- SI: the 16 bytes of a storage index
+abbrev pub exact : ℕ → Option (List ℕ) → Option (List ℕ)
+exact count bytes = option_and_then (λ bytes. if length bytes == count then Some bytes else None) bytes
+
+abbrev pub index_of : List ℕ → Option (List ℕ)
+index_of word = exact 16 (spelled (reading word))
+
+-- SERVER, SI and NUMBER
+abbrev pub share_of : List ℕ → List ℕ → List ℕ → Option Share
+share_of server index number =
+    option_and_then (λ server. option_and_then (λ index. option_map (λ number.
+    record { server = server; index = index; number = number })
+    (short_number number)) (index_of index)) (middle_number server)
+
+-- grid K N S ROOM SECRET
+abbrev pub grid_of : List (List ℕ) → Option Command
+grid_of (k ∷ n ∷ servers ∷ room ∷ secret ∷ []) =
+    option_and_then (λ k. option_and_then (λ n. option_and_then (λ servers. option_and_then (λ room. option_map (λ secret.
+    GridLine (record { k = k; n = n; servers = servers; room = room; secret = secret }))
+    (secret_of secret)) (long_number room)) (servers_of servers)) (short_number n)) (short_number k)
+grid_of arguments = None
+
+-- TEXT, which is all that stands after a space, spaces too
+abbrev pub text_of : List (List ℕ) → Option (List ℕ)
+text_of [] = None
+text_of (word ∷ more) = unescaped (join_with_byte 32 (word ∷ more))
+
+-- restore TEXT
+abbrev pub restore_of : List (List ℕ) → Option Command
+restore_of arguments = option_map (λ image. Restore image) (text_of arguments)
+
+-- open ID, or open ID SECRET
+abbrev pub open_of : List (List ℕ) → Option Command
+open_of (id ∷ []) = option_map (λ id. Open id None) (long_number id)
+open_of (id ∷ secret ∷ []) = option_and_then (λ id. option_map (λ secret. Open id (Some secret)) (secret_of secret)) (long_number id)
+open_of arguments = None
+
+-- bytes ID TEXT
+abbrev pub bytes_of : List (List ℕ) → Option Command
+bytes_of [] = None
+bytes_of (id ∷ text) = option_and_then (λ id. option_map (λ piece. Bytes id piece) (text_of text)) (long_number id)
+
+-- end ID
+abbrev pub end_of : List (List ℕ) → Option Command
+end_of (id ∷ []) = option_map (λ id. End id) (long_number id)
+end_of arguments = None
+
+-- take ID MAX
+abbrev pub take_of : List (List ℕ) → Option Command
+take_of (id ∷ most ∷ []) = option_and_then (λ id. option_map (λ most. Take id most) (middle_number most)) (long_number id)
+take_of arguments = None
+
+-- lose SERVER SI NUMBER
+abbrev pub lose_of : List (List ℕ) → Option Command
+lose_of (server ∷ index ∷ number ∷ []) = option_map (λ share. Lose share) (share_of server index number)
+lose_of arguments = None
+
+-- spoil SERVER SI NUMBER PLACE
+abbrev pub spoil_of : List (List ℕ) → Option Command
+spoil_of (server ∷ index ∷ number ∷ place ∷ []) =
+    option_and_then (λ share. option_map (λ place. Spoil share place) (long_number place)) (share_of server index number)
+spoil_of arguments = None
+
+-- image
+abbrev pub image_of : List (List ℕ) → Option Command
+image_of [] = Some Image
+image_of (word ∷ more) = None
+
+-- what follows each verb
+abbrev pub arguments_of : List (List ℕ × (List (List ℕ) → Option Command))
+arguments_of =
+    (codes "grid", grid_of) ∷ (codes "restore", restore_of)
+    ∷ (codes "open", open_of) ∷ (codes "bytes", bytes_of) ∷ (codes "end", end_of) ∷ (codes "take", take_of)
+    ∷ (codes "lose", lose_of) ∷ (codes "spoil", spoil_of) ∷ (codes "image", image_of) ∷ []
+
+-- the first of these verbs that this is
+abbrev pub asked_among : List (List ℕ × (List (List ℕ) → Option Command)) → List ℕ → List (List ℕ) → Option Command
+asked_among [] verb arguments = None
+asked_among (known ∷ more) verb arguments = if bytes_eq verb known.0 then known.1 arguments else asked_among more verb arguments
+
+abbrev pub asked_by : List (List ℕ) → Option Command
+asked_by [] = None
+asked_by (verb ∷ arguments) = asked_among arguments_of verb arguments
+
+-- the command that a line gives, or none where it is a bad line
+abbrev pub command_of : List ℕ → Option Command
+command_of line = asked_by (words line)

@@ -1,0 +1,182 @@
+-- Which replies commands get, by what was called before.
+use Rattle.std.specs.Prelude.{◌≡◌, ℕ, ◌&&◌, not, nat_le, nat_lt, ◌⊎◌, List, [], ◌∷◌, ◌++◌, length, take, drop, ⊤, Bool, false, is_some, unwrap_or, if◌then◌else◌, Option, Some, None}
+use Rattle.grid.specs.declared.fault.GridFault.{GridFault}
+use Rattle.grid.specs.declared.fault.GridFault.TheVariants.{NoServer, BadImage}
+use Rattle.share_store.specs.Shares.{Shares}
+use Rattle.grid.specs.Standing.{standing}
+use Rattle.grid.specs.Rows.{rows_of}
+use Rattle.grid.specs.Image.{image}
+use Rattle.grid.specs.ImageReading.{image_said}
+use Rattle.chk_file.specs.Marks.{shown}
+use Rattle.chk_file.specs.World.{World, empty}
+use Rattle.chk_file.specs.Look.{by_fit}
+use Rattle.gate_core.specs.Settings.{Settings}
+use Rattle.gate_core.specs.Events.{Event, Open, Bytes, End, Take, Lose, Spoil, is_known, has_ended, handed}
+use Rattle.gate_core.specs.Items.{items}
+use Rattle.gate_core.specs.Runs.{world_after, said_by, said}
+use Rattle.gate_core.specs.Reach.{only, kept}
+use Rattle.gate_core.specs.Apart.{Apart}
+use Rattle.gate_core.specs.Came.{Opening, IsRoomy}
+use Rattle.gate_core.specs.declared.fault.GatewayFault.TheVariants.{Known, NotOpen, BadParameters}
+use Rattle.gate_tasks.specs.declared.command.Command.{Command}
+use Rattle.gate_tasks.specs.declared.command.Command.TheVariants as command
+use Rattle.gate_tasks.specs.declared.command.Grid.{Grid}
+use Rattle.gate_tasks.specs.declared.reply.Reply.{Reply}
+use Rattle.gate_tasks.specs.declared.reply.Reply.TheVariants.{Done, Refused, GridRefused, Given, Imaged, Answered}
+use Rattle.gate_tasks.specs.Script.{Step, is_restore}
+
+-- ---- a run
+
+-- what the line `grid` sets a gateway up with
+abbrev pub settings_by : Grid → Settings
+settings_by grid = record { k = grid.k; n = grid.n; secret = grid.secret; servers = grid.servers }
+
+-- a gateway has these parameters
+abbrev pub are_parameters : Grid → Bool
+are_parameters grid = nat_le 1 grid.k && nat_le grid.k grid.n && nat_le grid.n 256 && nat_le 1 grid.servers && nat_le grid.servers 256 && nat_le (length grid.secret) 256
+
+-- what stands at first: nothing, and each store has ROOM
+abbrev pub room_of : Grid → ℕ → ℕ
+room_of grid server = if nat_lt server grid.servers then grid.room else 0
+
+abbrev pub opening_by : Grid → Opening
+opening_by grid = record { world = empty; rooms = room_of grid }
+
+-- the stores have the room for what these calls bring
+abbrev pub IsCalm : Grid → List Event → Type 0
+IsCalm grid events = IsRoomy (settings_by grid) (opening_by grid) events
+
+-- what stands after these calls
+abbrev pub world_by : Grid → List Event → World
+world_by grid events = world_after (settings_by grid) empty (items events)
+
+-- ---- replies
+
+-- a connection was opened, and its end did not come
+abbrev pub is_going : ℕ → List Event → Bool
+is_going id events = is_known id events && not (has_ended id events)
+
+-- what a caller is to be told and was not given yet, where caps give what verification finds
+abbrev pub unsaid : Grid → ℕ → List Event → List ℕ
+unsaid grid id events = drop (length (handed id events)) (said_by by_fit (settings_by grid) id empty (items events))
+
+-- what of the written answers to the items that are kept for a caller it was not given yet
+abbrev pub unsaid_of_kept : Grid → ℕ → List Event → List ℕ
+unsaid_of_kept grid id events = drop (length (handed id events)) (said (settings_by grid) id empty (kept (settings_by grid) (only id) empty (items events)))
+
+-- no two strings collide that are hashed in this caller's part
+abbrev pub IsApart : Grid → ℕ → List Event → Type 0
+IsApart grid id events = Apart (settings_by grid) (only id) [] empty (items events)
+
+-- the first of these bytes, where the connection was opened
+abbrev pub first_of : ℕ → List Event → ℕ → List ℕ → Reply
+first_of id events most bytes = if is_known id events then Given (take most bytes) else Refused NotOpen
+
+-- The reply to `take` has the next bytes that its caller is to be told: what verification finds in the whole run, and where
+-- no two strings of this caller's part collide what the written answers say when the requests of others are dropped, save
+-- uploads under a storage index that it met.
+pub record IsTaken (grid : Grid) (events : List Event) (id most : ℕ) (reply : Reply) : Type 0 where
+  pub verified : reply ≡ first_of id events most (unsaid grid id events)
+  pub isolated : IsApart grid id events → reply ≡ first_of id events most (unsaid_of_kept grid id events)
+
+-- at a server that there is
+abbrev pub at_server : Grid → ℕ → Bool → Reply
+at_server grid server answer = if nat_lt server grid.servers then Answered answer else GridRefused NoServer
+
+-- these bytes are the image of stores, one for each server, in which stands what stands after these calls
+pub record IsImageAfter (grid : Grid) (events : List Event) (bytes : List ℕ) : Type 0 where
+  pub maps : List Shares
+  pub servers : length maps ≡ grid.servers
+  pub stand : standing maps ≡ shown (world_by grid events).marks
+  pub is : bytes ≡ image grid.servers (rows_of maps)
+
+-- an image of what stands, or why it can't be written
+abbrev pub IsImageReply : Grid → List Event → Reply → Type 0
+IsImageReply grid events reply = ((bytes : List ℕ) × (reply ≡ Imaged bytes) × IsImageAfter grid events bytes) ⊎ ((fault : GridFault) × (reply ≡ GridRefused fault))
+
+-- why a secret is not taken: it is too long
+abbrev pub opened_reply : Option (List ℕ) → Reply
+opened_reply secret = if nat_lt 256 (length (unwrap_or secret [])) then Refused BadParameters else Done
+
+-- the reply to a command after these calls
+abbrev pub IsReply : Grid → List Event → Command → Reply → Type 0
+IsReply grid events (command.Grid other) reply = ⊥
+IsReply grid events (command.Restore image) reply = ⊥
+IsReply grid events (command.Open id secret) reply = reply ≡ (if is_known id events then Refused Known else opened_reply secret)
+IsReply grid events (command.Bytes id piece) reply = reply ≡ (if is_going id events then Done else Refused NotOpen)
+IsReply grid events (command.End id) reply = reply ≡ (if is_going id events then Done else Refused NotOpen)
+IsReply grid events (command.Take id most) reply = IsTaken grid events id most reply
+IsReply grid events (command.Lose share) reply =
+    reply ≡ at_server grid share.server (is_some (shown (world_by grid events).marks share.server (share.index, share.number)))
+IsReply grid events (command.Spoil share place) reply =
+    reply ≡ at_server grid share.server (nat_lt place (length (unwrap_or (shown (world_by grid events).marks share.server (share.index, share.number)) [])))
+IsReply grid events command.Image reply = IsImageReply grid events reply
+
+-- the call of a command that gave these bytes: a connection without a secret of its own takes the gateway's
+abbrev pub event_of : Grid → Command → List ℕ → List Event
+event_of own (command.Grid grid) given = []
+event_of own (command.Restore image) given = []
+event_of own (command.Open id secret) given = Open id (unwrap_or secret own.secret) ∷ []
+event_of own (command.Bytes id piece) given = Bytes id piece ∷ []
+event_of own (command.End id) given = End id ∷ []
+event_of own (command.Take id most) given = Take id given ∷ []
+event_of own (command.Lose share) given = Lose share.server (share.index, share.number) ∷ []
+event_of own (command.Spoil share place) given = Spoil share.server (share.index, share.number) place ∷ []
+event_of own command.Image given = []
+
+-- the call of a step: a refused one is none
+abbrev pub event_by : Grid → Command → Reply → List Event
+event_by own asked Done = event_of own asked []
+event_by own asked (Refused fault) = []
+event_by own asked (GridRefused fault) = []
+event_by own asked (Given given) = event_of own asked given
+event_by own asked (Imaged image) = []
+event_by own asked (Answered answer) = event_of own asked []
+
+abbrev pub events_of : Grid → List Step → List Event
+events_of grid [] = []
+events_of grid (step ∷ log) = event_by grid step.command step.reply ++ events_of grid log
+
+-- Each step, after these calls, is answered as the calls so far say, where the stores have the room for what those
+-- bring. What this step and later ones bring is no premise of its reply.
+abbrev pub AreReplies : Grid → List Event → List Step → Type 0
+AreReplies grid events [] = ⊤
+AreReplies grid events (step ∷ log) = (IsCalm grid events → IsReply grid events step.command step.reply) × AreReplies grid (events ++ event_by grid step.command step.reply) log
+
+-- ---- all steps
+
+-- An image is restored only where it is one of stores for so many servers, and called bad only where it is not: at the place of
+-- its first fault.
+pub record IsRestoreReply (grid : Grid) (bytes : List ℕ) (reply : Reply) : Type 0 where
+  pub done : reply ≡ Done → (image_said grid.servers bytes).fault ≡ None
+  pub bad : (place : ℕ) → reply ≡ GridRefused (BadImage place) → (image_said grid.servers bytes).fault ≡ Some place
+
+-- the reply to the command after `grid`, where it restores an image
+abbrev pub IsFirstReply : Grid → Command → Reply → Type 0
+IsFirstReply grid (command.Restore bytes) reply = IsRestoreReply grid bytes reply
+IsFirstReply grid _ reply = ⊤
+
+abbrev pub BeginsWell : Grid → List Step → Type 0
+BeginsWell grid [] = ⊤
+BeginsWell grid (step ∷ log) = IsFirstReply grid step.command step.reply
+
+-- whether an image is restored
+abbrev pub restores : List Step → Bool
+restores [] = false
+restores (step ∷ log) = is_restore step.command
+
+-- After the line `grid` and its answer: an image is restored or called bad for cause, and where none is restored the
+-- written answers decide each reply before which the stores had the room.
+pub record IsToldAfter (grid : Grid) (reply : Reply) (log : List Step) : Type 0 where
+  pub made : reply ≡ (if are_parameters grid then Done else Refused BadParameters)
+  pub restored : BeginsWell grid log
+  pub replies : restores log ≡ false → AreReplies grid [] log
+
+abbrev pub IsToldFrom : Command → Reply → List Step → Type 0
+IsToldFrom (command.Grid grid) reply log = IsToldAfter grid reply log
+IsToldFrom _ reply log = ⊥
+
+-- the steps of a run, of which the first is `grid`
+abbrev pub IsTold : List Step → Type 0
+IsTold [] = ⊤
+IsTold (step ∷ log) = IsToldFrom step.command step.reply log

@@ -1,0 +1,123 @@
+//! The calls of a gateway that commands ask for.
+ghost use Rattle.std.specs.Prelude.{◌≡◌, IfOk, true, option_copied};
+ghost use Rattle.gate_tasks.specs.Running.{IsCalled};
+ghost use Rattle.gate_tasks.specs.Script.{is_call};
+
+use crate::command::{Command, Share};
+use crate::reply::Reply;
+use gate_core::Gateway;
+use grid::GridFault;
+use octets::Bytes;
+use share_store::MemStore;
+use std::alloc::{AllocError, Global};
+
+/// A gateway over stores in memory.
+pub type MemGateway = Gateway<MemStore>;
+
+/// Makes the call that a command asks for.
+pub fn call(alloc: Global, gateway: &mut MemGateway, command: &Command) -> Result<Reply, AllocError>
+    requires { is_call command.now ≡ true }
+    ensures { IfOk result (λ reply. IsCalled gateway.old gateway.new command.now reply) }
+{
+    match command {
+        Command::Open(id, secret) => open(gateway, *id, secret),
+        Command::Bytes(id, piece) => bytes(gateway, *id, piece.as_slice()),
+        Command::End(id) => end(gateway, *id),
+        Command::Take(id, most) => take(gateway, *id, *most),
+        Command::Lose(share) => lose(gateway, share),
+        Command::Spoil(share, place) => spoil(gateway, share, *place),
+        Command::Image => image(alloc, gateway),
+        Command::Grid(_) => Err(AllocError),
+        Command::Restore(_) => Err(AllocError),
+    }
+}
+
+fn open(gateway: &mut MemGateway, id: u64, secret: &Option<Bytes>) -> Result<Reply, AllocError>
+    ensures { IfOk result (λ reply.
+        IsCalled gateway.old gateway.new (Command.Open id secret.now) reply) }
+{
+    match gateway.open(id, lent(secret)) {
+        Ok(()) => Ok(Reply::Done),
+        Err(fault) => Reply::refused(fault),
+    }
+}
+
+/// A secret as it is lent, if there is one.
+fn lent(secret: &Option<Bytes>) -> Option<&[u8]>
+    ensures { option_copied result ≡ secret.now }
+{
+    match secret {
+        Some(bytes) => Some(bytes.as_slice()),
+        None => None,
+    }
+}
+
+fn bytes(gateway: &mut MemGateway, id: u64, piece: &[u8]) -> Result<Reply, AllocError>
+    ensures { IfOk result (λ reply.
+        IsCalled gateway.old gateway.new (Command.Bytes id piece.now) reply) }
+{
+    gateway.no_store_failed();
+    let done = gateway.bytes(id, piece);
+    gateway.no_store_failed();
+    match done {
+        Ok(()) => Ok(Reply::Done),
+        Err(fault) => Reply::refused(fault),
+    }
+}
+
+fn end(gateway: &mut MemGateway, id: u64) -> Result<Reply, AllocError>
+    ensures { IfOk result (λ reply. IsCalled gateway.old gateway.new (Command.End id) reply) }
+{
+    match gateway.end(id) {
+        Ok(()) => Ok(Reply::Done),
+        Err(fault) => Reply::refused(fault),
+    }
+}
+
+fn take(gateway: &mut MemGateway, id: u64, most: u32) -> Result<Reply, AllocError>
+    ensures { IfOk result (λ reply. IsCalled gateway.old gateway.new (Command.Take id most) reply) }
+{
+    gate_core::laws::kept_answers_are_verified();
+    match gateway.take(id, most as usize) {
+        Ok(given) => Ok(Reply::Given(Bytes::from_vec(given))),
+        Err(fault) => Reply::refused(fault),
+    }
+}
+
+fn lose(gateway: &mut MemGateway, share: &Share) -> Result<Reply, AllocError>
+    ensures { IfOk result
+        (λ reply. IsCalled gateway.old gateway.new (Command.Lose share.now) reply) }
+{
+    gateway.no_store_failed();
+    let lost = gateway.lose(share.server as usize, share.index, share.number);
+    gateway.no_store_failed();
+    match lost {
+        Ok(lost) => Ok(Reply::Answered(lost)),
+        Err(fault) => Reply::grid_refused(fault),
+    }
+}
+
+fn spoil(gateway: &mut MemGateway, share: &Share, place: u64) -> Result<Reply, AllocError>
+    ensures { IfOk result (λ reply.
+        IsCalled gateway.old gateway.new (Command.Spoil share.now place) reply) }
+{
+    gateway.no_store_failed();
+    let spoiled = gateway.spoil(share.server as usize, share.index, share.number, place);
+    gateway.no_store_failed();
+    match spoiled {
+        Ok(spoiled) => Ok(Reply::Answered(spoiled)),
+        Err(fault) => Reply::grid_refused(fault),
+    }
+}
+
+/// A writer in memory that stops has no memory.
+fn image(alloc: Global, gateway: &mut MemGateway) -> Result<Reply, AllocError>
+    ensures { IfOk result (λ reply. IsCalled gateway.old gateway.new Command.Image reply) }
+{
+    let mut image = Vec::new(alloc);
+    match gateway.image(&mut image) {
+        Ok(()) => Ok(Reply::Imaged(Bytes::from_vec(image))),
+        Err(GridFault::WriteFailed) => Err(AllocError),
+        Err(fault) => Reply::grid_refused(fault),
+    }
+}
