@@ -5,6 +5,9 @@
 /// Gateways.
 #[cfg(test)]
 mod gateways;
+/// Crashes, and gateways that are resumed after them.
+#[cfg(test)]
+mod restarting;
 
 /// Nothing: the tests are all that this crate has.
 fn main() {}

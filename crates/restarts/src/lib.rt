@@ -7,5 +7,3 @@
 
 /// Laws, each on a function that does nothing.
 pub mod laws;
-#[cfg(test)]
-mod tests;

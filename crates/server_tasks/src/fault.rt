@@ -1,6 +1,6 @@
 //! Why the program ended before it was stopped.
 ghost use Rattle.std.specs.Prelude.{◌≡◌};
-ghost use Rattle.wozhinnam.specs.Status.{status_of, folder_status};
+ghost use Rattle.server_tasks.specs.Status.{status_of, folder_status};
 
 use folder_shelf::FolderFault;
 use gate_poll::ServeFault;

@@ -2,8 +2,8 @@
 use Rattle.std.specs.Prelude.{ℕ}
 use Rattle.folder_shelf.specs.declared.fault.FolderFault.{FolderFault}
 use Rattle.folder_shelf.specs.declared.fault.FolderFault.TheVariants as folder
-use Rattle.wozhinnam.specs.declared.fault.ProgramFault.{ProgramFault}
-use Rattle.wozhinnam.specs.declared.fault.ProgramFault.TheVariants.{Serve, Arguments, Shares, Stores, NoAddress, AddressInUse, NotAllowed, NotBound, SecretUnread, SecretTooLong, FewHandles, NoMemory, NotPrinted, NotThere, Folder, DiskFull, NoRoom, NotEmpty, OtherCount, ImageUnread, BadImage, ImageUnwritten, NotWell}
+use Rattle.server_tasks.specs.declared.fault.ProgramFault.{ProgramFault}
+use Rattle.server_tasks.specs.declared.fault.ProgramFault.TheVariants.{Serve, Arguments, Shares, Stores, NoAddress, AddressInUse, NotAllowed, NotBound, SecretUnread, SecretTooLong, FewHandles, NoMemory, NotPrinted, NotThere, Folder, DiskFull, NoRoom, NotEmpty, OtherCount, ImageUnread, BadImage, ImageUnwritten, NotWell}
 
 -- the status where a folder was refused; 20 is between them, that of a full disk
 abbrev pub folder_status : FolderFault → ℕ

@@ -2,20 +2,22 @@
 ghost use Rattle.std.specs.Prelude.{◌<◌, length, IfOk};
 ghost use Rattle.std.specs.Rc.{rc_slice_items};
 
-use super::*;
-use crate::board::{Asked, Method, asked_by, status_text};
-use crate::figures::StoreFigures;
-use crate::folders::{Found, Opening, look, open_folder};
-use crate::metrics::metrics_text;
-use crate::options::read_store;
-use folder_shelf::FolderFault;
+use folder_shelf::{FolderFault, Settings};
 use gate_core::Tally;
 use gate_poll::Counts;
+use server_tasks::board::{Asked, Method, asked_by, status_text};
+use server_tasks::figures::StoreFigures;
+use server_tasks::folders::{Found, Opening, look, open_folder};
+use server_tasks::handles;
+use server_tasks::metrics::metrics_text;
+use server_tasks::options::{Shares, StoreWanted, Task, read_store, read_words};
+use server_tasks::{ProgramFault, check};
 use share_store::Store;
 use std::alloc::Global;
 use std::process;
 use std::rc::RcSlice;
 use std::test::Fail;
+use std::{env, fs};
 
 /// Two lines of a system's file of limits.
 const LIMITS: &str =

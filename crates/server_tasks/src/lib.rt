@@ -1,0 +1,223 @@
+//! What `wozhinnam` does: it serves connections until it is told to stop, and takes care of the folders in which its
+//! servers keep shares.
+#![tactic(auto)]
+
+/// Why the program ended before it was stopped.
+mod fault;
+/// The program's command line.
+mod arguments;
+/// What the program is asked for.
+pub mod options;
+/// How many files and sockets the program may have open.
+pub mod handles;
+/// What a server keeps its shares on beside memory.
+mod server_shelf;
+/// Folders of servers.
+pub mod folders;
+/// The stores of the gateway.
+mod stores;
+/// Looking through folders.
+mod check;
+/// Images of a grid in folders.
+mod images;
+/// What is known of the stores.
+pub mod figures;
+/// Figures in the text format of Prometheus.
+pub mod metrics;
+/// What the control listener answers.
+pub mod board;
+
+use board::Board;
+pub use check::check;
+pub use fault::ProgramFault;
+use folder_shelf::Settings;
+use folders::ServerStore;
+use gate_core::{Gateway, GatewayFault};
+use gate_poll::{Limits, serve_on};
+use images::{restore, write_image};
+use log::{Log, info};
+use mio::net::TcpListener;
+use options::{Options, Refusal, Shares, Task, read_words};
+use std::fs::File;
+use std::io::ErrorKind;
+use std::net::{Net, SocketAddr, ToSocketAddrs};
+use std::rt::{Env, Files};
+use std::time::{Clock, CpuClock, Duration};
+use std::{env, fs};
+use stores::open_stores;
+
+/// How many bytes a secret may have.
+const MOST_SECRET: usize = 256;
+
+/// Does what the words of the command line ask for, up to the first fault. What is told of it goes to standard error.
+pub fn run<
+    R: Env
+        + Print
+        + Eprint
+        + AllocGlobal
+        + Files<File = File>
+        + Clock
+        + CpuClock
+        + Net
+        + Log
+        + Clone
+        + Drop,
+>(rt: &R) -> Result<(), ProgramFault> {
+    let words = arguments_of(rt)?;
+    match read_words(rt.alloc(), &words) {
+        Ok(Task::Serve(options)) => serve(rt, &options),
+        Ok(Task::Check(folders)) => check(rt, &folders),
+        Ok(Task::Image(folders)) => write_image(rt, &folders),
+        Ok(Task::Restore(wanted)) => {
+            let secret = read_secret(rt, wanted.secret_file)?;
+            restore(rt, &wanted, &secret)
+        }
+        Err(Refusal::Shares) => Err(ProgramFault::Shares),
+        Err(Refusal::Stores) => Err(ProgramFault::Stores),
+        Err(Refusal::Words(error)) => {
+            if error.kind() == clap::error::ErrorKind::OutOfMemory {
+                return Err(ProgramFault::NoMemory);
+            }
+            let _ = error.print(rt);
+            match error.exit_code() {
+                0 => Ok(()),
+                _ => Err(ProgramFault::Arguments),
+            }
+        }
+    }
+}
+
+/// The words of the command line, the program's name first.
+fn arguments_of(rt: &(impl Env + AllocGlobal)) -> Result<Vec<String>, ProgramFault> {
+    let Ok(arguments) = env::args(rt) else {
+        return Err(ProgramFault::NoMemory);
+    };
+    let mut words = Vec::new(rt.alloc());
+    for argument in arguments {
+        words.push(argument)?;
+    }
+    Ok(words)
+}
+
+/// Serves connections until a control request stops it.
+fn serve<
+    R: Print
+        + Eprint
+        + AllocGlobal
+        + Files<File = File>
+        + Clock
+        + CpuClock
+        + Net
+        + Log
+        + Clone
+        + Drop,
+>(rt: &R, options: &Options<'_>) -> Result<(), ProgramFault> {
+    let few = few_handles(rt, options);
+    if let Some(fault) = few {
+        return Err(fault);
+    }
+    let mut gateway = open_gateway(rt, options)?;
+    let listener = listen(rt, options.listen, "listening")?;
+    let control = match options.control {
+        Some(address) => Some(listen(rt, address, "control")?),
+        None => None,
+    };
+    tell(rt, "listening on", &listener)?;
+    if let Some(listener) = &control {
+        tell(rt, "control on", listener)?;
+    }
+    info!(rt; "started: at most {} connections", options.connections);
+    let limits = Limits::new(options.connections, Duration::from_secs(options.idle));
+    let counts = serve_on(rt, listener, control, &limits, &mut gateway, &mut Board)?;
+    info!(rt; "stopped: {} connections were opened", counts.opened);
+    Ok(())
+}
+
+/// A gateway over the stores that are wanted, with the secret that its file has.
+fn open_gateway<R: AllocGlobal + Files<File = File> + Clone + Drop + Log + Eprint>(
+    rt: &R,
+    options: &Options<'_>,
+) -> Result<Gateway<ServerStore<R>>, ProgramFault> {
+    let secret = read_secret(rt, options.secret_file)?;
+    let Ok(servers) = u16::try_from(options.stores.len()) else {
+        return Err(ProgramFault::Stores);
+    };
+    let Shares { needed, made } = options.shares;
+    let first = Settings::new(0, servers, needed, made, &secret);
+    let stores = open_stores(rt, options, &first)?;
+    match Gateway::resume(rt.alloc(), needed, made, stores, &secret) {
+        Ok(gateway) => Ok(gateway),
+        Err(GatewayFault::BadParameters) => Err(ProgramFault::Shares),
+        Err(_) => Err(ProgramFault::NoMemory),
+    }
+}
+
+/// The bytes of a secret's file, and none where there is no such file.
+fn read_secret<R: AllocGlobal + Files>(
+    rt: &R,
+    path: Option<&str>,
+) -> Result<Vec<u8>, ProgramFault> {
+    let Some(path) = path else {
+        return Ok(Vec::new(rt.alloc()));
+    };
+    let Ok(secret) = fs::read(rt, path) else {
+        return Err(ProgramFault::SecretUnread);
+    };
+    if secret.len() > MOST_SECRET {
+        return Err(ProgramFault::SecretTooLong);
+    }
+    Ok(secret)
+}
+
+/// The fault that there are fewer handles than connections and locks of folders need, if the system says so.
+fn few_handles<R: AllocGlobal + Files>(rt: &R, options: &Options<'_>) -> Option<ProgramFault> {
+    let needed = handles::needed_for(options.connections, options.folders());
+    let allowed = handles::allowed(rt)?;
+    if allowed < needed {
+        Some(ProgramFault::FewHandles(allowed, needed))
+    } else {
+        None
+    }
+}
+
+/// Listens on the first address of a name where it can.
+fn listen<R: Net>(rt: &R, name: &str, place: &'static str) -> Result<TcpListener, ProgramFault> {
+    let Ok(addresses) = name.to_socket_addrs(rt) else {
+        return Err(ProgramFault::NoAddress(place));
+    };
+    let mut fault = ProgramFault::NoAddress(place);
+    for address in addresses {
+        match listen_at(rt, address, place) {
+            Ok(listener) => return Ok(listener),
+            Err(refused) => fault = refused,
+        }
+    }
+    Err(fault)
+}
+
+/// Listens on an address.
+fn listen_at<R: Net>(
+    rt: &R,
+    address: SocketAddr,
+    place: &'static str,
+) -> Result<TcpListener, ProgramFault> {
+    match TcpListener::bind(rt, address) {
+        Ok(listener) => Ok(listener),
+        Err(error) => Err(match error.kind() {
+            ErrorKind::AddrInUse => ProgramFault::AddressInUse(place),
+            ErrorKind::PermissionDenied => ProgramFault::NotAllowed(place),
+            _ => ProgramFault::NotBound(place),
+        }),
+    }
+}
+
+/// Prints the address that was bound.
+fn tell<R: Print>(rt: &R, words: &str, listener: &TcpListener) -> Result<(), ProgramFault> {
+    let Ok(address) = listener.local_addr() else {
+        return Err(ProgramFault::NotPrinted);
+    };
+    match println!(rt; "{words} {address}") {
+        Ok(()) => Ok(()),
+        Err(_) => Err(ProgramFault::NotPrinted),
+    }
+}

@@ -1,0 +1,10 @@
+//! Tests of the server's words, control requests and figures, over the public calls of `server_tasks`. The gate proves a
+//! crate with tests twice, with them and without, so they stand in a crate of their own. The program itself does nothing.
+#![tactic(auto)]
+
+/// Words, control requests, figures, and one folder.
+#[cfg(test)]
+mod serving;
+
+/// Nothing: the tests are all that this crate has.
+fn main() {}
