@@ -24,6 +24,9 @@ mod hash_lanes;
 /// Replies of the Redis protocol.
 #[cfg(test)]
 mod redis_texts;
+/// Shares.
+#[cfg(test)]
+mod shares;
 /// Netstrings and tagged hashes.
 #[cfg(test)]
 mod tagged_hashes;

@@ -2,12 +2,10 @@
 ghost use Rattle.std.specs.Prelude.{◌≡◌, ◌<◌, ◌≤◌, length, IfOk};
 ghost use Rattle.octets.specs.Sharing.{IsSharing};
 
-use super::*;
-use crate::extension::extension_text;
-use crate::read::EXTENSION_TAG;
 use hex::{FromHex, FromHexError};
 use octets::fakes::counted_bytes;
 use sha2::{Digest, Sha256};
+use share_codec::{Params, ShareFault, crypttext_root, make_shares, read_share};
 use std::alloc::{AllocError, Global};
 use std::rc::RcSlice;
 use std::test::Fail;
@@ -187,30 +185,29 @@ fn what_is_not_six_netstrings_is_torn(rt: HostRuntime) -> Result<(), Fail> {
     Ok(())
 }
 
-/// A string of a few bytes that says it is the only share of a file of `params.size` bytes, and the hash of its
-/// extension block.
-fn claimed(alloc: Global, params: &Params) -> Result<(Vec<u8>, [u8; 32]), AllocError>
-    requires { 0 < params.now.size }
-{
-    let roots = Ueb {
-        crypttext_root: [0; 32],
-        share_root: [0; 32],
-    };
-    let extension = extension_text(alloc, params, &roots)?;
+/// Extension blocks of files of 2^64 - 1 and of 131,072 bytes, all of whose hashes are zeros, as docs/FORMATS.md has them.
+const OF_MOST_BYTES: &[u8] =
+    b"crypttext_root_hash:32:\x00\x00\x00\x00\x00\x00\x00\x00\x00\x00\x00\x00\x00\x00\x00\x00\x00\x00\x00\x00\x00\x00\x00\x00\x00\x00\x00\x00\x00\x00\x00\x00,needed_shares:1:1,num_segments:15:140737488355328,segment_size:6:131072,share_root_hash:32:\x00\x00\x00\x00\x00\x00\x00\x00\x00\x00\x00\x00\x00\x00\x00\x00\x00\x00\x00\x00\x00\x00\x00\x00\x00\x00\x00\x00\x00\x00\x00\x00,size:20:18446744073709551615,total_shares:1:1,";
+
+const OF_ONE_SEGMENT: &[u8] =
+    b"crypttext_root_hash:32:\x00\x00\x00\x00\x00\x00\x00\x00\x00\x00\x00\x00\x00\x00\x00\x00\x00\x00\x00\x00\x00\x00\x00\x00\x00\x00\x00\x00\x00\x00\x00\x00,needed_shares:1:1,num_segments:1:1,segment_size:6:131072,share_root_hash:32:\x00\x00\x00\x00\x00\x00\x00\x00\x00\x00\x00\x00\x00\x00\x00\x00\x00\x00\x00\x00\x00\x00\x00\x00\x00\x00\x00\x00\x00\x00\x00\x00,size:6:131072,total_shares:1:1,";
+
+/// A string of a few bytes that says it is the only share of the file with this extension block, and the block's hash.
+fn claimed(alloc: Global, extension: &[u8]) -> Result<(Vec<u8>, [u8; 32]), AllocError> {
     let mut bytes = Vec::new(alloc);
     push_netstring(&mut bytes, b"1")?;
     push_netstring(&mut bytes, b"0")?;
-    push_netstring(&mut bytes, &extension)?;
+    push_netstring(&mut bytes, extension)?;
     push_netstring(&mut bytes, &[0; 32])?;
     push_netstring(&mut bytes, b"")?;
     push_netstring(&mut bytes, b"few")?;
-    Ok((bytes, tagged(EXTENSION_TAG, &extension)))
+    Ok((bytes, tagged(b"webgate_uri_extension_v1", extension)))
 }
 
 #[test]
 fn no_memory_is_asked_for_by_a_caps_numbers(rt: HostRuntime) -> Result<(), Fail> {
     let params = Params::new(1, 1, u64::MAX);
-    let (bytes, ueb) = claimed(rt.alloc(), &params)?;
+    let (bytes, ueb) = claimed(rt.alloc(), OF_MOST_BYTES)?;
     for (bytes, fault) in [
         (b"1:1,".as_slice(), ShareFault::Torn),
         (b"1:1,1:0,0:,0:,0:,0:,".as_slice(), ShareFault::UebHash),
@@ -219,7 +216,7 @@ fn no_memory_is_asked_for_by_a_caps_numbers(rt: HostRuntime) -> Result<(), Fail>
         assert_eq!(rt; fault_of(rt.alloc(), bytes, 0, &params, &ueb), Some(fault));
     }
     let params = Params::new(1, 1, 131_072);
-    let (bytes, ueb) = claimed(rt.alloc(), &params)?;
+    let (bytes, ueb) = claimed(rt.alloc(), OF_ONE_SEGMENT)?;
     assert_eq!(rt;
         fault_of(rt.alloc(), &bytes, 0, &params, &ueb),
         Some(ShareFault::ShareTree)
