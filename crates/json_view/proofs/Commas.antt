@@ -6,6 +6,18 @@ use Rattle.std.proofs.lemmas.List.{map_more}
 use Rattle.serde_json.specs.Written.{comma_if}
 use Rattle.json_view.proofs.Pushed.{three_put}
 
+-- each text with the comma that stands before it, and then an end
+abbrev pub parted : Bool → List (List ℕ) → List ℕ → List ℕ
+parted later [] end = end
+parted later (text ∷ more) end = comma_if later ++ (text ++ parted true more end)
+
+pub parted_joined : (texts : List (List ℕ)) (end : List ℕ) → parted false texts end ≡ join_with_byte 44 texts ++ end
+parted_joined [] end = refl
+parted_joined (text ∷ []) end = refl
+parted_joined (text ∷ second ∷ more) end =
+    ap (λ t. text ++ 44 ∷ t) (parted_joined (second ∷ more) end)
+    ∙ sym (append_assoc text (44 ∷ join_with_byte 44 (second ∷ more)) end)
+
 some_text : List (List ℕ) → Bool
 some_text [] = false
 some_text (text ∷ more) = true

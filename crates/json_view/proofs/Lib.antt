@@ -2,4 +2,10 @@ pub mod Pushed
 pub mod Plain
 pub mod Commas
 pub mod Replies
+pub mod ReadBack
+pub mod Nodes
 pub mod Files
+pub mod Metadata
+pub mod Lengths
+pub mod Directories
+pub mod Checks

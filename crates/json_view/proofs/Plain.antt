@@ -1,13 +1,14 @@
 -- Texts as JSON strings.
-use Rattle.std.proofs.Common.{◌≡◌, ℕ, Bool, true, false, not, ◌&&◌, ◌==◌, nat_le, List, [], ◌∷◌, ◌++◌, refl, sym, ap, ◌∙◌, arith}
+use Rattle.std.proofs.Common.{◌≡◌, ℕ, Bool, true, false, not, ◌&&◌, ◌==◌, nat_le, List, [], ◌∷◌, ◌++◌, refl, sym, ap, ◌∙◌, append_assoc, arith}
 use Rattle.std.specs.List.{list_all}
 use Rattle.std.proofs.lemmas.Bool.{and_parts, leb-true, ne_eqb, le-ltb}
+use Rattle.std.proofs.lemmas.Grind.{flat_map-append}
 use Rattle.serde_json.specs.Data.{Data, string}
 use Rattle.serde_json.specs.Written.{has_float, compact_text}
 use Rattle.json.specs.Print.{escape_byte, escape}
 use Rattle.json_view.specs.Strings.{quoted, is_plain}
 
-not_true : (b : Bool) → not b ≡ true → b ≡ false
+pub not_true : (b : Bool) → not b ≡ true → b ≡ false
 not_true true h = sym h
 not_true false h = refl
 
@@ -49,3 +50,10 @@ written_quoted d text bytes written is by same = same ∙ by (ap has_float is) �
 
 pub plain_text_quoted : (text : List ℕ) → list_all is_plain text ≡ true → quoted text ≡ 34 ∷ (text ++ 34 ∷ [])
 plain_text_quoted text plain = sym (plain_quoted text text plain refl)
+
+-- what stands for a text is what stands for its first part, and then for its second
+pub joined_quoted : (first second : List ℕ) → quoted (first ++ second) ≡ 34 ∷ (escape first ++ (escape second ++ 34 ∷ []))
+unfolding quoted
+joined_quoted first second =
+    ap (λ t. 34 ∷ (t ++ 34 ∷ [])) (flat_map-append escape_byte first second)
+    ∙ ap (λ t. 34 ∷ t) (append_assoc (escape first) (escape second) (34 ∷ []))

@@ -1,11 +1,18 @@
 -- The values that replies are the texts of.
-use Rattle.std.specs.Prelude.{ℕ, false, length, codes, Option, Some, None}
-use Rattle.serde_json.specs.Data.{Data, boolean, number, unsigned, string, array, object, item, no_items, Members, no_members, member}
+use Rattle.std.specs.Prelude.{ℕ, ◌^◌, ◌<◌, ◌==◌, nat_le, true, false, List, [], ◌∷◌, length, codes, Option, Some, None, unwrap_or, All}
+use Rattle.serde_json.specs.Data.{Data, null, boolean, number, unsigned, string, array, object, Items, item, no_items, Members, no_members, member}
+use Rattle.serde_json.specs.Read.{read}
+use Rattle.base32_text.specs.Base32.{spelling}
 use Rattle.caps.specs.CapTexts.{cap_text}
 use Rattle.caps.specs.Weakening.{weakened, cap_of}
 use Rattle.caps.specs.declared.cap.Cap.{Cap}
 use Rattle.caps.specs.declared.cap.Cap.TheVariants.{Chk, Lit, DirChk, DirLit, ChkVerify, DirChkVerify}
 use Rattle.caps.specs.declared.cap.VerifyCap.{VerifyCap}
+use Rattle.chk_file.specs.Check.{HealthValue}
+use Rattle.dir_codec.specs.declared.entry.Entry.{Entry}
+use Rattle.json_view.specs.Nodes.{node_kind}
+
+-- ---- files
 
 -- the size of a file that a cap reads, in bytes; nothing else has one
 abbrev pub file_size : Cap → ℕ
@@ -35,3 +42,63 @@ node_value cap =
 -- a file: a kind and an object
 abbrev pub file_value : Cap → Data
 file_value cap = array (item (string (codes "filenode")) (item (object (node_value cap)) no_items))
+
+-- ---- directories
+
+-- the value that a child's metadata are read as; in a directory each child's are read as one
+abbrev pub metadata_value : Entry → Data
+metadata_value entry = unwrap_or (read entry.metadata) null
+
+-- a child: a kind and an object
+abbrev pub child_value : Entry → Data
+child_value entry =
+    array (item (string (node_kind entry.cap)) (item (object (member (codes "metadata") (metadata_value entry) (node_value entry.cap))) no_items))
+
+-- the children under their names
+abbrev pub children_value : List Entry → Members
+children_value [] = no_members
+children_value (entry ∷ more) = member entry.name (child_value entry) (children_value more)
+
+-- a directory: a kind and an object
+abbrev pub dir_value : Cap → List Entry → Data
+dir_value cap entries =
+    array (item (string (codes "dirnode")) (item (object (member (codes "children") (object (children_value entries)) (node_value cap))) no_items))
+
+-- ---- checks
+
+-- a share that isn't good: its server, the storage index and its number
+abbrev pub share_value : List ℕ → ℕ × ℕ → Data
+share_value index share =
+    array (item (number (unsigned share.0)) (item (string (spelling index)) (item (number (unsigned share.1)) no_items)))
+
+abbrev pub shares_value : List ℕ → List (ℕ × ℕ) → Items
+shares_value index [] = no_items
+shares_value index (share ∷ more) = item (share_value index share) (shares_value index more)
+
+abbrev pub results_value : List ℕ → HealthValue → Members
+results_value index health =
+    member (codes "count-corrupt-shares") (number (unsigned (length health.corrupt)))
+    (member (codes "count-shares-expected") (number (unsigned health.expected))
+    (member (codes "count-shares-good") (number (unsigned health.good))
+    (member (codes "count-shares-needed") (number (unsigned health.needed))
+    (member (codes "healthy") (boolean (health.good == health.expected))
+    (member (codes "list-corrupt-shares") (array (shares_value index health.corrupt))
+    (member (codes "recoverable") (boolean (nat_le health.needed health.good)) no_members))))))
+
+-- a check: an object of its results, and the storage index
+abbrev pub check_value : List ℕ → HealthValue → Data
+check_value index health =
+    object (member (codes "results") (object (results_value index health)) (member (codes "storage-index") (string (spelling index)) no_members))
+
+-- the check of a file or directory whose bytes stand in its cap
+abbrev pub literal_check_value : Data
+literal_check_value =
+    object (member (codes "results") (object (member (codes "healthy") (boolean true) no_members)) (member (codes "storage-index") (string []) no_members))
+
+-- counts, servers and numbers of 64 bits, as those of each health are
+pub record IsCounted (health : HealthValue) : Type 0 where
+  pub needed : health.needed < 2 ^ 64
+  pub expected : health.expected < 2 ^ 64
+  pub good : health.good < 2 ^ 64
+  pub corrupt : length health.corrupt < 2 ^ 64
+  pub shares : All (λ share. (share.0 < 2 ^ 64) × (share.1 < 2 ^ 64)) health.corrupt

@@ -1,20 +1,31 @@
 //! What holds of the replies.
-ghost use Rattle.std.specs.Prelude.{◌≡◌, ◌<◌, ◌^◌, ℕ, true, List, [], ◌∷◌, ◌++◌, codes, Some};
+ghost use Rattle.std.specs.Prelude.{◌≡◌, ◌<◌, ◌^◌, ℕ, true, List, [], ◌∷◌, ◌++◌, length, codes, Some};
 ghost use Rattle.std.specs.List.{list_all};
+ghost use Rattle.json.specs.Print.{escape};
 ghost use Rattle.serde_json.specs.Read.{read};
 ghost use Rattle.serde_json.specs.Written.{compact_text};
 ghost use Rattle.caps.specs.declared.cap.Cap.{Cap};
+ghost use Rattle.chk_file.specs.Check.{HealthValue};
+ghost use Rattle.dir_codec.specs.Entries.{IsEntry, IsDirectory};
+ghost use Rattle.dir_codec.specs.declared.entry.Entry.{Entry};
 ghost use Rattle.json_view.specs.Strings.{quoted, is_plain};
-ghost use Rattle.json_view.specs.Nodes.{file_text};
-ghost use Rattle.json_view.specs.Values.{file_value, file_size};
+ghost use Rattle.json_view.specs.Nodes.{file_text, dir_text};
+ghost use Rattle.json_view.specs.Checks.{check_text, literal_check_text};
+ghost use Rattle.json_view.specs.Values.{file_value, file_size, metadata_value, dir_value, check_value, literal_check_value, IsCounted};
 
-/// What stands in a JSON string for a quote, a backslash and control characters. Every other byte stands for itself.
+use caps::laws::reading_is_decided;
+use dir_codec::laws::whole_values_are_read_back;
+
+/// What stands in a JSON string for a quote, a backslash and control characters. Every other byte stands for itself. For
+/// two texts, one after the other, stands what does for the first, and then what does for the second.
 pub fn strings_have_their_escapes()
     ensures quote { quoted (codes "a\"b\\c") ≡ codes "\"a\\\"b\\\\c\"" }
     ensures control { quoted (0 ∷ 1 ∷ 8 ∷ 9 ∷ 10 ∷ 12 ∷ 13 ∷ 31 ∷ [])
         ≡ codes "\"\\u0000\\u0001\\b\\t\\n\\f\\r\\u001f\"" }
     ensures plain { (text : List ℕ) → list_all is_plain text ≡ true
         → quoted text ≡ 34 ∷ (text ++ 34 ∷ []) }
+    ensures joined { (first second : List ℕ)
+        → quoted (first ++ second) ≡ 34 ∷ (escape first ++ (escape second ++ 34 ∷ [])) }
 {}
 
 /// The JSON of a file is `serde_json`'s compact text of a value with four members at most, and its reader reads it as
@@ -24,5 +35,34 @@ pub fn files_are_read_back()
     ensures read { (cap : Cap) → file_size cap < 2 ^ 64
         → read (file_text cap) ≡ Some (file_value cap) }
 {
-    dir_codec::laws::whole_values_are_read_back();
+    whole_values_are_read_back();
+}
+
+/// The JSON of a directory is `serde_json`'s compact text of a value with each child under its name, whose metadata are
+/// the value that the directory's text of them is read as. Its reader reads it as that value where it is shorter than
+/// 2^64 bytes, as each text in memory is.
+pub fn directories_are_read_back()
+    ensures metadata { (entry : Entry) → IsEntry entry
+        → read entry.metadata ≡ Some (metadata_value entry) }
+    ensures written { (cap : Cap) (entries : List Entry) → IsDirectory entries
+        → dir_text cap entries ≡ compact_text (dir_value cap entries) }
+    ensures read { (cap : Cap) (entries : List Entry) → IsDirectory entries → file_size cap < 2 ^ 64
+        → length (dir_text cap entries) < 2 ^ 64
+        → read (dir_text cap entries) ≡ Some (dir_value cap entries) }
+{
+    whole_values_are_read_back();
+    reading_is_decided();
+}
+
+/// The JSON of a check is `serde_json`'s compact text of a value with the counts and the shares that aren't good, and its
+/// reader reads it as that value where these are numbers of 64 bits.
+pub fn checks_are_read_back()
+    ensures written { (index : List ℕ) (health : HealthValue)
+        → check_text index health ≡ compact_text (check_value index health) }
+    ensures read { (index : List ℕ) (health : HealthValue) → IsCounted health
+        → read (check_text index health) ≡ Some (check_value index health) }
+    ensures literal_written { literal_check_text ≡ compact_text literal_check_value }
+    ensures literal_read { read literal_check_text ≡ Some literal_check_value }
+{
+    whole_values_are_read_back();
 }
