@@ -1,6 +1,6 @@
 //! Flows over streams that give few bytes, block, are interrupted and fail, beside the same bytes brought in one piece.
 use gate_core::{Gateway, GatewayFault};
-use gate_flow::{Flow, FlowFault, Step, Want};
+use gate_flow::{Flow, FlowFault, Step, Want, part_len};
 use share_store::MemStore;
 use std::alloc::Global;
 use std::io::{self, ErrorKind, Read, Write};
@@ -332,7 +332,7 @@ fn part(bytes: &[u8]) -> usize {
     if bytes.is_empty() {
         0
     } else {
-        part::part_len(bytes)
+        part_len(bytes)
     }
 }
 

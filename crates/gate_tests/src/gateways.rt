@@ -227,17 +227,18 @@ fn is_served(alloc: Global, room: u64, rows: &[Row<'_>]) -> Result<bool, Fail> {
 #[test]
 fn each_call_is_taken(rt: HostRuntime) -> Result<(), Fail> {
     let mut gateway = gateway(rt.alloc(), 0)?;
-    assert!(rt; quiet_calls(&mut gateway)?);
+    assert!(rt; are_quiet_calls(&mut gateway));
     Ok(())
 }
 
 /// Whether calls that find nothing say so, and an end is the last of a connection.
-fn quiet_calls(gateway: &mut Gateway<MemStore>) -> Result<bool, Fail> {
-    let idle = !gateway.waiting(1) && !gateway.closed(1);
-    let lost = gateway.lose(0, [0; 16], 0)?;
-    let spoiled = gateway.spoil(0, [0; 16], 0, 0)?;
-    gateway.end(1)?;
-    Ok(idle && !lost && !spoiled && gateway.closed(1))
+fn are_quiet_calls(gateway: &mut Gateway<MemStore>) -> bool {
+    !gateway.waiting(1)
+        && !gateway.closed(1)
+        && gateway.lose(0, [0; 16], 0) == Ok(false)
+        && gateway.spoil(0, [0; 16], 0, 0) == Ok(false)
+        && gateway.end(1).is_ok()
+        && gateway.closed(1)
 }
 
 /// Requests whose replies are of each kind.
@@ -381,8 +382,10 @@ fn image_after(
 
 fn imaged(alloc: Global, gateway: &mut Gateway<MemStore>) -> Result<Vec<u8>, Fail> {
     let mut image = Vec::new(alloc);
-    gateway.image(&mut image)?;
-    Ok(image)
+    match gateway.image(&mut image) {
+        Ok(()) => Ok(image),
+        Err(_) => Err(Fail::from("no image")),
+    }
 }
 
 /// A gateway of an image, on one store.
