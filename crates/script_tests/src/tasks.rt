@@ -3,7 +3,7 @@ use gate_tasks::*;
 use octets::Bytes;
 use octets::fakes::{AtTheEnd, SlowReader, SlowWriter};
 use std::alloc::{AllocError, Global};
-use std::io::BufReader;
+use std::io::{self, BufReader};
 use std::process::Abort;
 use std::test::Fail;
 use steps::{Script, Step};

@@ -39,6 +39,13 @@ impl FailShelf {
         }
     }
 
+    /// The shelf inside.
+    pub fn inner(&self) -> &MemShelf
+        ensures inner { result.now ≡ self.now.inner }
+    {
+        &self.inner
+    }
+
     /// The shelf inside, which doesn't fail.
     pub fn into_inner(self) -> MemShelf
         ensures honest { ⟦<MemShelf as Shelf>⟧.honest result ≡ ⟦<FailShelf as Shelf>⟧.honest self }

@@ -81,8 +81,8 @@ fn a_crash_leaves_what_was_answered_and_at_most_one_more(rt: HostRuntime) -> Res
         (5, 4),
         (6, 3),
     ] {
-        if moment <= store.shelf.moment() {
-            let left = store.shelf.left_at(alloc, moment)?;
+        if moment <= store.shelf().moment() {
+            let left = store.shelf().left_at(alloc, moment)?;
             let mut again = opened(alloc, left)?;
             assert_eq!(rt; again.numbers(INDEX)?.len(), wanted, "at {moment}");
             assert_eq!(rt; again.held() / 3, wanted as u64);
@@ -129,9 +129,8 @@ fn a_change_that_the_shelf_refuses_leaves_memory_and_takes_the_store_down(
             );
             let first = store.get(INDEX, 0)?.ok_or("nothing stands")?;
             assert_eq!(rt; first.as_slice(), [0, 0, 0].as_slice());
-            let left = store.shelf.into_inner();
             assert_eq!(rt;
-                left.moment(),
+                store.shelf().inner().moment(),
                 if is_done { 2 } else { 1 },
                 "the shelf was asked once"
             );

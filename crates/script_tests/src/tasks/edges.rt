@@ -4,8 +4,8 @@ use gate_core::Gateway;
 use gate_flow::FlowFault;
 use octets::Bytes;
 use std::alloc::{AllocError, Global};
-use std::io::{BufReader, Read, Write};
-use std::net::{Shutdown, TcpListener, TcpStream};
+use std::io::{self, BufReader, Read, Write};
+use std::net::{Net, Shutdown, TcpListener, TcpStream};
 use std::test::Fail;
 
 fn words(alloc: Global, texts: &[&str]) -> Result<Vec<Bytes>, AllocError> {
