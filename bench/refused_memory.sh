@@ -5,7 +5,7 @@
 # waited is answered) or `refused` (another call was refused memory).
 set -eu
 cd "$(dirname "$0")/../crates/gate_bench"
-last=500
+last=260
 folder=$(mktemp -d)
 trap 'rm -rf "$folder"' EXIT
 
