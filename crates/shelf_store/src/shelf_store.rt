@@ -83,6 +83,8 @@ impl<H: Shelf> ShelfStore<H> {
     fn refuse(&mut self) -> StoreFault
         ensures down { (result ≡ StoreFault.Down) ↔ (self.old.failures < self.new.failures) }
         ensures rises { self.old.failures ≤ self.new.failures }
+        ensures counts { self.new.failures ≡ (if self.old.failures == 2 ^ 64 - 1
+            then self.old.failures else self.old.failures + 1) }
         ensures not_full { result ≡ StoreFault.Full → ⊥ }
         ensures index { self.new.index ≡ self.old.index }
         ensures shelf { self.new.shelf ≡ self.old.shelf }
@@ -141,8 +143,13 @@ impl<H: Shelf> ShelfStore<H> {
         ensures failed { (result ≡ Ok None) ↔ (self.old.failures < self.new.failures) }
         ensures rises { self.old.failures ≤ self.new.failures }
         ensures counts { H.failures self.old.shelf < H.failures self.new.shelf →
-            self.new.failures ≡ (if self.old.failures == 2 ^ 64 - 1 then self.old.failures
-            else self.old.failures + 1) }
+            IfOk result (λ bytes. bytes ≡ None)
+            × (self.new.failures ≡ (if self.old.failures == 2 ^ 64 - 1 then self.old.failures
+            else self.old.failures + 1)) }
+        ensures counts_only { IsTrue (H.honest self.old.shelf) →
+            H.failures self.new.shelf ≡ H.failures self.old.shelf →
+            self.new.failures ≡ self.old.failures }
+        ensures rises_below { H.failures self.old.shelf ≤ H.failures self.new.shelf }
         ensures quiet { IsQuiet H.moment H.left_since self.old.shelf self.new.shelf }
         ensures honest { H.honest self.new.shelf ≡ H.honest self.old.shelf }
         ensures same_shares { IsTrue (H.honest self.old.shelf) →
@@ -159,15 +166,18 @@ impl<H: Shelf> ShelfStore<H> {
                     return Ok(Some(bytes));
                 }
             }
+            Ok(None) => {}
+            Err(ShelfFault::Failed) => {}
             Err(ShelfFault::NoMemory) => return Err(AllocError),
-            _ => {}
         }
         self.count()?;
         Ok(None)
     }
-    /// The bytes of the share that stands there, by one read of the shelf. `None` where none stands. Where the shelf failed,
-    /// or gave not as many bytes as the index has, that counts as a failure, and the answer is `None`. Refused where there
-    /// was no memory to lend them, or a failure could not be counted.
+
+    /// The bytes of the share that stands there, by one read of the shelf. `None` where none stands, and then the shelf
+    /// isn't asked. Where the shelf failed, or gave not as many bytes as the index has, that counts as a failure, and the
+    /// answer is `None`; over an honest shelf nothing else does. Refused where there was no memory to lend them, or a
+    /// failure could not be counted.
     pub fn look(&mut self, index: [u8; 16], number: u16) -> Result<Option<RcSlice<u8>>, AllocError>
         ensures looked { Looked ⟦<ShelfStore<H> as Store>⟧.honest ⟦<ShelfStore<H> as Store>⟧.shares
             ⟦<ShelfStore<H> as Store>⟧.room ⟦<ShelfStore<H> as Store>⟧.failures self.old self.new }
@@ -179,8 +189,14 @@ impl<H: Shelf> ShelfStore<H> {
             map.get (known self.old.index) (index, number)
             ≡ Some (blank (length (rc_slice_items b))))) }
         ensures counts { H.failures self.old.shelf < H.failures self.new.shelf →
-            self.new.failures ≡ (if self.old.failures == 2 ^ 64 - 1 then self.old.failures
-            else self.old.failures + 1) }
+            IfOk result (λ bytes. bytes ≡ None)
+            × (self.new.failures ≡ (if self.old.failures == 2 ^ 64 - 1 then self.old.failures
+            else self.old.failures + 1)) }
+        ensures counts_only { IsTrue (H.honest self.old.shelf) →
+            H.failures self.new.shelf ≡ H.failures self.old.shelf →
+            self.new.failures ≡ self.old.failures }
+        ensures absent { map.get (known self.old.index) (index, number) ≡ None →
+            (result ≡ Ok None) × (self.new ≡ self.old) }
         ensures quiet { IsQuiet H.moment H.left_since self.old.shelf self.new.shelf }
         ensures index { self.new.index ≡ self.old.index }
         ensures doubt { self.new.doubt ≡ self.old.doubt }
@@ -228,6 +244,14 @@ impl<H: Shelf> ShelfStore<H> {
             self.new.doubt ≡ self.old.doubt }
         ensures goes_down { H.failures self.old.shelf < H.failures self.new.shelf →
             is_some (in_doubt self.new.doubt) ≡ true }
+        ensures stays_up { in_doubt self.old.doubt ≡ None →
+            H.failures self.new.shelf ≡ H.failures self.old.shelf →
+            (in_doubt self.new.doubt ≡ None) × (IsErrOf result StoreFault.Down → ⊥) }
+        ensures counts { H.failures self.old.shelf < H.failures self.new.shelf →
+            (OnOk result ⊥) × (self.new.failures ≡ (if self.old.failures == 2 ^ 64 - 1
+            then self.old.failures else self.old.failures + 1)) }
+        ensures there { is_some (map.get (known self.old.index) (index, number)) ≡ true →
+            (result ≡ Ok false) × (self.new ≡ self.old) }
     {
         if self.index.get(&index, number).is_some() {
             return Ok(false);
@@ -278,6 +302,14 @@ impl<H: Shelf> ShelfStore<H> {
             (map.remove (⟦<ShelfStore<H> as Store>⟧.shares self.old) (index, number)) }
         ensures stays_down { is_some (in_doubt self.old.doubt) ≡ true →
             self.new.doubt ≡ self.old.doubt }
+        ensures stays_up { in_doubt self.old.doubt ≡ None →
+            H.failures self.new.shelf ≡ H.failures self.old.shelf →
+            (in_doubt self.new.doubt ≡ None) × (IsErrOf result StoreFault.Down → ⊥) }
+        ensures counts { H.failures self.old.shelf < H.failures self.new.shelf →
+            (OnOk result ⊥) × (self.new.failures ≡ (if self.old.failures == 2 ^ 64 - 1
+            then self.old.failures else self.old.failures + 1)) }
+        ensures absent { map.get (known self.old.index) (index, number) ≡ None →
+            (result ≡ Ok false) × (self.new ≡ self.old) }
     {
         if self.index.get(&index, number).is_none() {
             return Ok(false);
@@ -329,6 +361,17 @@ impl<H: Shelf> ShelfStore<H> {
             (with_toggle (⟦<ShelfStore<H> as Store>⟧.shares self.old) (index, number) place) }
         ensures stays_down { is_some (in_doubt self.old.doubt) ≡ true →
             self.new.doubt ≡ self.old.doubt }
+        ensures stays_up { in_doubt self.old.doubt ≡ None →
+            H.failures self.new.shelf ≡ H.failures self.old.shelf →
+            in_doubt self.new.doubt ≡ None }
+        ensures down_only { IsTrue (H.honest self.old.shelf) → in_doubt self.old.doubt ≡ None →
+            H.failures self.new.shelf ≡ H.failures self.old.shelf →
+            IsErrOf result StoreFault.Down → ⊥ }
+        ensures counts { H.failures self.old.shelf < H.failures self.new.shelf →
+            (OnOk result ⊥) × (self.new.failures ≡ (if self.old.failures == 2 ^ 64 - 1
+            then self.old.failures else self.old.failures + 1)) }
+        ensures absent { has_byte (known self.old.index) (index, number) place ≡ false →
+            (result ≡ Ok false) × (self.new ≡ self.old) }
     {
         toggle_laws();
         let Some(size) = self.index.get(&index, number) else {
