@@ -1,10 +1,11 @@
 //! A store whose bytes are on a shelf.
-ghost use Rattle.std.specs.Prelude.{◌≡◌, ◌<◌, ◌≤◌, ◌+◌, ◌-◌, ◌^◌, ◌==◌, ◌↔◌, All, None, Some, true, false, not, length, is_some, IsTrue, IsSome, IfOk, IfSome, OnOk, OnErr, IsErrOf, if◌then◌else◌, slice_get};
+ghost use Rattle.std.specs.Prelude.{◌≡◌, ◌<◌, ◌≤◌, ◌+◌, ◌-◌, ◌^◌, ◌==◌, ◌↔◌, [], All, None, Some, true, false, not, length, is_some, IsTrue, IsSome, IfOk, IsOkAnd, IfSome, OnOk, OnErr, IsErrOf, if◌then◌else◌, slice_get};
 ghost use Rattle.std.specs.Option.{option_map};
 ghost use Rattle.std.specs.FinMap as map;
 ghost use Rattle.std.specs.Rc.{rc_slice_items};
 ghost use Rattle.share_store.specs.MapLaws.{held_fits};
 ghost use Rattle.share_store.specs.Looked.{Looked};
+ghost use Rattle.share_store.specs.Numbers.{numbers_of};
 ghost use Rattle.share_store.specs.Put.{put_once};
 ghost use Rattle.share_store.specs.Stored.{entry_of};
 ghost use Rattle.share_store.specs.Toggle.{toggled, has_byte, with_toggle};
@@ -413,19 +414,77 @@ impl<H: Shelf> Store for ShelfStore<H> {
 
     ghost failures = { λ store. store.failures };
 
-    fn has(&mut self, index: [u8; 16], number: u16) -> Result<bool, AllocError> {
+    /// Whether the index has the share.
+    fn has(&mut self, index: [u8; 16], number: u16) -> Result<bool, AllocError>
+        ensures looked { Looked ⟦<ShelfStore<H> as Store>⟧.honest ⟦<ShelfStore<H> as Store>⟧.shares
+            ⟦<ShelfStore<H> as Store>⟧.room ⟦<ShelfStore<H> as Store>⟧.failures self.old self.new }
+        ensures failed { self.old.failures < self.new.failures → result ≡ Ok false }
+        ensures found { IsTrue (H.honest self.old.shelf) → self.new.failures ≡ self.old.failures →
+            IfOk result (λ found. found
+            ≡ map.contains_key (⟦<ShelfStore<H> as Store>⟧.shares self.old) (index, number)) }
+        ensures known { result
+            ≡ Ok (map.contains_key (known self.old.index) (index, number)) }
+        ensures same { self.new ≡ self.old }
+    {
         Ok(self.index.get(&index, number).is_some())
     }
 
-    fn numbers(&mut self, index: [u8; 16]) -> Result<Vec<u16>, AllocError> {
+    /// The numbers that the index has.
+    fn numbers(&mut self, index: [u8; 16]) -> Result<Vec<u16>, AllocError>
+        ensures looked { Looked ⟦<ShelfStore<H> as Store>⟧.honest ⟦<ShelfStore<H> as Store>⟧.shares
+            ⟦<ShelfStore<H> as Store>⟧.room ⟦<ShelfStore<H> as Store>⟧.failures self.old self.new }
+        ensures failed { self.old.failures < self.new.failures →
+            IsOkAnd result (λ numbers. numbers.items ≡ []) }
+        ensures found { IsTrue (H.honest self.old.shelf) → self.new.failures ≡ self.old.failures →
+            IfOk result (λ numbers. numbers.items
+            ≡ numbers_of (⟦<ShelfStore<H> as Store>⟧.shares self.old) index) }
+        ensures known { IfOk result (λ numbers. numbers.items
+            ≡ numbers_of (known self.old.index) index) }
+        ensures same { self.new ≡ self.old }
+    {
         self.index.lengths.numbers(&index)
     }
 
-    fn get(&mut self, index: [u8; 16], number: u16) -> Result<Option<RcSlice<u8>>, AllocError> {
+    /// As [`ShelfStore::look`] says.
+    fn get(&mut self, index: [u8; 16], number: u16) -> Result<Option<RcSlice<u8>>, AllocError>
+        ensures looked { Looked ⟦<ShelfStore<H> as Store>⟧.honest ⟦<ShelfStore<H> as Store>⟧.shares
+            ⟦<ShelfStore<H> as Store>⟧.room ⟦<ShelfStore<H> as Store>⟧.failures self.old self.new }
+        ensures failed { self.old.failures < self.new.failures → result ≡ Ok None }
+        ensures found { IsTrue (H.honest self.old.shelf) → self.new.failures ≡ self.old.failures →
+            IfOk result (λ bytes. option_map rc_slice_items bytes
+            ≡ map.get (⟦<ShelfStore<H> as Store>⟧.shares self.old) (index, number)) }
+        ensures absent { map.get (known self.old.index) (index, number) ≡ None →
+            (result ≡ Ok None) × (self.new ≡ self.old) }
+        ensures counts { H.failures self.old.shelf < H.failures self.new.shelf →
+            IfOk result (λ bytes. bytes ≡ None)
+            × (self.new.failures ≡ (if self.old.failures == 2 ^ 64 - 1 then self.old.failures
+            else self.old.failures + 1)) }
+        ensures counts_only { IsTrue (H.honest self.old.shelf) →
+            H.failures self.new.shelf ≡ H.failures self.old.shelf →
+            self.new.failures ≡ self.old.failures }
+    {
         self.look(index, number)
     }
 
-    fn nth(&mut self, at: u64) -> Result<Option<Share>, AllocError> {
+    /// The share whose name the index has at that place, by one read of the shelf.
+    fn nth(&mut self, at: u64) -> Result<Option<Share>, AllocError>
+        ensures looked { Looked ⟦<ShelfStore<H> as Store>⟧.honest ⟦<ShelfStore<H> as Store>⟧.shares
+            ⟦<ShelfStore<H> as Store>⟧.room ⟦<ShelfStore<H> as Store>⟧.failures self.old self.new }
+        ensures failed { self.old.failures < self.new.failures → result ≡ Ok None }
+        ensures found { IsTrue (H.honest self.old.shelf) → self.new.failures ≡ self.old.failures →
+            IfOk result (λ share. option_map entry_of share
+            ≡ slice_get (map.entries (⟦<ShelfStore<H> as Store>⟧.shares self.old)) at) }
+        ensures known { IfOk result (λ share. IfSome share (λ s.
+            option_map (λ e. e.0) (slice_get (map.entries (known self.old.index)) at)
+            ≡ Some (s.index, s.number))) }
+        ensures counts { H.failures self.old.shelf < H.failures self.new.shelf →
+            IfOk result (λ share. share ≡ None)
+            × (self.new.failures ≡ (if self.old.failures == 2 ^ 64 - 1 then self.old.failures
+            else self.old.failures + 1)) }
+        ensures counts_only { IsTrue (H.honest self.old.shelf) →
+            H.failures self.new.shelf ≡ H.failures self.old.shelf →
+            self.new.failures ≡ self.old.failures }
+    {
         let Some(name) = self.index.lengths.nth(at) else {
             return Ok(None);
         };

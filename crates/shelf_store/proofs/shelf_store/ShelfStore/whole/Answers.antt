@@ -18,13 +18,13 @@ returns-clause-counts_only g c h same =
     let long : option_map length (get m key) ≡ Some c.args.size = sym (as_long (known self.index) m (self.in_step.sizes h) key) ∙ ap (option_map length) c.requires ∙ ap Some (length-replicate c.args.size 0) in
     absurd (elim c.match-stood.branch [
       | in-Ok-Some+else-len-size w ↦
-        let both : Some (length (rc_slice_items w.in-Ok-Some.bytes)) ≡ Some c.args.size =
-        ap (λ o. option_map length (option_map rc_slice_items o)) (sym w.in-Ok-Some.field-0-is) ∙ ap (option_map length) (w.in-Ok-Some.ensures.given h) ∙ long in
-        let as_known : length (rc_slice_items w.in-Ok-Some.bytes) ≡ c.args.size = cc in
-        w.if-len-size.false (w.len.ensures ∙ as_known)
+          let both : Some (length (rc_slice_items w.in-Ok-Some.bytes)) ≡ Some c.args.size =
+          ap (λ o. option_map length (option_map rc_slice_items o)) (sym w.in-Ok-Some.field-0-is) ∙ ap (option_map length) (w.in-Ok-Some.ensures.given h) ∙ long in
+          let as_known : length (rc_slice_items w.in-Ok-Some.bytes) ≡ c.args.size = cc in
+          w.if-len-size.false (w.len.ensures ∙ as_known)
       | in-Ok-None w ↦
-        let both : ◌≡◌ {A = Option ℕ} None (Some c.args.size) =
-        ap (λ o. option_map length (option_map rc_slice_items o)) (sym w.in-Ok-None.field-0-is) ∙ ap (option_map length) (w.in-Ok-None.ensures.given h) ∙ long in
-        cc
+          let both : ◌≡◌ {A = Option ℕ} None (Some c.args.size) =
+          ap (λ o. option_map length (option_map rc_slice_items o)) (sym w.in-Ok-None.field-0-is) ∙ ap (option_map length) (w.in-Ok-None.ensures.given h) ∙ long in
+          cc
       | in-Err-Failed w ↦ omega (arith, w.in-Err-Failed.ensures.failed.0 (ap Err w.in-Err-Failed.field-0-is), ap g.H.Shelf.failures c.count.ensures.shelf, same)
     ])
