@@ -14,6 +14,9 @@ mod grids;
 /// Images of grids.
 #[cfg(test)]
 mod images;
+/// Stores whose bytes are on a shelf.
+#[cfg(test)]
+mod shelf_stores;
 /// Shelves.
 #[cfg(test)]
 mod shelves;
