@@ -208,8 +208,11 @@ impl<H: Shelf> ShelfStore<H> {
         }
     }
 
-    /// Puts a share where none stands: in the index, and then on the shelf. Where the shelf refuses, it is taken out of
-    /// the index again.
+    /// Puts a share where none stands, and answers `true`: in the index, and then on the shelf. Where the shelf refuses,
+    /// it is taken out of the index again. `false` where one stands, whether the store is down or not.
+    ///
+    /// Refused with `Full` where it is longer than the room, with `Down` where the store is down or its shelf failed,
+    /// which takes it down, and with `NoMemory` where there was no memory or a failure could not be counted.
     pub fn keep(
         &mut self,
         index: [u8; 16],
@@ -280,8 +283,11 @@ impl<H: Shelf> ShelfStore<H> {
         }
     }
 
-    /// Takes a share away: from the shelf, and then from the index. Its bytes are read before, since they still stand
-    /// where the shelf fails.
+    /// Takes a share away, and answers `true`: from the shelf, and then from the index. Its bytes are read before, since
+    /// they still stand where the shelf fails. `false` where none stands, whether the store is down or not.
+    ///
+    /// Refused with `Down` where the store is down or its shelf failed, which takes it down unless it failed in the read,
+    /// and with `NoMemory` where there was no memory or a failure could not be counted.
     pub fn give_up(&mut self, index: [u8; 16], number: u16) -> Result<bool, StoreFault>
         ensures rises { self.old.failures ≤ self.new.failures }
         ensures down { IsErrOf result StoreFault.Down ↔ (self.old.failures < self.new.failures) }
@@ -340,7 +346,10 @@ impl<H: Shelf> ShelfStore<H> {
         }
     }
 
-    /// Changes the lowest bit of one byte of a share: the share is read, and put whole with that bit changed.
+    /// Changes the lowest bit of one byte of a share, the byte at `place` from 0, and answers `true`: the share is read,
+    /// and put whole with that bit changed. `false` where there is no such byte, whether the store is down or not.
+    ///
+    /// Refused as a loss is, and with `Down` also where the shelf gave not as many bytes as the index has.
     pub fn alter(&mut self, index: [u8; 16], number: u16, place: u64) -> Result<bool, StoreFault>
         ensures rises { self.old.failures ≤ self.new.failures }
         ensures down { IsErrOf result StoreFault.Down ↔ (self.old.failures < self.new.failures) }
