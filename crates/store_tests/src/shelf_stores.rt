@@ -65,7 +65,11 @@ fn of_change(changed: Result<bool, StoreFault>) -> Answer {
 }
 
 /// Makes a call.
-fn answer<H: Shelf>(alloc: Global, store: &mut ShelfStore<H>, call: Call) -> Result<Answer, Fail> {
+fn answered<H: Shelf>(
+    alloc: Global,
+    store: &mut ShelfStore<H>,
+    call: Call,
+) -> Result<Answer, Fail> {
     Ok(match call {
         Call::Has(number) => Answer::Is(store.has(INDEX, u16::from(number))?),
         Call::Numbers => Answer::Shares(store.numbers(INDEX)?.len()),
@@ -87,7 +91,7 @@ fn first_wrong<H: Shelf>(
     steps: &[Step],
 ) -> Result<Option<Call>, Fail> {
     for step in steps {
-        let found = answer(alloc, store, step.0)?;
+        let found = answered(alloc, store, step.0)?;
         let as_full = store.room().wrapping_add(store.held()) == ROOM;
         if found != step.1 || store.held() != step.2 || !as_full {
             return Ok(Some(step.0));
@@ -208,7 +212,7 @@ struct Failing(u64, Call, Answer, After, u64, u64);
 
 const DOWN: Answer = Answer::Refused(StoreFault::Down);
 
-const FAILING: [Failing; 13] = [
+const FAILED_CALLS: [Failing; 13] = [
     // no call of the shelf: it fails in the put
     Failing(3, Call::Has(6), Answer::Is(true), After::Down, 1, 2),
     Failing(3, Call::Numbers, Answer::Shares(1), After::Down, 1, 2),
@@ -270,7 +274,7 @@ fn holds(alloc: Global, row: Failing, for_good: bool, is_done: bool) -> Result<b
 fn a_shelf_that_fails_is_counted_and_nothing_that_stood_is_lost(
     rt: HostRuntime,
 ) -> Result<(), Fail> {
-    for row in FAILING {
+    for row in FAILED_CALLS {
         for (for_good, is_done) in [(false, false), (false, true), (true, false), (true, true)] {
             assert!(rt;
                 holds(rt.alloc(), row, for_good, is_done)?,
@@ -347,7 +351,7 @@ impl Shelf for RottingShelf {
 
     ghost narrows = { λ shelf t u c le left. left };
 
-    ghost keeps = { λ shelf m honest keeps. absurd honest };
+    ghost keeps = { λ shelf m honest keeps. cc };
 }
 
 /// A store over a shelf with share 6 that rots after so many reads. The open makes one.
