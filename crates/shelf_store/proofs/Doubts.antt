@@ -8,7 +8,7 @@ use Rattle.std.specs.Rc.{rc_slice_items}
 use Rattle.std.proofs.lemmas.Map.Views.{tells_apart}
 use Rattle.share_store.specs.Shares.{Shares, ShareKey, key_cmp}
 use Rattle.share_store.specs.MapLaws.{key_cmp_exact}
-use Rattle.shelf_store.specs.Doubt.{InDoubt, in_doubt, as_before}
+use Rattle.shelf_store.specs.Doubt.{in_doubt, as_before}
 use Rattle.shelf_store.specs.declared.doubt.Doubt.{Doubt}
 use Rattle.shelf_store.proofs.Steps.{at_doubt, off_doubt}
 

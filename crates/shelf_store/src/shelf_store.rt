@@ -1,10 +1,11 @@
 //! A store whose bytes are on a shelf.
-ghost use Rattle.std.specs.Prelude.{◌≡◌, ◌<◌, ◌≤◌, ◌+◌, ◌-◌, ◌^◌, ◌==◌, ◌↔◌, All, None, Some, true, false, not, length, is_some, IsTrue, IsSome, IfOk, IfSome, OnOk, OnErr, IsErrOf, if◌then◌else◌, slice_get};
+ghost use Rattle.std.specs.Prelude.{◌≡◌, ◌<◌, ◌≤◌, ◌+◌, ◌-◌, ◌^◌, ◌==◌, ◌↔◌, [], All, None, Some, true, false, not, length, is_some, IsTrue, IsSome, IfOk, IsOkAnd, IfSome, OnOk, OnErr, IsErrOf, if◌then◌else◌, slice_get};
 ghost use Rattle.std.specs.Option.{option_map};
 ghost use Rattle.std.specs.FinMap as map;
 ghost use Rattle.std.specs.Rc.{rc_slice_items};
 ghost use Rattle.share_store.specs.MapLaws.{held_fits};
 ghost use Rattle.share_store.specs.Looked.{Looked};
+ghost use Rattle.share_store.specs.Numbers.{numbers_of};
 ghost use Rattle.share_store.specs.Put.{put_once};
 ghost use Rattle.share_store.specs.Stored.{entry_of};
 ghost use Rattle.share_store.specs.Toggle.{toggled, has_byte, with_toggle};
@@ -83,6 +84,8 @@ impl<H: Shelf> ShelfStore<H> {
     fn refuse(&mut self) -> StoreFault
         ensures down { (result ≡ StoreFault.Down) ↔ (self.old.failures < self.new.failures) }
         ensures rises { self.old.failures ≤ self.new.failures }
+        ensures counts { self.new.failures ≡ (if self.old.failures == 2 ^ 64 - 1
+            then self.old.failures else self.old.failures + 1) }
         ensures not_full { result ≡ StoreFault.Full → ⊥ }
         ensures index { self.new.index ≡ self.old.index }
         ensures shelf { self.new.shelf ≡ self.old.shelf }
@@ -141,8 +144,13 @@ impl<H: Shelf> ShelfStore<H> {
         ensures failed { (result ≡ Ok None) ↔ (self.old.failures < self.new.failures) }
         ensures rises { self.old.failures ≤ self.new.failures }
         ensures counts { H.failures self.old.shelf < H.failures self.new.shelf →
-            self.new.failures ≡ (if self.old.failures == 2 ^ 64 - 1 then self.old.failures
-            else self.old.failures + 1) }
+            IfOk result (λ bytes. bytes ≡ None)
+            × (self.new.failures ≡ (if self.old.failures == 2 ^ 64 - 1 then self.old.failures
+            else self.old.failures + 1)) }
+        ensures counts_only { IsTrue (H.honest self.old.shelf) →
+            H.failures self.new.shelf ≡ H.failures self.old.shelf →
+            self.new.failures ≡ self.old.failures }
+        ensures rises_below { H.failures self.old.shelf ≤ H.failures self.new.shelf }
         ensures quiet { IsQuiet H.moment H.left_since self.old.shelf self.new.shelf }
         ensures honest { H.honest self.new.shelf ≡ H.honest self.old.shelf }
         ensures same_shares { IsTrue (H.honest self.old.shelf) →
@@ -159,15 +167,18 @@ impl<H: Shelf> ShelfStore<H> {
                     return Ok(Some(bytes));
                 }
             }
+            Ok(None) => {}
+            Err(ShelfFault::Failed) => {}
             Err(ShelfFault::NoMemory) => return Err(AllocError),
-            _ => {}
         }
         self.count()?;
         Ok(None)
     }
-    /// The bytes of the share that stands there, by one read of the shelf. `None` where none stands. Where the shelf failed,
-    /// or gave not as many bytes as the index has, that counts as a failure, and the answer is `None`. Refused where there
-    /// was no memory to lend them, or a failure could not be counted.
+
+    /// The bytes of the share that stands there, by one read of the shelf. `None` where none stands, and then the shelf
+    /// isn't asked. Where the shelf failed, or gave not as many bytes as the index has, that counts as a failure, and the
+    /// answer is `None`; over an honest shelf nothing else does. Refused where there was no memory to lend them, or a
+    /// failure could not be counted.
     pub fn look(&mut self, index: [u8; 16], number: u16) -> Result<Option<RcSlice<u8>>, AllocError>
         ensures looked { Looked ⟦<ShelfStore<H> as Store>⟧.honest ⟦<ShelfStore<H> as Store>⟧.shares
             ⟦<ShelfStore<H> as Store>⟧.room ⟦<ShelfStore<H> as Store>⟧.failures self.old self.new }
@@ -179,8 +190,14 @@ impl<H: Shelf> ShelfStore<H> {
             map.get (known self.old.index) (index, number)
             ≡ Some (blank (length (rc_slice_items b))))) }
         ensures counts { H.failures self.old.shelf < H.failures self.new.shelf →
-            self.new.failures ≡ (if self.old.failures == 2 ^ 64 - 1 then self.old.failures
-            else self.old.failures + 1) }
+            IfOk result (λ bytes. bytes ≡ None)
+            × (self.new.failures ≡ (if self.old.failures == 2 ^ 64 - 1 then self.old.failures
+            else self.old.failures + 1)) }
+        ensures counts_only { IsTrue (H.honest self.old.shelf) →
+            H.failures self.new.shelf ≡ H.failures self.old.shelf →
+            self.new.failures ≡ self.old.failures }
+        ensures absent { map.get (known self.old.index) (index, number) ≡ None →
+            (result ≡ Ok None) × (self.new ≡ self.old) }
         ensures quiet { IsQuiet H.moment H.left_since self.old.shelf self.new.shelf }
         ensures index { self.new.index ≡ self.old.index }
         ensures doubt { self.new.doubt ≡ self.old.doubt }
@@ -191,8 +208,11 @@ impl<H: Shelf> ShelfStore<H> {
         }
     }
 
-    /// Puts a share where none stands: in the index, and then on the shelf. Where the shelf refuses, it is taken out of
-    /// the index again.
+    /// Puts a share where none stands, and answers `true`: in the index, and then on the shelf. Where the shelf refuses,
+    /// it is taken out of the index again. `false` where one stands, whether the store is down or not.
+    ///
+    /// Refused with `Full` where it is longer than the room, with `Down` where the store is down or its shelf failed,
+    /// which takes it down, and with `NoMemory` where there was no memory or a failure could not be counted.
     pub fn keep(
         &mut self,
         index: [u8; 16],
@@ -228,6 +248,14 @@ impl<H: Shelf> ShelfStore<H> {
             self.new.doubt ≡ self.old.doubt }
         ensures goes_down { H.failures self.old.shelf < H.failures self.new.shelf →
             is_some (in_doubt self.new.doubt) ≡ true }
+        ensures stays_up { in_doubt self.old.doubt ≡ None →
+            H.failures self.new.shelf ≡ H.failures self.old.shelf →
+            (in_doubt self.new.doubt ≡ None) × (IsErrOf result StoreFault.Down → ⊥) }
+        ensures counts { H.failures self.old.shelf < H.failures self.new.shelf →
+            (OnOk result ⊥) × (self.new.failures ≡ (if self.old.failures == 2 ^ 64 - 1
+            then self.old.failures else self.old.failures + 1)) }
+        ensures there { is_some (map.get (known self.old.index) (index, number)) ≡ true →
+            (result ≡ Ok false) × (self.new ≡ self.old) }
     {
         if self.index.get(&index, number).is_some() {
             return Ok(false);
@@ -255,8 +283,11 @@ impl<H: Shelf> ShelfStore<H> {
         }
     }
 
-    /// Takes a share away: from the shelf, and then from the index. Its bytes are read before, since they still stand
-    /// where the shelf fails.
+    /// Takes a share away, and answers `true`: from the shelf, and then from the index. Its bytes are read before, since
+    /// they still stand where the shelf fails. `false` where none stands, whether the store is down or not.
+    ///
+    /// Refused with `Down` where the store is down or its shelf failed, which takes it down unless it failed in the read,
+    /// and with `NoMemory` where there was no memory or a failure could not be counted.
     pub fn give_up(&mut self, index: [u8; 16], number: u16) -> Result<bool, StoreFault>
         ensures rises { self.old.failures ≤ self.new.failures }
         ensures down { IsErrOf result StoreFault.Down ↔ (self.old.failures < self.new.failures) }
@@ -278,6 +309,14 @@ impl<H: Shelf> ShelfStore<H> {
             (map.remove (⟦<ShelfStore<H> as Store>⟧.shares self.old) (index, number)) }
         ensures stays_down { is_some (in_doubt self.old.doubt) ≡ true →
             self.new.doubt ≡ self.old.doubt }
+        ensures stays_up { in_doubt self.old.doubt ≡ None →
+            H.failures self.new.shelf ≡ H.failures self.old.shelf →
+            (in_doubt self.new.doubt ≡ None) × (IsErrOf result StoreFault.Down → ⊥) }
+        ensures counts { H.failures self.old.shelf < H.failures self.new.shelf →
+            (OnOk result ⊥) × (self.new.failures ≡ (if self.old.failures == 2 ^ 64 - 1
+            then self.old.failures else self.old.failures + 1)) }
+        ensures absent { map.get (known self.old.index) (index, number) ≡ None →
+            (result ≡ Ok false) × (self.new ≡ self.old) }
     {
         if self.index.get(&index, number).is_none() {
             return Ok(false);
@@ -307,7 +346,10 @@ impl<H: Shelf> ShelfStore<H> {
         }
     }
 
-    /// Changes the lowest bit of one byte of a share: the share is read, and put whole with that bit changed.
+    /// Changes the lowest bit of one byte of a share, the byte at `place` from 0, and answers `true`: the share is read,
+    /// and put whole with that bit changed. `false` where there is no such byte, whether the store is down or not.
+    ///
+    /// Refused as a loss is, and with `Down` also where the shelf gave not as many bytes as the index has.
     pub fn alter(&mut self, index: [u8; 16], number: u16, place: u64) -> Result<bool, StoreFault>
         ensures rises { self.old.failures ≤ self.new.failures }
         ensures down { IsErrOf result StoreFault.Down ↔ (self.old.failures < self.new.failures) }
@@ -329,6 +371,17 @@ impl<H: Shelf> ShelfStore<H> {
             (with_toggle (⟦<ShelfStore<H> as Store>⟧.shares self.old) (index, number) place) }
         ensures stays_down { is_some (in_doubt self.old.doubt) ≡ true →
             self.new.doubt ≡ self.old.doubt }
+        ensures stays_up { in_doubt self.old.doubt ≡ None →
+            H.failures self.new.shelf ≡ H.failures self.old.shelf →
+            in_doubt self.new.doubt ≡ None }
+        ensures down_only { IsTrue (H.honest self.old.shelf) → in_doubt self.old.doubt ≡ None →
+            H.failures self.new.shelf ≡ H.failures self.old.shelf →
+            IsErrOf result StoreFault.Down → ⊥ }
+        ensures counts { H.failures self.old.shelf < H.failures self.new.shelf →
+            (OnOk result ⊥) × (self.new.failures ≡ (if self.old.failures == 2 ^ 64 - 1
+            then self.old.failures else self.old.failures + 1)) }
+        ensures absent { has_byte (known self.old.index) (index, number) place ≡ false →
+            (result ≡ Ok false) × (self.new ≡ self.old) }
     {
         toggle_laws();
         let Some(size) = self.index.get(&index, number) else {
@@ -370,19 +423,77 @@ impl<H: Shelf> Store for ShelfStore<H> {
 
     ghost failures = { λ store. store.failures };
 
-    fn has(&mut self, index: [u8; 16], number: u16) -> Result<bool, AllocError> {
+    /// Whether the index has the share.
+    fn has(&mut self, index: [u8; 16], number: u16) -> Result<bool, AllocError>
+        ensures looked { Looked ⟦<ShelfStore<H> as Store>⟧.honest ⟦<ShelfStore<H> as Store>⟧.shares
+            ⟦<ShelfStore<H> as Store>⟧.room ⟦<ShelfStore<H> as Store>⟧.failures self.old self.new }
+        ensures failed { self.old.failures < self.new.failures → result ≡ Ok false }
+        ensures found { IsTrue (H.honest self.old.shelf) → self.new.failures ≡ self.old.failures →
+            IfOk result (λ found. found
+            ≡ map.contains_key (⟦<ShelfStore<H> as Store>⟧.shares self.old) (index, number)) }
+        ensures known { result
+            ≡ Ok (map.contains_key (known self.old.index) (index, number)) }
+        ensures same { self.new ≡ self.old }
+    {
         Ok(self.index.get(&index, number).is_some())
     }
 
-    fn numbers(&mut self, index: [u8; 16]) -> Result<Vec<u16>, AllocError> {
+    /// The numbers that the index has.
+    fn numbers(&mut self, index: [u8; 16]) -> Result<Vec<u16>, AllocError>
+        ensures looked { Looked ⟦<ShelfStore<H> as Store>⟧.honest ⟦<ShelfStore<H> as Store>⟧.shares
+            ⟦<ShelfStore<H> as Store>⟧.room ⟦<ShelfStore<H> as Store>⟧.failures self.old self.new }
+        ensures failed { self.old.failures < self.new.failures →
+            IsOkAnd result (λ numbers. numbers.items ≡ []) }
+        ensures found { IsTrue (H.honest self.old.shelf) → self.new.failures ≡ self.old.failures →
+            IfOk result (λ numbers. numbers.items
+            ≡ numbers_of (⟦<ShelfStore<H> as Store>⟧.shares self.old) index) }
+        ensures known { IfOk result (λ numbers. numbers.items
+            ≡ numbers_of (known self.old.index) index) }
+        ensures same { self.new ≡ self.old }
+    {
         self.index.lengths.numbers(&index)
     }
 
-    fn get(&mut self, index: [u8; 16], number: u16) -> Result<Option<RcSlice<u8>>, AllocError> {
+    /// As [`ShelfStore::look`] says.
+    fn get(&mut self, index: [u8; 16], number: u16) -> Result<Option<RcSlice<u8>>, AllocError>
+        ensures looked { Looked ⟦<ShelfStore<H> as Store>⟧.honest ⟦<ShelfStore<H> as Store>⟧.shares
+            ⟦<ShelfStore<H> as Store>⟧.room ⟦<ShelfStore<H> as Store>⟧.failures self.old self.new }
+        ensures failed { self.old.failures < self.new.failures → result ≡ Ok None }
+        ensures found { IsTrue (H.honest self.old.shelf) → self.new.failures ≡ self.old.failures →
+            IfOk result (λ bytes. option_map rc_slice_items bytes
+            ≡ map.get (⟦<ShelfStore<H> as Store>⟧.shares self.old) (index, number)) }
+        ensures absent { map.get (known self.old.index) (index, number) ≡ None →
+            (result ≡ Ok None) × (self.new ≡ self.old) }
+        ensures counts { H.failures self.old.shelf < H.failures self.new.shelf →
+            IfOk result (λ bytes. bytes ≡ None)
+            × (self.new.failures ≡ (if self.old.failures == 2 ^ 64 - 1 then self.old.failures
+            else self.old.failures + 1)) }
+        ensures counts_only { IsTrue (H.honest self.old.shelf) →
+            H.failures self.new.shelf ≡ H.failures self.old.shelf →
+            self.new.failures ≡ self.old.failures }
+    {
         self.look(index, number)
     }
 
-    fn nth(&mut self, at: u64) -> Result<Option<Share>, AllocError> {
+    /// The share whose name the index has at that place, by one read of the shelf.
+    fn nth(&mut self, at: u64) -> Result<Option<Share>, AllocError>
+        ensures looked { Looked ⟦<ShelfStore<H> as Store>⟧.honest ⟦<ShelfStore<H> as Store>⟧.shares
+            ⟦<ShelfStore<H> as Store>⟧.room ⟦<ShelfStore<H> as Store>⟧.failures self.old self.new }
+        ensures failed { self.old.failures < self.new.failures → result ≡ Ok None }
+        ensures found { IsTrue (H.honest self.old.shelf) → self.new.failures ≡ self.old.failures →
+            IfOk result (λ share. option_map entry_of share
+            ≡ slice_get (map.entries (⟦<ShelfStore<H> as Store>⟧.shares self.old)) at) }
+        ensures known { IfOk result (λ share. IfSome share (λ s.
+            option_map (λ e. e.0) (slice_get (map.entries (known self.old.index)) at)
+            ≡ Some (s.index, s.number))) }
+        ensures counts { H.failures self.old.shelf < H.failures self.new.shelf →
+            IfOk result (λ share. share ≡ None)
+            × (self.new.failures ≡ (if self.old.failures == 2 ^ 64 - 1 then self.old.failures
+            else self.old.failures + 1)) }
+        ensures counts_only { IsTrue (H.honest self.old.shelf) →
+            H.failures self.new.shelf ≡ H.failures self.old.shelf →
+            self.new.failures ≡ self.old.failures }
+    {
         let Some(name) = self.index.lengths.nth(at) else {
             return Ok(None);
         };

@@ -17,6 +17,9 @@ mod images;
 /// Stores in memory with a shelf beside them.
 #[cfg(test)]
 mod kept_stores;
+/// Stores whose bytes are on a shelf.
+#[cfg(test)]
+mod shelf_stores;
 /// Shelves.
 #[cfg(test)]
 mod shelves;

@@ -1,11 +1,11 @@
-use Rattle.std.proofs.Common.{◌∙◌, ap, sym, subst, Some, None, refl, cond}
+use Rattle.std.proofs.Common.{◌∙◌, ap, sym, subst, Some, refl, cond}
 use Rattle.std.specs.Prelude.{is_some}
-use Rattle.std.specs.Option.{option_copied_mut, option_map}
+use Rattle.std.specs.Option.{option_copied_mut}
 use Rattle.shelf_store.specs.Sizes.{blank}
 use Rattle.std.specs.BTreeMap as tree
 use Rattle.std.specs.FinMap as finite
 use Rattle.share_store.specs.Stored.{IsKept, shares_in}
-use Rattle.share_store.proofs.Levels.{by_bytes, put_there, get_under}
+use Rattle.share_store.proofs.Levels.{by_bytes, put_there}
 use Rattle.share_store.proofs.Edits.{stands_under, kept_written, stays_not_empty, changed_under, changed_first, unwritten, is_there, on_err, kept_put, not_empty_at}
 use Rattle.share_store.proofs.Parts.{nothing_before}
 use Rattle.shelf_store.proofs.length_map.LengthMap.insert.Goals as goal

@@ -1,15 +1,13 @@
-use Rattle.std.proofs.Common.{◌≡◌, ◌<◌, ◌≤◌, ℕ, List, Option, None, Some, Ok, Err, Result, true, false, length, inl, inr, refl, sym, ap, subst, ◌∙◌, arith}
-use Rattle.std.proofs.lemmas.Bool.{cases_lt, lt-ltb}
-use Rattle.std.proofs.lemmas.Bool.Decides.{nat_tests}
+use Rattle.std.proofs.Common.{◌≡◌, ◌<◌, ℕ, List, None, Some, Ok, Err, length, refl, sym, ap, subst, ◌∙◌, arith}
 use Rattle.std.specs.Prelude.{IsTrue, IfSome}
 use Rattle.std.specs.Option.{option_map}
 use Rattle.std.specs.FinMap.{get, insert}
 use Rattle.std.specs.Rc.{rc_slice_items}
 use Rattle.share_store.specs.Shares.{Shares, ShareKey}
-use Rattle.share_store.specs.Toggle.{toggled, has_byte, with_toggle}
+use Rattle.share_store.specs.Toggle.{toggled, with_toggle}
 use Rattle.shelf_store.specs.Doubt.{InDoubt, in_doubt, as_before}
 use Rattle.shelf_store.specs.Known.{known}
-use Rattle.shelf_store.specs.Sizes.{blank, sizes_of}
+use Rattle.shelf_store.specs.Sizes.{blank}
 use Rattle.shelf_store.specs.Step.{Crashes}
 use Rattle.shelf_store.proofs.Doubts.{none_in_doubt}
 use Rattle.shelf_store.proofs.Sizes.{changed_as}

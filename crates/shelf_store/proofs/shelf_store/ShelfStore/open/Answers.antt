@@ -1,15 +1,15 @@
-use Rattle.std.proofs.Common.{◌≡◌, ℕ, [], List, Result, Ok, Err, get_or, refl, sym, subst, ap, ◌∙◌, length}
+use Rattle.std.proofs.Common.{◌≡◌, ℕ, [], List, Result, Ok, Err, get_or, sym, subst, ap, ◌∙◌, length}
 use Rattle.std.proofs.lemmas.List.{length-replicate}
 use Rattle.std.specs.Prelude.{IsTrue, IsErrAnd}
 use Rattle.std.proofs.lemmas.Option.{slice_get-get_or}
 use Rattle.std.specs.FinMap.{entries}
-use Rattle.share_store.specs.Shares.{Shares, ShareKey}
+use Rattle.share_store.specs.Shares.{ShareKey}
 use Rattle.share_shelf.specs.Left.{Keeps, IsQuiet}
 use Rattle.share_store.specs.declared.fault.StoreFault.TheVariants.{Full}
 use Rattle.shelf_store.specs.declared.fault.OpenFault.TheVariants.{Empty, Store as StoreRefused}
 use Rattle.shelf_store.specs.Known.{known}
 use Rattle.shelf_store.specs.Sizes.{blank, sizes_of}
-use Rattle.shelf_store.proofs.Steps.{quiet_trans, quiet_same, quiet_keeps}
+use Rattle.shelf_store.proofs.Steps.{quiet_trans, quiet_keeps}
 use Rattle.shelf_store.proofs.Opens.{begun_none, next_taken, all_taken, too_many}
 use Rattle.shelf_store.proofs.shelf_store.ShelfStore.open.Goals as goal
 
