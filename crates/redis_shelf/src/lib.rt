@@ -3,7 +3,19 @@
 
 /// Keys of shares.
 mod keys;
+/// Why a server gave no answer.
+mod fault;
+/// Commands.
+mod commands;
+/// What replies say.
+mod answers;
+/// A way to a server.
+mod link;
+/// A command, and its reply.
+mod talk;
 /// What holds of keys, whatever they are of.
 pub mod laws;
 
+pub use fault::{LinkFault, RedisFault};
 pub use keys::{read_key, spell_key};
+pub use link::Link;
