@@ -1,5 +1,5 @@
 -- The keys of shares on a server.
-use Rattle.std.specs.Prelude.{◌≡◌, ℕ, ◌/◌, ◌%◌, ◌<◌, ◌^◌, List, [], ◌∷◌, ◌++◌, length, All}
+use Rattle.std.specs.Prelude.{◌≡◌, ◌≢◌, ◌⊎◌, ℕ, ◌/◌, ◌%◌, ◌<◌, ◌^◌, List, [], ◌∷◌, ◌++◌, length, All}
 use Rattle.hex.specs.Hex.{encode_lower}
 
 -- a storage index and a number in hexadecimal, with lower-case letters, the number's high byte first
@@ -15,3 +15,9 @@ pub record IsPlace (index : List ℕ) (number : ℕ) : Type 0 where
   pub long : length index ≡ 16
   pub octets : All (λ byte. byte < 256) index
   pub small : number < 2 ^ 16
+
+-- A name was taken in: a share's is put behind the shares that there were, and another adds none.
+abbrev pub IsTaken : List ℕ → List ℕ → List (List ℕ × ℕ) → List (List ℕ × ℕ) → Type 0
+IsTaken grid name old new =
+    ((index : List ℕ) × (number : ℕ) × (name ≡ key grid index number) × (new ≡ old ++ (index, number) ∷ []))
+    ⊎ (((index : List ℕ) (number : ℕ) → IsPlace index number → name ≢ key grid index number) × (new ≡ old))

@@ -1,6 +1,6 @@
 //! Why a server gave no answer.
-ghost use Rattle.std.specs.Prelude.{◌≡◌};
-ghost use Rattle.redis_shelf.specs.declared.fault.RedisFault.TheVariants.{NoMemory};
+ghost use Rattle.std.specs.Prelude.{◌≡◌, ◌⊎◌};
+ghost use Rattle.redis_shelf.specs.declared.fault.RedisFault.TheVariants.{Link, NoReply, NoMemory};
 
 use resp::RespFault;
 use std::alloc::{AllocError, AllocFailed};
@@ -11,7 +11,7 @@ use thiserror::Error;
 #[error("the stream failed")]
 pub struct LinkFault;
 
-/// Why a server gave no answer. The connection is let go then, but where it was not asked.
+/// Why a server gave no answer. The connection is let go then, but for the first and the last two.
 #[derive(Clone, Copy, Debug, PartialEq, Eq, Error)]
 pub enum RedisFault {
     /// It was not asked, since it failed less than the seconds before that it is left alone then.
@@ -29,6 +29,9 @@ pub enum RedisFault {
     /// A reply came that is none to what was told, or bytes behind it.
     #[error("the reply is none to what was asked")]
     OtherReply,
+    /// The share is longer than the shelf's longest.
+    #[error("the share is too long")]
+    TooLong,
     /// There was no memory for the call.
     #[error("out of memory")]
     NoMemory,
@@ -46,12 +49,16 @@ pub(crate) enum ChangeFault {
 }
 
 impl From<LinkFault> for RedisFault {
+    ghost from_gives = { λ _ e. e ≡ Link };
+
     fn from(_: LinkFault) -> Self {
         RedisFault::Link
     }
 }
 
 impl From<RespFault> for RedisFault {
+    ghost from_gives = { λ _ e. (e ≡ NoReply) ⊎ (e ≡ NoMemory) };
+
     fn from(fault: RespFault) -> Self {
         match fault {
             RespFault::Wrong(_, _) => RedisFault::NoReply,

@@ -13,9 +13,18 @@ mod answers;
 mod link;
 /// A command, and its reply.
 mod talk;
+/// A change of what a server keeps.
+mod change;
+/// A connection that is made anew where it is needed.
+mod connection;
+/// What a server says that it has.
+mod listing;
+/// The shelf.
+mod redis_shelf;
 /// What holds of keys, whatever they are of.
 pub mod laws;
 
 pub use fault::{LinkFault, RedisFault};
 pub use keys::{read_key, spell_key};
 pub use link::Link;
+pub use redis_shelf::{RedisShelf, Settings};

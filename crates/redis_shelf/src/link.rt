@@ -1,7 +1,6 @@
 //! A way to a server.
-ghost use Rattle.std.specs.Prelude.{◌≤◌, ℕ, List, Option, length, take, IfOk, OnOk};
-ghost use Rattle.std.specs.Io.KnownBytes.{Keeps, Appends};
-ghost use Rattle.redis_shelf.specs.Told.{IsFresh};
+ghost use Rattle.std.specs.Prelude.{◌≡◌, ◌≤◌, ℕ, List, Option, length, take, IfOk, OnOk};
+ghost use Rattle.redis_shelf.specs.Told.{IsFresh, with_more};
 
 use crate::LinkFault;
 
@@ -11,10 +10,10 @@ use crate::LinkFault;
 /// next is written belongs to it: the whole of it has its time, also where few bytes come at a time.
 pub trait Link {
     /// What was written to the connection at hand, where that is known.
-    ghost written: { Self → Option (List ℕ) };
+    ghost written: { Self → Option (List ℕ) } = { λ _. None };
 
     /// What was read from the connection at hand, where that is known.
-    ghost heard: { Self → Option (List ℕ) };
+    ghost heard: { Self → Option (List ℕ) } = { λ _. None };
 
     /// Connects anew. A connection that was there is let go.
     fn connect(&mut self) -> Result<(), LinkFault>
@@ -23,21 +22,21 @@ pub trait Link {
 
     /// Writes all the bytes.
     fn write_all(&mut self, bytes: &[u8]) -> Result<(), LinkFault>
-        ensures written { OnOk result (Appends (written self.old) (written self.new) bytes.now) }
-        ensures heard { Keeps (heard self.old) (heard self.new) };
+        ensures written { OnOk result (written self.new ≡ with_more (written self.old) bytes.now) }
+        ensures heard { heard self.new ≡ heard self.old };
 
     /// Reads bytes to the front of `room`, and says how many. None is the end.
     fn read(&mut self, room: &mut [u8]) -> Result<usize, LinkFault>
         ensures bound { IfOk result (λ count. count ≤ length room.new) }
-        ensures written { Keeps (written self.old) (written self.new) }
+        ensures written { written self.new ≡ written self.old }
         ensures heard { IfOk result (λ count.
-            Appends (heard self.old) (heard self.new) (take count room.new)) };
+            heard self.new ≡ with_more (heard self.old) (take count room.new)) };
 
     /// Lets the connection go, where there is one.
     fn close(&mut self);
 
     /// How many seconds have passed since some moment.
     fn seconds(&mut self) -> u64
-        ensures written { Keeps (written self.old) (written self.new) }
-        ensures heard { Keeps (heard self.old) (heard self.new) };
+        ensures written { written self.new ≡ written self.old }
+        ensures heard { heard self.new ≡ heard self.old };
 }

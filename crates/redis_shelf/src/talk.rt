@@ -1,6 +1,6 @@
 //! A command, and its reply.
-ghost use Rattle.std.specs.Prelude.{◌≡◌, ◌<◌, ◌++◌, ℕ, List, IfOk, OnOk};
-ghost use Rattle.std.specs.Io.KnownBytes.{Keeps, Appends};
+ghost use Rattle.std.specs.Prelude.{◌≡◌, ◌≢◌, ◌<◌, ◌++◌, ℕ, List, IfOk, IfErr, OnOk};
+ghost use Rattle.redis_shelf.specs.Told.{with_more};
 ghost use Rattle.resp.specs.Spelled.{SpellsReply};
 
 use crate::{Link, RedisFault};
@@ -22,9 +22,10 @@ pub(crate) fn talk<L: Link>(
 ) -> Result<Reply, RedisFault>
     requires { 0 < limits.line }
     ensures written { OnOk result
-        (Appends (L.written link.old) (L.written link.new) command.now) }
+        (L.written link.new ≡ with_more (L.written link.old) command.now) }
     ensures heard { IfOk result (λ reply. (came : List ℕ) × SpellsReply limits reply came
-        × Appends (L.heard link.old) (L.heard link.new) came) }
+        × (L.heard link.new ≡ with_more (L.heard link.old) came)) }
+    ensures not_refused { IfErr result (λ fault. fault ≢ RedisFault.Refused) }
 {
     link.write_all(command)?;
     let mut came = Vec::new(alloc);
@@ -42,9 +43,10 @@ pub(crate) fn talk<L: Link>(
 
 /// Reads once, and puts what came behind what came before.
 fn hear<L: Link>(link: &mut L, came: &mut Vec<u8>) -> Result<(), RedisFault>
-    ensures written { Keeps (L.written link.old) (L.written link.new) }
+    ensures written { L.written link.new ≡ L.written link.old }
     ensures heard { OnOk result ((part : List ℕ) × (came.new.items ≡ came.old.items ++ part)
-        × Appends (L.heard link.old) (L.heard link.new) part) }
+        × (L.heard link.new ≡ with_more (L.heard link.old) part)) }
+    ensures not_refused { IfErr result (λ fault. fault ≢ RedisFault.Refused) }
 {
     let mut room = [0; ROOM];
     let count = link.read(&mut room)?;
