@@ -27,5 +27,8 @@ IsValue answer None = answer ≡ reply.One item.Null
 IsValue answer (Some bytes) = answer ≡ reply.One (item.Bulk bytes)
 
 -- a cursor and names
+abbrev pub page : ℕ → List Item → Reply
+page cursor names = reply.Several (element.One (item.Bulk (decimal cursor)) ∷ element.Several names ∷ [])
+
 abbrev pub IsPage : Reply → ℕ → List Item → Type 0
-IsPage answer cursor names = answer ≡ reply.Several (element.One (item.Bulk (decimal cursor)) ∷ element.Several names ∷ [])
+IsPage answer cursor names = answer ≡ page cursor names

@@ -1,6 +1,8 @@
 -- The keys of shares on a server.
 use Rattle.std.specs.Prelude.{◌≡◌, ◌≢◌, ◌⊎◌, ℕ, ◌/◌, ◌%◌, ◌<◌, ◌^◌, List, [], ◌∷◌, ◌++◌, length, All}
 use Rattle.hex.specs.Hex.{encode_lower}
+use Rattle.resp.specs.declared.reply.Item.{Item}
+use Rattle.resp.specs.declared.reply.Item.TheVariants as item
 
 -- a storage index and a number in hexadecimal, with lower-case letters, the number's high byte first
 unfoldable pub digits : List ℕ → ℕ → List ℕ
@@ -21,3 +23,9 @@ abbrev pub IsTaken : List ℕ → List ℕ → List (List ℕ × ℕ) → List (
 IsTaken grid name old new =
     ((index : List ℕ) × (number : ℕ) × (name ≡ key grid index number) × (new ≡ old ++ (index, number) ∷ []))
     ⊎ (((index : List ℕ) (number : ℕ) → IsPlace index number → name ≢ key grid index number) × (new ≡ old))
+
+-- Names were taken in, one after the other.
+abbrev pub IsGathered : List ℕ → List Item → List (List ℕ × ℕ) → List (List ℕ × ℕ) → Type 0
+IsGathered grid [] old new = new ≡ old
+IsGathered grid (item.Bulk name ∷ names) old new = (one : List (List ℕ × ℕ)) × IsTaken grid name old one × IsGathered grid names one new
+IsGathered grid (other ∷ names) old new = ⊥

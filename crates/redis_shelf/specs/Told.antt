@@ -69,6 +69,10 @@ abbrev pub IsLeft : ChangeFault → Change → State → State → Type 0
 IsLeft (fault.Lost why) change old new = new ≡ state.Closed (Some change)
 IsLeft (fault.NotDone why) change old new = IsLetGo old new
 
+-- The connection is as it was, or it was let go: then this change is in doubt, or what was in doubt before, or nothing.
+abbrev pub IsUnsure : List ℕ → State → State → Type 0
+IsUnsure command old new = (new ≡ old) ⊎ (IsLetGo old new ⊎ ((change : Change) × (change.command ≡ command) × (new ≡ state.Closed (Some change))))
+
 -- how large the reply that has a share may be
 abbrev pub value_limits : ℕ → Limits
 value_limits longest = record { line = 512; bulk = longest; elements = 0 }

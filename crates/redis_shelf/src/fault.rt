@@ -4,6 +4,7 @@ ghost use Rattle.redis_shelf.specs.declared.fault.RedisFault.TheVariants.{Link, 
 
 use resp::RespFault;
 use std::alloc::{AllocError, AllocFailed};
+use std::io::Error as IoError;
 use thiserror::Error;
 
 /// A stream failed: no connection was made, one ended, or its time was up.
@@ -46,6 +47,12 @@ pub(crate) enum ChangeFault {
     /// It was begun, and its answer was lost: it may be done or not.
     #[error("done or not: {0}")]
     Lost(RedisFault),
+}
+
+impl From<IoError> for LinkFault {
+    fn from(_: IoError) -> Self {
+        LinkFault
+    }
 }
 
 impl From<LinkFault> for RedisFault {

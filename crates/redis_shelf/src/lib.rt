@@ -21,10 +21,15 @@ mod connection;
 mod listing;
 /// The shelf.
 mod redis_shelf;
+/// A way to a server over TCP.
+mod tcp_link;
 /// What holds of keys, whatever they are of.
 pub mod laws;
+#[cfg(test)]
+mod tests;
 
 pub use fault::{LinkFault, RedisFault};
 pub use keys::{read_key, spell_key};
 pub use link::Link;
 pub use redis_shelf::{RedisShelf, Settings};
+pub use tcp_link::{TcpLink, Times};

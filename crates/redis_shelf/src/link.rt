@@ -1,5 +1,5 @@
 //! A way to a server.
-ghost use Rattle.std.specs.Prelude.{◌≡◌, ◌≤◌, ℕ, List, Option, length, take, IfOk, OnOk};
+ghost use Rattle.std.specs.Prelude.{◌≡◌, ◌≤◌, ℕ, List, Option, None, length, take, IfOk, OnOk};
 ghost use Rattle.redis_shelf.specs.Told.{IsFresh, with_more};
 
 use crate::LinkFault;

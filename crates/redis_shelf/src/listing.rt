@@ -1,9 +1,10 @@
 //! What a server says that it has.
-ghost use Rattle.std.specs.Prelude.{OnOk};
-ghost use Rattle.redis_shelf.specs.Keys.{IsTaken};
+ghost use Rattle.std.specs.Prelude.{IsTrue, OnOk, IfOk};
+ghost use Rattle.redis_shelf.specs.Keys.{IsTaken, IsGathered};
 
 use crate::keys::read_key;
 use octets::Bytes;
+use resp::Item;
 use std::alloc::{AllocError, Global};
 
 /// How many names are told that are no share's, at most.
@@ -47,5 +48,24 @@ impl Listed {
             }
         }
         Ok(())
+    }
+
+    /// Takes in the names of a part of a list, in order. `false` where one of the items is no name.
+    pub(crate) fn take_page(
+        &mut self,
+        alloc: Global,
+        grid: &[u8],
+        names: &[Item],
+    ) -> Result<bool, AllocError>
+        ensures { IfOk result (λ all. IsTrue all → IsGathered grid.now names.now
+            self.old.shares.items self.new.shares.items) }
+    {
+        for item in names {
+            let Item::Bulk(name) = item else {
+                return Ok(false);
+            };
+            self.take(alloc, grid, name.as_slice())?;
+        }
+        Ok(true)
     }
 }

@@ -1,11 +1,14 @@
 //! The shelf.
 ghost use Rattle.std.specs.FinMap.{empty};
-ghost use Rattle.std.specs.Prelude.{◌≡◌, ◌≤◌, ◌<◌, ◌+◌, ◌-◌, ◌^◌, ◌==◌, ◌↔◌, ℕ, List, Option, None, Some, false, OnOk, IfOk, IfErr, IsErrOf, if◌then◌else◌};
+ghost use Rattle.std.specs.Prelude.{◌≡◌, ◌≤◌, ◌<◌, ◌+◌, ◌-◌, ◌^◌, ◌==◌, ◌↔◌, ℕ, List, Option, None, Some, false, OnOk, OnErr, IfOk, IfErr, IsErrOf, if◌then◌else◌};
 ghost use Rattle.std.specs.Option.{option_map};
 ghost use Rattle.std.specs.Rc.{rc_slice_items};
 ghost use Rattle.redis_shelf.specs.Commands.{set_command, get_command, delete_command, scan_command};
-ghost use Rattle.redis_shelf.specs.Keys.{key};
-ghost use Rattle.redis_shelf.specs.Told.{IsTold, IsGiven, IsLeft, value_limits};
+ghost use Rattle.redis_shelf.specs.Keys.{key, IsGathered};
+ghost use Rattle.redis_shelf.specs.Answers.{page};
+ghost use Rattle.resp.specs.Spelled.{SpellsReply};
+ghost use Rattle.resp.specs.declared.reply.Item.{Item};
+ghost use Rattle.redis_shelf.specs.Told.{Ends, IsTold, IsGiven, IsUnsure, value_limits};
 
 use crate::answers::{page_in, value_in};
 use crate::change::Change;
@@ -16,7 +19,7 @@ use crate::keys::spell_key;
 use crate::listing::Listed;
 use crate::{Link, RedisFault};
 use octets::Bytes;
-use resp::{Item, Limits};
+use resp::Limits;
 use share_shelf::{Shelf, ShelfFault};
 use std::alloc::{AllocError, Global};
 use std::rc::RcSlice;
@@ -83,6 +86,13 @@ impl<L: Link + Drop> RedisShelf<L> {
         }
     }
 
+    /// The link to the server.
+    pub fn into_link(self) -> L
+        ensures { result ≡ self.connection.link }
+    {
+        self.connection.link
+    }
+
     /// Why the shelf failed when it last did.
     pub fn last_fault(&self) -> Option<RedisFault> {
         self.last_fault
@@ -100,6 +110,7 @@ impl<L: Link + Drop> RedisShelf<L> {
             ≡ (if self.old.failures == 2 ^ 64 - 1 then ShelfFault.NoMemory else ShelfFault.Failed) }
         ensures failures { self.new.failures ≡ (if self.old.failures == 2 ^ 64 - 1 then self.old.failures
             else self.old.failures + 1) }
+        ensures connection { self.new.connection ≡ self.old.connection }
     {
         self.last_fault = Some(fault);
         if self.failures == u64::MAX {
@@ -113,6 +124,7 @@ impl<L: Link + Drop> RedisShelf<L> {
     fn told(&mut self, fault: RedisFault) -> ShelfFault
         ensures rises { self.old.failures ≤ self.new.failures }
         ensures failed { (result ≡ ShelfFault.Failed) ↔ (self.old.failures < self.new.failures) }
+        ensures connection { self.new.connection ≡ self.old.connection }
     {
         match fault {
             RedisFault::NoMemory => ShelfFault::NoMemory,
@@ -153,6 +165,9 @@ impl<L: Link + Drop> RedisShelf<L> {
         ensures told { OnOk result (IsTold self.old.connection.state self.old.connection.password
             (L.written self.old.connection.link) (L.written self.new.connection.link)
             (scan_command cursor self.old.grid)) }
+        ensures given { IfOk result (λ next. (names : List Item) × (came : List ℕ)
+            × SpellsReply PAGE (page next names) came × Ends (L.heard self.new.connection.link) came
+            × IsGathered self.old.grid names listed.old.shares.items listed.new.shares.items) }
         ensures failures { self.new.failures ≡ self.old.failures }
     {
         let command = scan(self.connection.alloc, cursor, self.grid.as_slice())?;
@@ -160,13 +175,11 @@ impl<L: Link + Drop> RedisShelf<L> {
         let Some((next, names)) = page_in(&reply) else {
             return Err(self.connection.reject(&reply));
         };
-        for item in names {
-            let Item::Bulk(name) = item else {
-                return Err(self.connection.reject(&reply));
-            };
-            listed.take(alloc, self.grid.as_slice(), name.as_slice())?;
+        if listed.take_page(alloc, self.grid.as_slice(), names)? {
+            Ok(next)
+        } else {
+            Err(self.connection.reject(&reply))
         }
-        Ok(next)
     }
 
     /// The bytes under the key of a share. None where the key has no bytes, which are no share's.
@@ -197,8 +210,46 @@ impl<L: Link + Drop> RedisShelf<L> {
         }
     }
 
+    /// Puts a share's bytes under its key.
+    fn store(&mut self, index: &[u8; 16], number: u16, bytes: &[u8]) -> Result<(), ShelfFault>
+        ensures told { OnOk result (IsTold self.old.connection.state self.old.connection.password
+            (L.written self.old.connection.link) (L.written self.new.connection.link)
+            (set_command (key self.old.grid index.now number) bytes.now)) }
+        ensures left { OnErr result (IsUnsure (set_command (key self.old.grid index.now number) bytes.now)
+            self.old.connection.state self.new.connection.state) }
+        ensures rises { self.old.failures ≤ self.new.failures }
+        ensures failed { IsErrOf result ShelfFault.Failed ↔ (self.old.failures < self.new.failures) }
+    {
+        if bytes.len() > self.longest as usize {
+            return Err(self.fail(RedisFault::TooLong));
+        }
+        let name = self.name_of(index, number)?;
+        let change = Change::put(self.connection.alloc, &name, bytes)?;
+        self.make(change)
+    }
+
+    /// Takes away what stands under the key of a share.
+    fn erase(&mut self, index: &[u8; 16], number: u16) -> Result<(), ShelfFault>
+        ensures told { OnOk result (IsTold self.old.connection.state self.old.connection.password
+            (L.written self.old.connection.link) (L.written self.new.connection.link)
+            (delete_command (key self.old.grid index.now number))) }
+        ensures left { OnErr result (IsUnsure (delete_command (key self.old.grid index.now number))
+            self.old.connection.state self.new.connection.state) }
+        ensures rises { self.old.failures ≤ self.new.failures }
+        ensures failed { IsErrOf result ShelfFault.Failed ↔ (self.old.failures < self.new.failures) }
+    {
+        let name = self.name_of(index, number)?;
+        let change = Change::remove(self.connection.alloc, &name)?;
+        self.make(change)
+    }
+
     /// Makes a change.
     fn make(&mut self, change: Change) -> Result<(), ShelfFault>
+        ensures told { OnOk result (IsTold self.old.connection.state self.old.connection.password
+            (L.written self.old.connection.link) (L.written self.new.connection.link)
+            change.command) }
+        ensures left { OnErr result (IsUnsure change.command
+            self.old.connection.state self.new.connection.state) }
         ensures rises { self.old.failures ≤ self.new.failures }
         ensures failed { IsErrOf result ShelfFault.Failed ↔ (self.old.failures < self.new.failures) }
     {
@@ -245,18 +296,11 @@ impl<L: Link + Drop> Shelf for RedisShelf<L> {
     }
 
     fn put(&mut self, index: [u8; 16], number: u16, bytes: RcSlice<u8>) -> Result<(), ShelfFault> {
-        if bytes.as_slice().len() > self.longest as usize {
-            return Err(self.fail(RedisFault::TooLong));
-        }
-        let name = self.name_of(&index, number)?;
-        let change = Change::put(self.connection.alloc, &name, bytes.as_slice())?;
-        self.make(change)
+        self.store(&index, number, bytes.as_slice())
     }
 
     fn remove(&mut self, index: [u8; 16], number: u16) -> Result<(), ShelfFault> {
-        let name = self.name_of(&index, number)?;
-        let change = Change::remove(self.connection.alloc, &name)?;
-        self.make(change)
+        self.erase(&index, number)
     }
 
     ghost narrows = { λ shelf t u c le left. tt };
