@@ -118,6 +118,21 @@ impl<L: Link + Drop> Connection<L> {
         }
     }
 
+    /// The link.
+    pub(crate) fn into_link(self) -> L
+        ensures { result ≡ self.link }
+    {
+        let Connection {
+            alloc: _,
+            link,
+            password: _,
+            rest: _,
+            state: _,
+            resumes: _,
+        } = self;
+        link
+    }
+
     /// Lets the connection go for this fault, with this change in doubt.
     pub(crate) fn close(&mut self, fault: RedisFault, doubt: Option<Change>)
         ensures { self.new.state ≡ State.Closed doubt }

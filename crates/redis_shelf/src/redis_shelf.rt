@@ -90,7 +90,16 @@ impl<L: Link + Drop> RedisShelf<L> {
     pub fn into_link(self) -> L
         ensures { result ≡ self.connection.link }
     {
-        self.connection.link
+        let RedisShelf {
+            connection,
+            grid: _,
+            longest: _,
+            failures: _,
+            last_fault: _,
+            strangers: _,
+            stranger_count: _,
+        } = self;
+        connection.into_link()
     }
 
     /// Why the shelf failed when it last did.
