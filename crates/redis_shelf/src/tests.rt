@@ -1,6 +1,7 @@
 //! A shelf over servers of the tests' own.
 use crate::{Link, LinkFault, RedisShelf, Settings};
 use octets::Bytes;
+use resp::{Element, Item, Limits, Reply, read_reply};
 use share_shelf::{Shelf, ShelfFault};
 use std::alloc::{AllocError, Global};
 use std::rc::RcSlice;
@@ -10,7 +11,7 @@ use std::test::Fail;
 const INDEX: [u8; 16] = [15; 16];
 const NUMBER: u16 = 258;
 
-/// A server that answers what it was told to, byte by byte, and writes down what it is told: a bar where a connection is
+/// A server that answers what it was told to, so many bytes at once, and writes down what it is told: a bar where a connection is
 /// made, a full stop where it is let go, and each command with spaces for the ends of its lines.
 #[derive(Drop)]
 struct Played {
@@ -18,6 +19,7 @@ struct Played {
     waiting: &'static [u8],
     told: Vec<u8>,
     clock: u64,
+    at_once: usize,
 }
 
 impl Link for Played {
@@ -42,15 +44,10 @@ impl Link for Played {
     }
 
     fn read(&mut self, room: &mut [u8]) -> Result<usize, LinkFault> {
-        let Some(first) = room.first_mut() else {
-            return Ok(0);
-        };
-        let [byte, rest @ ..] = self.waiting else {
-            return Ok(0);
-        };
-        *first = *byte;
-        self.waiting = rest;
-        Ok(1)
+        let count = self.at_once.min(room.len()).min(self.waiting.len());
+        room[..count].copy_from_slice(&self.waiting[..count]);
+        self.waiting = &self.waiting[count..];
+        Ok(count)
     }
 
     fn close(&mut self) {
@@ -77,6 +74,7 @@ struct Row {
     name: &'static str,
     has_password: bool,
     rest: u64,
+    at_once: usize,
     calls: &'static [Call],
     replies: &'static [&'static [u8]],
     results: &'static str,
@@ -88,6 +86,7 @@ const ROWS: [Row; 16] = [
         name: "a put, and a change of it",
         has_password: false,
         rest: 0,
+        at_once: 1,
         calls: &[Call::Put(b"one"), Call::Put(b"two"), Call::Read, Call::Remove, Call::Read],
         replies: &[b"+OK\r\n", b"+OK\r\n", b"$3\r\ntwo\r\n", b":1\r\n", b"$-1\r\n"],
         results: "ok ok two ok none ",
@@ -97,6 +96,7 @@ const ROWS: [Row; 16] = [
         name: "a password",
         has_password: true,
         rest: 0,
+        at_once: 1,
         calls: &[Call::Read],
         replies: &[b"+OK\r\n", b"$-1\r\n"],
         results: "none ",
@@ -106,6 +106,7 @@ const ROWS: [Row; 16] = [
         name: "a password that is refused",
         has_password: true,
         rest: 0,
+        at_once: 1,
         calls: &[Call::Put(b"one"), Call::Read],
         replies: &[b"-WRONGPASS invalid\r\n", b"+OK\r\n", b"$-1\r\n"],
         results: "failed none ",
@@ -115,6 +116,7 @@ const ROWS: [Row; 16] = [
         name: "an answer that is lost",
         has_password: false,
         rest: 0,
+        at_once: 1,
         calls: &[Call::Put(b"one"), Call::Read, Call::Read],
         replies: &[b"", b"+OK\r\n", b"$3\r\none\r\n", b"$3\r\none\r\n"],
         results: "failed one one ",
@@ -124,6 +126,7 @@ const ROWS: [Row; 16] = [
         name: "an answer that is lost twice",
         has_password: true,
         rest: 0,
+        at_once: 1,
         calls: &[Call::Remove, Call::Put(b"two"), Call::Read],
         replies: &[b"+OK\r\n", b":", b"+OK\r\n", b"", b"+OK\r\n", b":0\r\n", b"$3\r\none\r\n"],
         results: "failed failed one ",
@@ -133,6 +136,7 @@ const ROWS: [Row; 16] = [
         name: "a server that is full",
         has_password: false,
         rest: 0,
+        at_once: 1,
         calls: &[Call::Put(b"one"), Call::Read],
         replies: &[b"-OOM command not allowed\r\n", b"$-1\r\n"],
         results: "failed none ",
@@ -142,6 +146,7 @@ const ROWS: [Row; 16] = [
         name: "an answer to something else",
         has_password: false,
         rest: 0,
+        at_once: 1,
         calls: &[Call::Put(b"one"), Call::Read],
         replies: &[b":1\r\n", b"+OK\r\n", b"$3\r\none\r\n"],
         results: "failed one ",
@@ -151,6 +156,7 @@ const ROWS: [Row; 16] = [
         name: "two answers to one",
         has_password: false,
         rest: 0,
+        at_once: 64,
         calls: &[Call::Put(b"one"), Call::Read],
         replies: &[b"+OK\r\n+OK\r\n", b"+OK\r\n", b"$3\r\none\r\n"],
         results: "failed one ",
@@ -160,6 +166,7 @@ const ROWS: [Row; 16] = [
         name: "bytes that are no reply",
         has_password: false,
         rest: 0,
+        at_once: 1,
         calls: &[Call::Read, Call::Read],
         replies: &[b"?\r\n", b"$-1\r\n"],
         results: "failed none ",
@@ -169,6 +176,7 @@ const ROWS: [Row; 16] = [
         name: "a share that is too long to read",
         has_password: false,
         rest: 0,
+        at_once: 1,
         calls: &[Call::Read, Call::Put(b"seven..")],
         replies: &[b"$7\r\nseven..\r\n"],
         results: "failed failed ",
@@ -178,6 +186,7 @@ const ROWS: [Row; 16] = [
         name: "no bytes",
         has_password: false,
         rest: 0,
+        at_once: 1,
         calls: &[Call::Read],
         replies: &[b"$0\r\n\r\n"],
         results: "none ",
@@ -187,6 +196,7 @@ const ROWS: [Row; 16] = [
         name: "a count in the place of bytes",
         has_password: false,
         rest: 0,
+        at_once: 1,
         calls: &[Call::Read, Call::Read],
         replies: &[b":1\r\n", b"$3\r\none\r\n"],
         results: "failed one ",
@@ -196,6 +206,7 @@ const ROWS: [Row; 16] = [
         name: "a server that is left alone",
         has_password: false,
         rest: 3,
+        at_once: 1,
         calls: &[Call::Read, Call::Read, Call::Read, Call::Read],
         replies: &[b"", b"$-1\r\n"],
         results: "failed failed failed none ",
@@ -205,6 +216,7 @@ const ROWS: [Row; 16] = [
         name: "names in two parts, one of them twice, and strangers",
         has_password: false,
         rest: 0,
+        at_once: 1,
         calls: &[Call::List],
         replies: &[b"*2\r\n$1\r\n7\r\n*2\r\n$38\r\ng:0f0f0f0f0f0f0f0f0f0f0f0f0f0f0f0f0102\r\n$6\r\ng:else\r\n", b"*2\r\n$1\r\n0\r\n*3\r\n$38\r\ng:000000000000000000000000000000010000\r\n$38\r\ng:0f0f0f0f0f0f0f0f0f0f0f0f0f0f0f0f0102\r\n$38\r\nG:0F0F0F0F0F0F0F0F0F0F0F0F0F0F0F0F0102\r\n"],
         results: "0,258 2 ",
@@ -214,6 +226,7 @@ const ROWS: [Row; 16] = [
         name: "no names",
         has_password: false,
         rest: 0,
+        at_once: 1,
         calls: &[Call::List],
         replies: &[b"*2\r\n$1\r\n0\r\n*0\r\n"],
         results: "0 ",
@@ -223,6 +236,7 @@ const ROWS: [Row; 16] = [
         name: "a part of a list that is none",
         has_password: false,
         rest: 0,
+        at_once: 1,
         calls: &[Call::List, Call::Read],
         replies: &[b"*2\r\n$1\r\n0\r\n$1\r\n1\r\n", b"$3\r\none\r\n"],
         results: "failed one ",
@@ -284,6 +298,7 @@ fn play(alloc: Global, row: &Row) -> Result<(String, Vec<u8>), AllocError> {
         waiting: b"",
         told: Vec::new(alloc),
         clock: 0,
+        at_once: row.at_once,
     };
     let password = match row.has_password {
         true => Some(Bytes::from_slice(alloc, b"pass word")?),
@@ -311,6 +326,181 @@ fn a_server_is_told_what_it_is_to_be(rt: HostRuntime) -> Result<(), Fail> {
         assert_eq!(rt; results.as_str(), row.results, "{name}");
         let told = String::from_utf8(told)?;
         assert_eq!(rt; told.as_str(), row.told, "{name}");
+    }
+    Ok(())
+}
+
+/// A server that keeps what stands under one name. A call of its link fails, the first or a later one: a command that
+/// can't be written is done all the same where it is told so.
+#[derive(Drop)]
+struct Server {
+    alloc: Global,
+    kept: Option<Bytes>,
+    waiting: Vec<u8>,
+    left: u64,
+    is_done: bool,
+}
+
+/// How large a command may be.
+const COMMANDS: Limits = Limits {
+    line: 64,
+    bulk: 64,
+    elements: 8,
+};
+
+/// The words of a command.
+fn words_of(alloc: Global, bytes: &[u8]) -> Result<Vec<Bytes>, AllocError> {
+    let mut words = Vec::new(alloc);
+    if let Ok(Some((Reply::Several(elements), _))) = read_reply(alloc, COMMANDS, bytes) {
+        for element in elements.into_vec() {
+            if let Element::One(Item::Bulk(word)) = element {
+                words.push(word)?;
+            }
+        }
+    }
+    Ok(words)
+}
+
+impl Server {
+    /// Counts a call, and says whether it fails.
+    fn fails(&mut self) -> bool {
+        if self.left == 0 {
+            return false;
+        }
+        self.left -= 1;
+        self.left == 0
+    }
+
+    /// Does what a command says, and puts the answer where it is read.
+    fn obey(&mut self, command: &[u8]) -> Result<(), AllocError> {
+        self.waiting.clear();
+        let words = words_of(self.alloc, command)?;
+        match words.as_slice() {
+            [_, _, content] => {
+                self.kept = Some(Bytes::from_slice(self.alloc, content.as_slice())?);
+                self.waiting.extend_from_slice(b"+OK\r\n")
+            }
+            [verb, _] if verb.as_slice() == b"DEL".as_slice() => {
+                let count = if self.kept.is_some() { 1 } else { 0 };
+                self.kept = None;
+                let answer = format!(in self.alloc; ":{count}\r\n")?;
+                self.waiting.extend_from_slice(answer.as_bytes())
+            }
+            _ => match &self.kept {
+                None => self.waiting.extend_from_slice(b"$-1\r\n"),
+                Some(content) => {
+                    let len = content.len();
+                    let line = format!(in self.alloc; "${len}\r\n")?;
+                    self.waiting.extend_from_slice(line.as_bytes())?;
+                    self.waiting.extend_from_slice(content.as_slice())?;
+                    self.waiting.extend_from_slice(b"\r\n")
+                }
+            },
+        }
+    }
+}
+
+impl Link for Server {
+    fn connect(&mut self) -> Result<(), LinkFault> {
+        self.waiting.clear();
+        if self.fails() {
+            return Err(LinkFault);
+        }
+        Ok(())
+    }
+
+    fn write_all(&mut self, bytes: &[u8]) -> Result<(), LinkFault> {
+        let fails = self.fails();
+        if fails && !self.is_done {
+            return Err(LinkFault);
+        }
+        let obeyed = self.obey(bytes);
+        if fails || obeyed.is_err() {
+            return Err(LinkFault);
+        }
+        Ok(())
+    }
+
+    fn read(&mut self, room: &mut [u8]) -> Result<usize, LinkFault> {
+        if self.fails() {
+            return Err(LinkFault);
+        }
+        let count = room.len().min(self.waiting.len());
+        room[..count].copy_from_slice(&self.waiting[..count]);
+        self.waiting.clear();
+        Ok(count)
+    }
+
+    fn close(&mut self) {}
+
+    fn seconds(&mut self) -> u64 {
+        0
+    }
+}
+
+/// Whether a share has these bytes, or there is none.
+fn is_share(share: &Option<RcSlice<u8>>, wanted: Option<&'static [u8]>) -> bool {
+    match (share, wanted) {
+        (Some(share), Some(bytes)) => share.as_slice() == bytes,
+        (None, None) => true,
+        _ => false,
+    }
+}
+
+/// Whether what stands after each of some changes, one of the link's calls failing, is what stood before or what is to
+/// stand after it, and the latter where the change was answered.
+fn holds(alloc: Global, at: u64, is_done: bool) -> Result<bool, AllocError> {
+    let link = Server {
+        alloc,
+        kept: None,
+        waiting: Vec::new(alloc),
+        left: at,
+        is_done,
+    };
+    let settings = Settings {
+        grid: Bytes::from_slice(alloc, b"g:")?,
+        password: None,
+        longest: 6,
+        rest: 0,
+    };
+    let mut shelf = RedisShelf::new(alloc, link, settings);
+    let mut stands: Option<&'static [u8]> = None;
+    let changes: [Option<&'static [u8]>; 4] = [Some(b"one"), Some(b"two"), None, Some(b"three")];
+    for next in changes {
+        let changed = match next {
+            Some(bytes) => {
+                let bytes = Vec::from_slice(alloc, bytes)?;
+                let share = RcSlice::from_vec(bytes).map_err(|_| AllocError)?;
+                shelf.put(INDEX, NUMBER, share)
+            }
+            None => shelf.remove(INDEX, NUMBER),
+        };
+        let mut found = shelf.read(INDEX, NUMBER);
+        if found.is_err() {
+            found = shelf.read(INDEX, NUMBER);
+        }
+        let Ok(share) = found else {
+            return Ok(false);
+        };
+        if is_share(&share, next) {
+            stands = next;
+        } else if changed.is_ok() || !is_share(&share, stands) {
+            return Ok(false);
+        }
+    }
+    let server = shelf.into_link();
+    Ok(match (server.kept, stands) {
+        (Some(bytes), Some(wanted)) => bytes.as_slice() == wanted,
+        (None, None) => true,
+        _ => false,
+    })
+}
+
+#[test]
+fn what_stands_is_old_or_new_whichever_call_fails(rt: HostRuntime) -> Result<(), Fail> {
+    for at in 0..32 {
+        assert!(rt; holds(rt.alloc(), at, false)?, "{at}");
+        assert!(rt; holds(rt.alloc(), at, true)?, "{at}");
     }
     Ok(())
 }
