@@ -1,11 +1,10 @@
 -- What was written and read, as far as it is known.
-use Rattle.std.proofs.Common.{◌≡◌, ℕ, List, [], ◌++◌, length, take, Option, None, Some, refl, sym, ap, subst, ◌∙◌, append-nil, append_assoc, ◌≤◌, Ok}
+use Rattle.std.proofs.Common.{◌≡◌, ℕ, List, [], ◌++◌, length, Option, None, Some, refl, sym, ap, subst, ◌∙◌, append-nil, append_assoc, ◌≤◌, Ok}
 use Rattle.std.proofs.lemmas.List.{take_all}
 use Rattle.resp.specs.declared.limits.Limits.{Limits}
 use Rattle.resp.specs.declared.reply.Reply.{Reply}
 use Rattle.resp.specs.Spelled.{SpellsReply}
 use Rattle.resp.specs.Verdict.{IsReadAs}
-use Rattle.redis_shelf.specs.declared.change.Change.{Change}
 use Rattle.redis_shelf.specs.declared.connection.State.{State}
 use Rattle.redis_shelf.specs.declared.connection.State.TheVariants as state
 use Rattle.redis_shelf.specs.Told.{with_more, IsFresh, IsAll, Ends, opening, IsReady, IsTold}

@@ -42,7 +42,14 @@ pub(crate) fn scan(alloc: Global, cursor: u64, grid: &[u8]) -> Result<Vec<u8>, A
     let place = format!(in alloc; "{cursor}")?;
     command(
         alloc,
-        &[b"SCAN", place.as_bytes(), b"MATCH", &pattern, b"COUNT", b"1000"],
+        &[
+            b"SCAN",
+            place.as_bytes(),
+            b"MATCH",
+            &pattern,
+            b"COUNT",
+            b"1000",
+        ],
     )
 }
 

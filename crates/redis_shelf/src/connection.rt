@@ -188,11 +188,7 @@ fn settle<L: Link>(alloc: Global, link: &mut L, doubt: &Option<Change>) -> Resul
 }
 
 /// Says who asks, where there is a password.
-fn log_in<L: Link>(
-    alloc: Global,
-    link: &mut L,
-    password: &Option<Bytes>,
-) -> Result<(), RedisFault>
+fn log_in<L: Link>(alloc: Global, link: &mut L, password: &Option<Bytes>) -> Result<(), RedisFault>
     ensures { OnOk result
         (L.written link.new ≡ with_more (L.written link.old) (said_first password.now)) }
 {

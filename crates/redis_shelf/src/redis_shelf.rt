@@ -210,7 +210,9 @@ impl<L: Link + Drop> RedisShelf<L> {
         let reply = self.connection.ask(limits, &command)?;
         let fault = fault_of(&reply);
         match value_in(reply) {
-            Some(Some(bytes)) if !bytes.is_empty() => Ok(Some(RcSlice::from_vec(bytes.into_vec())?)),
+            Some(Some(bytes)) if !bytes.is_empty() => Ok(Some(RcSlice::from_vec(
+                bytes.into_vec(),
+            )?)),
             Some(_) => Ok(None),
             None => {
                 self.connection.close(fault, None);

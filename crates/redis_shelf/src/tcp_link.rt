@@ -1,5 +1,6 @@
 //! A way to a server over TCP.
 ghost use Rattle.std.specs.Prelude.{◌<◌, ◌≤◌, length, IfOk};
+
 use crate::{Link, LinkFault};
 use std::io::{Read, Write};
 use std::net::{Net, OpenStream, SocketAddr};

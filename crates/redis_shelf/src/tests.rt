@@ -9,6 +9,7 @@ use std::test::Fail;
 
 /// The share that tests speak of.
 const INDEX: [u8; 16] = [15; 16];
+
 const NUMBER: u16 = 258;
 
 /// A server that answers what it was told to, so many bytes at once, and writes down what it is told: a bar where a connection is
@@ -87,8 +88,20 @@ const ROWS: [Row; 16] = [
         has_password: false,
         rest: 0,
         at_once: 1,
-        calls: &[Call::Put(b"one"), Call::Put(b"two"), Call::Read, Call::Remove, Call::Read],
-        replies: &[b"+OK\r\n", b"+OK\r\n", b"$3\r\ntwo\r\n", b":1\r\n", b"$-1\r\n"],
+        calls: &[
+            Call::Put(b"one"),
+            Call::Put(b"two"),
+            Call::Read,
+            Call::Remove,
+            Call::Read,
+        ],
+        replies: &[
+            b"+OK\r\n",
+            b"+OK\r\n",
+            b"$3\r\ntwo\r\n",
+            b":1\r\n",
+            b"$-1\r\n",
+        ],
         results: "ok ok two ok none ",
         told: "|*3 $3 SET $38 g:0f0f0f0f0f0f0f0f0f0f0f0f0f0f0f0f0102 $3 one *3 $3 SET $38 g:0f0f0f0f0f0f0f0f0f0f0f0f0f0f0f0f0102 $3 two *2 $3 GET $38 g:0f0f0f0f0f0f0f0f0f0f0f0f0f0f0f0f0102 *2 $3 DEL $38 g:0f0f0f0f0f0f0f0f0f0f0f0f0f0f0f0f0102 *2 $3 GET $38 g:0f0f0f0f0f0f0f0f0f0f0f0f0f0f0f0f0102 ",
     },
@@ -128,7 +141,15 @@ const ROWS: [Row; 16] = [
         rest: 0,
         at_once: 1,
         calls: &[Call::Remove, Call::Put(b"two"), Call::Read],
-        replies: &[b"+OK\r\n", b":", b"+OK\r\n", b"", b"+OK\r\n", b":0\r\n", b"$3\r\none\r\n"],
+        replies: &[
+            b"+OK\r\n",
+            b":",
+            b"+OK\r\n",
+            b"",
+            b"+OK\r\n",
+            b":0\r\n",
+            b"$3\r\none\r\n",
+        ],
         results: "failed failed one ",
         told: "|*2 $4 AUTH $9 pass word *2 $3 DEL $38 g:0f0f0f0f0f0f0f0f0f0f0f0f0f0f0f0f0102 .|*2 $4 AUTH $9 pass word *2 $3 DEL $38 g:0f0f0f0f0f0f0f0f0f0f0f0f0f0f0f0f0102 .|*2 $4 AUTH $9 pass word *2 $3 DEL $38 g:0f0f0f0f0f0f0f0f0f0f0f0f0f0f0f0f0102 *2 $3 GET $38 g:0f0f0f0f0f0f0f0f0f0f0f0f0f0f0f0f0102 ",
     },
@@ -218,7 +239,10 @@ const ROWS: [Row; 16] = [
         rest: 0,
         at_once: 1,
         calls: &[Call::List],
-        replies: &[b"*2\r\n$1\r\n7\r\n*2\r\n$38\r\ng:0f0f0f0f0f0f0f0f0f0f0f0f0f0f0f0f0102\r\n$6\r\ng:else\r\n", b"*2\r\n$1\r\n0\r\n*3\r\n$38\r\ng:000000000000000000000000000000010000\r\n$38\r\ng:0f0f0f0f0f0f0f0f0f0f0f0f0f0f0f0f0102\r\n$38\r\nG:0F0F0F0F0F0F0F0F0F0F0F0F0F0F0F0F0102\r\n"],
+        replies: &[
+            b"*2\r\n$1\r\n7\r\n*2\r\n$38\r\ng:0f0f0f0f0f0f0f0f0f0f0f0f0f0f0f0f0102\r\n$6\r\ng:else\r\n",
+            b"*2\r\n$1\r\n0\r\n*3\r\n$38\r\ng:000000000000000000000000000000010000\r\n$38\r\ng:0f0f0f0f0f0f0f0f0f0f0f0f0f0f0f0f0102\r\n$38\r\nG:0F0F0F0F0F0F0F0F0F0F0F0F0F0F0F0F0102\r\n",
+        ],
         results: "0,258 2 ",
         told: "|*6 $4 SCAN $1 0 $5 MATCH $5 \\g\\:* $5 COUNT $4 1000 *6 $4 SCAN $1 7 $5 MATCH $5 \\g\\:* $5 COUNT $4 1000 ",
     },
@@ -244,6 +268,19 @@ const ROWS: [Row; 16] = [
     },
 ];
 
+/// Puts bytes. Refused where there are none.
+fn put<L: Link + Drop>(
+    alloc: Global,
+    shelf: &mut RedisShelf<L>,
+    bytes: &[u8],
+) -> Result<Result<(), ShelfFault>, AllocError> {
+    let share = RcSlice::from_vec(Vec::from_slice(alloc, bytes)?).map_err(|_| AllocError)?;
+    if share.as_slice().is_empty() {
+        return Err(AllocError);
+    }
+    Ok(shelf.put(INDEX, NUMBER, share))
+}
+
 /// Makes a call, and puts what it gives behind what calls gave before.
 fn show(
     alloc: Global,
@@ -252,10 +289,7 @@ fn show(
     shown: &mut String,
 ) -> Result<(), AllocError> {
     let failed = match call {
-        Call::Put(bytes) => {
-            let bytes = RcSlice::from_vec(Vec::from_slice(alloc, bytes)?).map_err(|_| AllocError)?;
-            shelf.put(INDEX, NUMBER, bytes).err()
-        }
+        Call::Put(bytes) => put(alloc, shelf, bytes)?.err(),
         Call::Remove => shelf.remove(INDEX, NUMBER).err(),
         Call::Read => match shelf.read(INDEX, NUMBER) {
             Ok(Some(bytes)) => {
@@ -350,13 +384,24 @@ const COMMANDS: Limits = Limits {
 
 /// The words of a command.
 fn words_of(alloc: Global, bytes: &[u8]) -> Result<Vec<Bytes>, AllocError> {
+    match read_reply(alloc, COMMANDS, bytes) {
+        Ok(Some((reply, _len))) => words_in(alloc, &reply),
+        Ok(None) => Ok(Vec::new(alloc)),
+        Err(_fault) => Ok(Vec::new(alloc)),
+    }
+}
+
+/// The bulk strings with which an array begins.
+fn words_in(alloc: Global, reply: &Reply) -> Result<Vec<Bytes>, AllocError> {
     let mut words = Vec::new(alloc);
-    if let Ok(Some((Reply::Several(elements), _))) = read_reply(alloc, COMMANDS, bytes) {
-        for element in elements.into_vec() {
-            if let Element::One(Item::Bulk(word)) = element {
-                words.push(word)?;
-            }
-        }
+    let Reply::Several(elements) = reply else {
+        return Ok(words);
+    };
+    for element in elements.as_slice() {
+        let Element::One(Item::Bulk(word)) = element else {
+            return Ok(words);
+        };
+        words.push(Bytes::from_slice(alloc, word.as_slice())?)?;
     }
     Ok(words)
 }
@@ -468,11 +513,7 @@ fn holds(alloc: Global, at: u64, is_done: bool) -> Result<bool, AllocError> {
     let changes: [Option<&'static [u8]>; 4] = [Some(b"one"), Some(b"two"), None, Some(b"three")];
     for next in changes {
         let changed = match next {
-            Some(bytes) => {
-                let bytes = Vec::from_slice(alloc, bytes)?;
-                let share = RcSlice::from_vec(bytes).map_err(|_| AllocError)?;
-                shelf.put(INDEX, NUMBER, share)
-            }
+            Some(bytes) => put(alloc, &mut shelf, bytes)?,
             None => shelf.remove(INDEX, NUMBER),
         };
         let mut found = shelf.read(INDEX, NUMBER);

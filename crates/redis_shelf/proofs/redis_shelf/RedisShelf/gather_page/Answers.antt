@@ -1,5 +1,3 @@
-use Rattle.std.proofs.Common.{◌≡◌, List, ℕ, subst}
-use Rattle.resp.specs.Spelled.{SpellsReply}
 use Rattle.redis_shelf.proofs.redis_shelf.RedisShelf.gather_page.Goals as goal
 
 pub returns-then-branch-clause-given : goal.returns-then-branch-clause-given
