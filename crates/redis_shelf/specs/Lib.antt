@@ -1,0 +1,4 @@
+pub mod Keys
+pub mod Commands
+pub mod Answers
+pub mod Told
