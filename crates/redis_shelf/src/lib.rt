@@ -25,8 +25,6 @@ mod redis_shelf;
 mod tcp_link;
 /// What holds of keys, whatever they are of.
 pub mod laws;
-#[cfg(test)]
-mod tests;
 
 pub use fault::{LinkFault, RedisFault};
 pub use keys::{read_key, spell_key};

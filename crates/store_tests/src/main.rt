@@ -1,28 +1,16 @@
-//! Tests of stores, shelves, grids and files, over the public calls of their crates. The gate proves a crate with
-//! tests twice, with them and without, so they stand in a crate of their own. The program itself does nothing.
+//! Tests of stores, grids and files, over the public calls of their crates. The gate proves a crate with tests twice,
+//! with them and without, so they stand in a crate of their own. The program itself does nothing.
 #![tactic(auto)]
 
 /// Files on a grid.
 #[cfg(test)]
 mod files;
-/// Folders of files as shelves.
-#[cfg(test)]
-mod folders;
 /// Placement, loss and spoiling.
 #[cfg(test)]
 mod grids;
 /// Images of grids.
 #[cfg(test)]
 mod images;
-/// Stores in memory with a shelf beside them.
-#[cfg(test)]
-mod kept_stores;
-/// Stores whose bytes are on a shelf.
-#[cfg(test)]
-mod shelf_stores;
-/// Shelves.
-#[cfg(test)]
-mod shelves;
 /// Stores of shares.
 #[cfg(test)]
 mod stores;

@@ -1,6 +1,6 @@
 //! A shelf over servers of the tests' own.
-use crate::{Link, LinkFault, RedisShelf, Settings};
 use octets::Bytes;
+use redis_shelf::{Link, LinkFault, RedisShelf, Settings};
 use resp::{Element, Item, Limits, Reply, read_reply};
 use share_shelf::{Shelf, ShelfFault};
 use std::alloc::{AllocError, Global};
