@@ -71,7 +71,7 @@ fn a_crash_leaves_what_was_answered_and_at_most_one_more(rt: HostRuntime) -> Res
     assert!(rt; !store.put(INDEX, 2, share(alloc, 9)?)?);
     assert!(rt; store.toggle(INDEX, 1, 0)?);
     assert!(rt; store.lose(INDEX, 0)?);
-    assert_eq!(rt; store.shelf.moment(), 6);
+    assert_eq!(rt; store.shelf().moment(), 6);
     for (moment, wanted) in [
         (0usize, 0usize),
         (1, 1),
