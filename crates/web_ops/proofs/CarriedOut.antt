@@ -68,11 +68,12 @@ short n e = grind (arith, nat_tests)
 
 -- ---- what replies tell
 
-at_six : List ℕ → ℕ
-at_six text = get_or text 6 0
+-- their words part at an `f` and a `d`
+other_letters : (f d : ℕ) → f ≡ d + 2 → f ≡ d → ⊥
+other_letters f d e same = omega (arith, e, same)
 
 full_is_not_down : store_full ≡ store_down → ⊥
-full_is_not_down e = let letters : at_six store_full.body ≡ at_six store_down.body = ap (λ r. at_six r.body) e in cc
+full_is_not_down e = other_letters (get_or store_full.body 6 0) (get_or store_down.body 6 0) refl (ap (λ r. get_or r.body 6 0) e)
 
 cap_is_no_fault : (cap : Cap) (x : Reply) → x ≡ cap_reply cap → x.status ≡ status.ServiceUnavailable → ⊥
 cap_is_no_fault cap x is other = let ok : x.status ≡ status.Ok = ap (λ r. r.status) is in cc

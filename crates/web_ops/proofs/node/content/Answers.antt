@@ -1,5 +1,4 @@
 use Rattle.std.proofs.Common.{sym, subst}
-use Rattle.caps.specs.declared.cap.Cap.TheVariants.{Chk}
 use Rattle.chk_file.specs.Cached.{IsFresh}
 use Rattle.web_ops.specs.Replies.{bytes_reply}
 use Rattle.web_ops.specs.Answers.{content_reply}

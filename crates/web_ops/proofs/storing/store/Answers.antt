@@ -1,12 +1,15 @@
-use Rattle.std.proofs.Common.{◌≡◌, ℕ, cond, Err, ap, ◌∙◌, inr, subst}
+use Rattle.std.proofs.Common.{◌≡◌, ℕ, cond, Err, ap, ◌∙◌, inl, inr, subst}
 use Rattle.erasure.specs.Code.{AreBytes}
 use Rattle.std.proofs.lemmas.Result.{IfOk-weaker}
-use Rattle.grid.specs.declared.fault.GridFault.TheVariants.{NoMemory, Down}
+use Rattle.grid.specs.declared.fault.GridFault.TheVariants.{NoMemory, Full, Down}
 use Rattle.chk_file.specs.Upload.{uploaded}
 use Rattle.web_ops.specs.Uploads.{as_directory}
 use Rattle.web_ops.specs.Replies.{cap_reply}
-use Rattle.web_ops.proofs.CarriedOut.{stored, stopped, down_tells, rose, unless}
+use Rattle.web_ops.proofs.CarriedOut.{stored, stopped, full_tells, down_tells, rose, unless}
 use Rattle.web_ops.proofs.storing.store.Goals as goal
+
+full_is_not_memory : (s : ℕ) → Full s ≡ NoMemory → ⊥
+full_is_not_memory s e = cc
 
 down_is_not_memory : (s : ℕ) → Down s ≡ NoMemory → ⊥
 down_is_not_memory s e = cc
@@ -16,6 +19,16 @@ returns-in-Ok-clause-done g c =
     stored (uploaded c.args.k c.args.n c.args.secret.now c.args.bytes.items) _ c.cap_reply.result c.args.grid.now c.upload.new.grid c.upload.ensures.leaves (subst AreBytes c.deref.ensures.value c.are_bytes.ensures) (λ few. (c.upload.ensures.short few).0)
     (IfOk-weaker c.cap_reply.result _ _ (λ reply is. is ∙ ap cap_reply (c.named-named.ensures ∙ ap (λ cap. cond c.args.directory (as_directory cap) cap) c.in-Ok.ensures.cap)) c.cap_reply.ensures)
     c.in-Ok.ensures.stored c.in-Ok.ensures.all_stand c.in-Ok.ensures.world
+
+pub returns-in-Err-Full-clause-done : goal.returns-in-Err-Full-clause-done
+returns-in-Err-Full-clause-done g c =
+    let was = c.in-Err-Full.is ∙ ap Err c.in-Err-Full.field-0-is in
+    stopped (uploaded c.args.k c.args.n c.args.secret.now c.args.bytes.items) _ c.store_full.result c.args.grid.now c.upload.new.grid c.upload.ensures.leaves (subst AreBytes c.deref.ensures.value c.are_bytes.ensures) (λ few. (c.upload.ensures.short few).0)
+    (IfOk-weaker c.store_full.result _ _ (λ reply is. inr (inl is)) c.store_full.ensures)
+    (IfOk-weaker c.store_full.result _ _ (λ reply is. full_tells _ _ reply _ _ is (c.upload.ensures.stops _ was)) c.store_full.ensures)
+    c.in-Err-Full.ensures.begun
+    (λ honest room calm. absurd (c.upload.ensures.never_full honest room _ was))
+    (λ few. absurd (full_is_not_memory _ (unless c.upload.result _ _ was (c.upload.ensures.short few).1)))
 
 pub returns-in-Err-Down-clause-done : goal.returns-in-Err-Down-clause-done
 returns-in-Err-Down-clause-done g c =
