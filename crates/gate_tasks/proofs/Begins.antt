@@ -10,12 +10,12 @@ use Rattle.chk_file.specs.World.{empty}
 use Rattle.gate_core.specs.Settings.{Settings}
 use Rattle.gate_core.specs.Items.{items}
 use Rattle.gate_core.specs.Held.{State, AreParameters}
-use Rattle.gate_core.specs.Came.{Came, Starts}
+use Rattle.gate_core.specs.Came.{Opening, Came, Starts}
 use Rattle.gate_core.specs.declared.fault.GatewayFault.{GatewayFault}
 use Rattle.gate_core.specs.declared.fault.GatewayFault.TheVariants.{BadParameters}
 use Rattle.gate_tasks.specs.Stores.{fresh}
 use Rattle.gate_tasks.specs.Script.{Step, is_refusal}
-use Rattle.gate_tasks.specs.Replies.{settings_by, opening_by, are_parameters, IsRestoreReply, IsTold}
+use Rattle.gate_tasks.specs.Replies.{settings_by, opening_by, are_parameters, IsOpenedBy, IsRestoreReply, IsTold}
 use Rattle.gate_tasks.specs.Running.{CameBy, IsAt, IsAnswer, Answered}
 use Rattle.gate_tasks.specs.declared.command.Command.TheVariants as command
 use Rattle.gate_tasks.specs.declared.command.Grid.{Grid}
@@ -38,7 +38,7 @@ are k n s l is = record {
 are_not : (k n s l : ℕ) → AreParameters k n s l → (nat_le 1 k && nat_le k n && nat_le n 256 && nat_le 1 s && nat_le s 256 && nat_le l 256) ≡ true
 are_not k n s l p = grind (arith, nat_tests, p.some_needed, p.enough, p.shares, p.some_server, p.servers_fit, p.secret_fits)
 
-sharing_of : (grid : Grid) → are_parameters grid ≡ true → IsSharing grid.k grid.n
+pub sharing_of : (grid : Grid) → are_parameters grid ≡ true → IsSharing grid.k grid.n
 sharing_of grid good =
     let p = are grid.k grid.n grid.servers (length grid.secret) good in
     record { some = p.some_needed; enough = p.enough; limit = p.shares }
@@ -97,9 +97,9 @@ begin_made log None grid g at set is starts good =
     let step : Step = record { command = command.Grid grid; reply = Done } in
     subst (λ l. IsAnswer l step (Some grid) (Some g)) (sym at) record {
       stands = refl;
-      told = record { made = ap (λ b. cond b Done (Refused BadParameters)) (sym good); restored = tt; replies = λ _. tt };
+      told = record { made = ap (λ b. cond b Done (Refused BadParameters)) (sym good); restored = tt; replies = λ opening is. tt };
       ends = refl;
-      at = λ _. (refl, record { settings = set; sharing = sharing_of grid good; calm = λ _ _. came_first grid g is starts });
+      at = λ _. (refl, record { settings = set; sharing = sharing_of grid good; calm = λ opening opened calm. subst (λ o. Came o g []) (sym opened) (came_first grid g is starts) });
     }
 begin_made log (Some was) grid g at set is starts good = absurd at
 
@@ -109,7 +109,7 @@ begin_refused log None after grid fault at is bad =
     let step : Step = record { command = command.Grid grid; reply = Refused fault } in
     subst (λ l. IsAnswer l step after None) (sym at) record {
       stands = refl;
-      told = record { made = ap Refused is ∙ ap (λ b. cond b Done (Refused BadParameters)) (sym bad); restored = tt; replies = λ _. tt };
+      told = record { made = ap Refused is ∙ ap (λ b. cond b Done (Refused BadParameters)) (sym bad); restored = tt; replies = λ opening is. tt };
       ends = refl;
       at = λ h. absurd cc;
     }
@@ -118,17 +118,17 @@ begin_refused log (Some was) after grid fault at is bad = absurd at
 -- ---- `restore`
 
 pub restored : (log : List Step) (grid : Grid) (gateway : Option State) (image : List ℕ) (g : State) → IsAt log (Some grid) gateway → IsTold log → g.settings ≡ settings_by grid → (image_said grid.servers image).fault ≡ None
-    → Answered log (command.Restore image) (Some Done) None (Some g)
-restored log grid None image g at told set sound = absurd at
-restored log grid (Some old) image g at told set sound =
+    → ((opening : Opening) → IsOpenedBy grid image opening → Came opening g []) → Answered log (command.Restore image) (Some Done) None (Some g)
+restored log grid None image g at told set sound came = absurd at
+restored log grid (Some old) image g at told set sound came =
     let step : Step = record { command = command.Restore image; reply = Done } in
     let first : IsTold (record { command = command.Grid grid; reply = Done } ∷ []) = subst IsTold at.0 told in
     let was : CameBy (record { command = command.Grid grid; reply = Done } ∷ []) old = subst (λ l. CameBy l old) at.0 at.1 in
     subst (λ l. IsAnswer l step None (Some g)) (sym at.0) record {
       stands = refl;
-      told = record { made = first.made; restored = record { done = λ _. sound; bad = λ place is. absurd cc }; replies = λ h. absurd cc };
+      told = record { made = first.made; restored = record { done = λ _. sound; bad = λ place is. absurd cc }; replies = λ opening opened. tt };
       ends = refl;
-      at = λ _. (omega arith, record { settings = set; sharing = was.sharing; calm = λ h _. absurd cc });
+      at = λ _. (omega arith, record { settings = set; sharing = was.sharing; calm = λ opening opened calm. came opening opened });
     }
 
 pub restore_refused : (log : List Step) (grid : Grid) (gateway : Option State) (image : List ℕ) (reply : Reply) → IsAt log (Some grid) gateway → IsTold log → is_refusal reply ≡ true → IsRestoreReply grid image reply
@@ -139,7 +139,7 @@ restore_refused log grid (Some old) image reply at told refusal cause =
     let first : IsTold (record { command = command.Grid grid; reply = Done } ∷ []) = subst IsTold at.0 told in
     subst (λ l. IsAnswer l step None None) (sym at.0) record {
       stands = refl;
-      told = record { made = first.made; restored = cause; replies = λ h. absurd cc };
+      told = record { made = first.made; restored = cause; replies = λ opening opened. tt };
       ends = refusal;
       at = λ h. absurd cc;
     }

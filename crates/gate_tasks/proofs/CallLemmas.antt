@@ -31,7 +31,7 @@ use Rattle.gate_core.specs.Held.{Held, State, held_at, waiting, waiting_in, open
 use Rattle.gate_core.specs.Lefts.{with_held, with_grid, opened, taken, ended}
 use Rattle.gate_core.specs.Came.{Opening, Came, CameAt, IsRoomy, GoesOn, stage_of}
 use Rattle.gate_core.specs.Served.{IsReceived}
-use Rattle.gate_tasks.specs.Replies.{settings_by, opening_by, is_going, unsaid, unsaid_of_kept, IsApart, first_of, opened_reply, IsTaken, world_by, at_server, IsImageAfter}
+use Rattle.gate_tasks.specs.Replies.{settings_by, is_going, unsaid, unsaid_of_kept, IsApart, first_of, opened_reply, IsTaken, world_by, at_server, IsImageAfter}
 use Rattle.gate_tasks.specs.Running.{IsCalled}
 use Rattle.gate_tasks.specs.declared.command.Command.TheVariants as command
 use Rattle.gate_tasks.specs.declared.command.Grid.{Grid}
@@ -58,12 +58,12 @@ pub open_called : (old new : State) (id : ℕ) (secret : Option (List ℕ)) (P :
     → GoesOn old new (Open id (unwrap_or secret old.settings.secret)) → IsCalled old new (command.Open id secret) Done
 open_called old new id secret P Q never answer left on = record {
   settings = ap (λ (s : State). s.settings) left;
-  told = λ grid events set sharing came.
+  told = λ grid opening events set sharing came.
       let n = length (unwrap_or secret []) in
       ap (λ b. cond b (Refused BadParameters) Done) (sym (short n (held_at old id) P Q never answer))
-      ∙ ap (λ b. cond b (Refused Known) (opened_reply secret)) (sym (unknown old.settings empty id n (held_at old id) events P Q never answer (came.each id)));
-  came = λ grid events set came calm.
-      subst (λ (s : Settings). Came (opening_by grid) new (events ++ Open id (unwrap_or secret s.secret) ∷ [])) set (on (opening_by grid) events came);
+      ∙ ap (λ b. cond b (Refused Known) (opened_reply secret)) (sym (unknown old.settings opening.world id n (held_at old id) events P Q never answer (came.each id)));
+  came = λ grid opening events set came calm.
+      subst (λ (s : Settings). Came opening new (events ++ Open id (unwrap_or secret s.secret) ∷ [])) set (on opening events came);
 }
 
 -- ---- `bytes` and `end`
@@ -89,8 +89,8 @@ end_called old new id P Q never answer left on =
     let h = open_held (held_at old id) P Q never answer in
     record {
       settings = ap (λ (s : State). s.settings) (left h.0 h.1);
-      told = λ grid events set sharing came. ap (λ b. cond b Done (Refused NotOpen)) (sym (going old.settings empty id (held_at old id) events P Q never answer (came.each id)));
-      came = λ grid events set came calm. on (opening_by grid) events came;
+      told = λ grid opening events set sharing came. ap (λ b. cond b Done (Refused NotOpen)) (sym (going old.settings opening.world id (held_at old id) events P Q never answer (came.each id)));
+      came = λ grid opening events set came calm. on opening events came;
     }
 
 pub bytes_called : (old new : State) (id : ℕ) (piece : List ℕ) (P : Type 0) (Q : GatewayFault → Type 0) → ((e : GatewayFault) → Q e → ⊥) → MatchOption (bytes_refusal (held_at old id)) P Q
@@ -101,9 +101,9 @@ bytes_called old new id piece P Q never answer received before after on =
     let h = open_held (held_at old id) P Q never answer in
     record {
       settings = (received h.0 h.1).settings;
-      told = λ grid events set sharing came. ap (λ b. cond b Done (Refused NotOpen)) (sym (going old.settings empty id (held_at old id) events P Q never answer (came.each id)));
-      came = λ grid events set came calm.
-          on (opening_by grid) events came (subst (λ (s : Settings). IsRoomy s (opening_by grid) (events ++ Bytes id piece ∷ [])) (sym set) calm) (λ s. after s ∙ sym (before s));
+      told = λ grid opening events set sharing came. ap (λ b. cond b Done (Refused NotOpen)) (sym (going old.settings opening.world id (held_at old id) events P Q never answer (came.each id)));
+      came = λ grid opening events set came calm.
+          on opening events came (subst (λ (s : Settings). IsRoomy s opening (events ++ Bytes id piece ∷ [])) (sym set) calm) (λ s. after s ∙ sym (before s));
     }
 
 -- ---- `take`
@@ -118,11 +118,11 @@ taken_held None P Q never answer = absurd (never NotOpen answer)
 taken_held (Some h) P Q never answer = (h, refl)
 
 -- what waits is what the caller was not given yet
-waits : (g : State) (grid : Grid) (events : List Event) (id : ℕ) (held : Option Held) (P : Type 0) (Q : GatewayFault → Type 0) → ((e : GatewayFault) → Q e → ⊥) → MatchOption (take_refusal held) P Q → held_at g id ≡ held
-    → g.settings ≡ settings_by grid → CameAt g.settings empty id held events → unsaid grid id events ≡ waiting g id
-waits g grid events id None P Q never answer is set at = absurd (never NotOpen answer)
-waits g grid events id (Some h) P Q never answer is set at =
-    ap (λ (s : Settings). drop (length (handed id events)) (said_by by_fit s id empty (items events))) (sym set)
+waits : (g : State) (grid : Grid) (opening : Opening) (events : List Event) (id : ℕ) (held : Option Held) (P : Type 0) (Q : GatewayFault → Type 0) → ((e : GatewayFault) → Q e → ⊥) → MatchOption (take_refusal held) P Q → held_at g id ≡ held
+    → g.settings ≡ settings_by grid → CameAt g.settings opening.world id held events → unsaid grid opening id events ≡ waiting g id
+waits g grid opening events id None P Q never answer is set at = absurd (never NotOpen answer)
+waits g grid opening events id (Some h) P Q never answer is set at =
+    ap (λ (s : Settings). drop (length (handed id events)) (said_by by_fit s id opening.world (items events))) (sym set)
     ∙ ap (drop (length (handed id events))) (sym at.out) ∙ drop-append_seam (handed id events) h.waiting
     ∙ ap waiting_in (sym is)
 
@@ -131,21 +131,22 @@ abbrev pub KeptIsVerified : Type 0
 KeptIsVerified = (settings : Settings) (callers : ℕ → Bool) (caller : ℕ) (past : List Entry) (w : World) (entries : List Entry) → callers caller ≡ true → IsProper settings entries → IsLeftBy settings past w → Apart settings callers past w entries
     → said settings caller w (kept settings callers w entries) ≡ said_by by_fit settings caller w entries
 
-nothing_past : (settings : Settings) → IsSharing settings.k settings.n → IsLeftBy settings [] empty
+-- nothing stands at first where no item was before
+pub nothing_past : (settings : Settings) → IsSharing settings.k settings.n → IsLeftBy settings [] empty
 nothing_past settings sharing = record { world = refl; proper = record { sharing = sharing; bytes = All-nil _ } }
 
-kept_unsaid : KeptIsVerified → (g : State) (grid : Grid) (events : List Event) (id : ℕ) → g.settings ≡ settings_by grid → IsSharing grid.k grid.n → Came (opening_by grid) g events → IsApart grid id events
-    → unsaid grid id events ≡ unsaid_of_kept grid id events
-kept_unsaid law g grid events id set sharing came apart =
+kept_unsaid : KeptIsVerified → (g : State) (grid : Grid) (opening : Opening) (events : List Event) (id : ℕ) → g.settings ≡ settings_by grid → IsSharing grid.k grid.n → Came opening g events → IsApart grid opening id events
+    → unsaid grid opening id events ≡ unsaid_of_kept grid opening id events
+kept_unsaid law g grid opening events id set sharing came apart =
     let ours : IsProper g.settings (items events) = record { sharing = subst (λ (s : Settings). IsSharing s.k s.n) (sym set) sharing; bytes = came.bytes } in
     let proper : IsProper (settings_by grid) (items events) = subst (λ s. IsProper s (items events)) set ours in
-    ap (drop (length (handed id events))) (sym (law (settings_by grid) (only id) id [] empty (items events) (eq-eqb id id refl) proper (nothing_past (settings_by grid) sharing) apart))
+    ap (drop (length (handed id events))) (sym (law (settings_by grid) (only id) id apart.past opening.world (items events) (eq-eqb id id refl) proper apart.left apart.apart))
 
-taken_reply : (g : State) (grid : Grid) (events : List Event) (id most : ℕ) (reply : Reply) → KeptIsVerified → g.settings ≡ settings_by grid → IsSharing grid.k grid.n → Came (opening_by grid) g events
-    → reply ≡ first_of id events most (unsaid grid id events) → IsTaken grid events id most reply
-taken_reply g grid events id most reply law set sharing came is = record {
+taken_reply : (g : State) (grid : Grid) (opening : Opening) (events : List Event) (id most : ℕ) (reply : Reply) → KeptIsVerified → g.settings ≡ settings_by grid → IsSharing grid.k grid.n → Came opening g events
+    → reply ≡ first_of id events most (unsaid grid opening id events) → IsTaken grid opening events id most reply
+taken_reply g grid opening events id most reply law set sharing came is = record {
   verified = is;
-  isolated = λ apart. is ∙ ap (first_of id events most) (kept_unsaid law g grid events id set sharing came apart);
+  isolated = λ apart. is ∙ ap (first_of id events most) (kept_unsaid law g grid opening events id set sharing came apart);
 }
 
 pub take_called : KeptIsVerified → (old new : State) (id most : ℕ) (given : List ℕ) (P : Type 0) (Q : GatewayFault → Type 0) → ((e : GatewayFault) → Q e → ⊥) → MatchOption (take_refusal (held_at old id)) P Q → given ≡ take most (waiting old id)
@@ -154,12 +155,12 @@ take_called law old new id most given P Q never answer is left on =
     let h = taken_held (held_at old id) P Q never answer in
     record {
       settings = ap (λ (s : State). s.settings) (left h.0 h.1);
-      told = λ grid events set sharing came.
-          let whole : Given given ≡ Given (take most (unsaid grid id events)) =
-          ap Given (is ∙ ap (take most) (sym (waits old grid events id (held_at old id) P Q never answer refl set (came.each id)))) in
-          taken_reply old grid events id most (Given given) law set sharing came
-          (whole ∙ ap (λ b. cond b (Given (take most (unsaid grid id events))) (Refused NotOpen)) (sym (known old.settings empty id (held_at old id) events P Q never answer (came.each id))));
-      came = λ grid events set came calm. on (opening_by grid) events came;
+      told = λ grid opening events set sharing came.
+          let whole : Given given ≡ Given (take most (unsaid grid opening id events)) =
+          ap Given (is ∙ ap (take most) (sym (waits old grid opening events id (held_at old id) P Q never answer refl set (came.each id)))) in
+          taken_reply old grid opening events id most (Given given) law set sharing came
+          (whole ∙ ap (λ b. cond b (Given (take most (unsaid grid opening id events))) (Refused NotOpen)) (sym (known old.settings opening.world id (held_at old id) events P Q never answer (came.each id))));
+      came = λ grid opening events set came calm. on opening events came;
     }
 
 -- ---- `lose` and `spoil`
@@ -173,11 +174,11 @@ there l servers server P is no_server never =
 not_there : (length_ servers server : ℕ) → length_ ≡ servers → length_ ≤ server → nat_lt server servers ≡ false
 not_there l servers server is h = grind (arith, nat_tests)
 
-looked : (g : State) (grid : Grid) (events : List Event) → g.settings ≡ settings_by grid → Came (opening_by grid) g events → stood g.grid ≡ shown (world_by grid events).marks
-looked g grid events set came = came.stores.stand ∙ ap (λ (s : Settings). shown (world_after s empty (items events)).marks) set
+looked : (g : State) (grid : Grid) (opening : Opening) (events : List Event) → g.settings ≡ settings_by grid → Came opening g events → stood g.grid ≡ shown (world_by grid opening events).marks
+looked g grid opening events set came = came.stores.stand ∙ ap (λ (s : Settings). shown (world_after s opening.world (items events)).marks) set
 
-servers_are : (g : State) (grid : Grid) (events : List Event) → g.settings ≡ settings_by grid → Came (opening_by grid) g events → length g.grid.stores ≡ grid.servers
-servers_are g grid events set came = came.servers ∙ ap (λ (s : Settings). s.servers) set
+servers_are : (g : State) (grid : Grid) (opening : Opening) (events : List Event) → g.settings ≡ settings_by grid → Came opening g events → length g.grid.stores ≡ grid.servers
+servers_are g grid opening events set came = came.servers ∙ ap (λ (s : Settings). s.servers) set
 
 no_down : (old new : GridState) (s : ℕ) → ((s : ℕ) → failures_at old s ≡ 0) → ((s : ℕ) → failures_at new s ≡ 0) → failures_at old s < failures_at new s → ⊥
 no_down old new s before after less = omega (arith, before s, after s, less)
@@ -186,12 +187,12 @@ pub lost_called : (old new : State) (share : Share) (lost : Bool) (P : Type 0) �
     → (IsHonest old.grid → lost ≡ is_some (stood old.grid share.server (share.index, share.number))) → GoesOn old new (Lose share.server (share.index, share.number)) → IsCalled old new (command.Lose share) (Answered lost)
 lost_called old new share lost P left no_server never is on = record {
   settings = ap (λ (s : State). s.settings) left;
-  told = λ grid events set sharing came.
+  told = λ grid opening events set sharing came.
       let key : ShareKey = (share.index, share.number) in
-      ap Answered (is came.stores.honest ∙ ap (λ st. is_some (st share.server key)) (looked old grid events set came))
-      ∙ ap (λ b. cond b (Answered (is_some (shown (world_by grid events).marks share.server key))) (GridRefused grid_fault.NoServer))
-      (sym (there (length old.grid.stores) grid.servers share.server P (servers_are old grid events set came) no_server never));
-  came = λ grid events set came calm. on (opening_by grid) events came;
+      ap Answered (is came.stores.honest ∙ ap (λ st. is_some (st share.server key)) (looked old grid opening events set came))
+      ∙ ap (λ b. cond b (Answered (is_some (shown (world_by grid opening events).marks share.server key))) (GridRefused grid_fault.NoServer))
+      (sym (there (length old.grid.stores) grid.servers share.server P (servers_are old grid opening events set came) no_server never));
+  came = λ grid opening events set came calm. on opening events came;
 }
 
 pub spoiled_called : (old new : State) (share : Share) (place : ℕ) (spoiled : Bool) (P : Type 0) → new ≡ with_grid old new.grid → (P ↔ (length old.grid.stores ≤ share.server)) → (P → ⊥)
@@ -199,12 +200,12 @@ pub spoiled_called : (old new : State) (share : Share) (place : ℕ) (spoiled : 
     → IsCalled old new (command.Spoil share place) (Answered spoiled)
 spoiled_called old new share place spoiled P left no_server never is on = record {
   settings = ap (λ (s : State). s.settings) left;
-  told = λ grid events set sharing came.
+  told = λ grid opening events set sharing came.
       let key : ShareKey = (share.index, share.number) in
-      ap Answered (is came.stores.honest ∙ ap (λ st. nat_lt place (length (unwrap_or (st share.server key) []))) (looked old grid events set came))
-      ∙ ap (λ b. cond b (Answered (nat_lt place (length (unwrap_or (shown (world_by grid events).marks share.server key) [])))) (GridRefused grid_fault.NoServer))
-      (sym (there (length old.grid.stores) grid.servers share.server P (servers_are old grid events set came) no_server never));
-  came = λ grid events set came calm. on (opening_by grid) events came;
+      ap Answered (is came.stores.honest ∙ ap (λ st. nat_lt place (length (unwrap_or (st share.server key) []))) (looked old grid opening events set came))
+      ∙ ap (λ b. cond b (Answered (nat_lt place (length (unwrap_or (shown (world_by grid opening events).marks share.server key) [])))) (GridRefused grid_fault.NoServer))
+      (sym (there (length old.grid.stores) grid.servers share.server P (servers_are old grid opening events set came) no_server never));
+  came = λ grid opening events set came calm. on opening events came;
 }
 
 -- the one refusal of a change in memory: there is no such server
@@ -224,55 +225,55 @@ module _ (old new : State) (share : Share) (fault : GridFault) (reply : Reply) (
   refusal : (fault ≡ grid_fault.NoServer) × (length old.grid.stores ≤ share.server)
   refusal = no_such old.grid new.grid share.server fault before after change known_ down no_server
 
-  refused_reply : (grid : Grid) (events : List Event) (answer : Bool) → old.settings ≡ settings_by grid → Came (opening_by grid) old events → reply ≡ at_server grid share.server answer
-  refused_reply grid events answer set came =
+  refused_reply : (grid : Grid) (opening : Opening) (events : List Event) (answer : Bool) → old.settings ≡ settings_by grid → Came opening old events → reply ≡ at_server grid share.server answer
+  refused_reply grid opening events answer set came =
       is ∙ ap GridRefused refusal.0
-      ∙ ap (λ b. cond b (Answered answer) (GridRefused grid_fault.NoServer)) (sym (not_there (length old.grid.stores) grid.servers share.server (servers_are old grid events set came) refusal.1))
+      ∙ ap (λ b. cond b (Answered answer) (GridRefused grid_fault.NoServer)) (sym (not_there (length old.grid.stores) grid.servers share.server (servers_are old grid opening events set came) refusal.1))
 
-  refused_came : (grid : Grid) (events : List Event) → Came (opening_by grid) old events → Came (opening_by grid) new (events ++ [])
-  refused_came grid events came = subst (Came (opening_by grid) new) (sym (append-nil events)) (on (opening_by grid) events came)
+  refused_came : (opening : Opening) (events : List Event) → Came opening old events → Came opening new (events ++ [])
+  refused_came opening events came = subst (Came opening new) (sym (append-nil events)) (on opening events came)
 
   pub lose_refused : IsCalled old new (command.Lose share) reply
   lose_refused = subst (IsCalled old new (command.Lose share)) (sym is) record {
     settings = ap (λ (s : State). s.settings) left;
-    told = λ grid events set sharing came. sym is ∙ refused_reply grid events _ set came;
-    came = λ grid events set came calm. refused_came grid events came;
+    told = λ grid opening events set sharing came. sym is ∙ refused_reply grid opening events _ set came;
+    came = λ grid opening events set came calm. refused_came opening events came;
   }
 
   pub spoil_refused : (place : ℕ) → IsCalled old new (command.Spoil share place) reply
   spoil_refused place = subst (IsCalled old new (command.Spoil share place)) (sym is) record {
     settings = ap (λ (s : State). s.settings) left;
-    told = λ grid events set sharing came. sym is ∙ refused_reply grid events _ set came;
-    came = λ grid events set came calm. refused_came grid events came;
+    told = λ grid opening events set sharing came. sym is ∙ refused_reply grid opening events _ set came;
+    came = λ grid opening events set came calm. refused_came opening events came;
   }
 
 -- ---- `image`
 
 image_of_what_stands : (g : State) (bytes : List ℕ) → (IsHonest g.grid → bytes ≡ image (length g.grid.stores) (rows_of (maps_of g.grid)))
-    → (grid : Grid) (events : List Event) → g.settings ≡ settings_by grid → Came (opening_by grid) g events → IsImageAfter grid events bytes
-image_of_what_stands g bytes is grid events set came =
-    let many : length g.grid.stores ≡ grid.servers = came.servers ∙ ap (λ (s : Settings). s.servers) set in
+    → (grid : Grid) (opening : Opening) (events : List Event) → g.settings ≡ settings_by grid → Came opening g events → IsImageAfter grid opening events bytes
+image_of_what_stands g bytes is grid opening events set came =
+    let many : length g.grid.stores ≡ grid.servers = servers_are g grid opening events set came in
     record {
       maps = maps_of g.grid;
       servers = length-map g.grid.stores (λ t. t.shares) ∙ many;
-      stand = came.stores.stand ∙ ap (λ s. shown (world_after s empty (items events)).marks) set;
+      stand = looked g grid opening events set came;
       is = is came.stores.honest ∙ ap (λ n. image n (rows_of (maps_of g.grid))) many;
     }
 
 module _ (old new : State) (left : new ≡ with_grid old new.grid) (on : (opening : Opening) (events : List Event) → Came opening old events → Came opening new events) where
-  stays : (grid : Grid) (events : List Event) → Came (opening_by grid) old events → Came (opening_by grid) new (events ++ [])
-  stays grid events came = subst (Came (opening_by grid) new) (sym (append-nil events)) (on (opening_by grid) events came)
+  stays : (opening : Opening) (events : List Event) → Came opening old events → Came opening new (events ++ [])
+  stays opening events came = subst (Came opening new) (sym (append-nil events)) (on opening events came)
 
   pub imaged : (bytes : List ℕ) → (IsHonest old.grid → bytes ≡ image (length old.grid.stores) (rows_of (maps_of old.grid))) → IsCalled old new command.Image (Imaged bytes)
   imaged bytes is = record {
     settings = ap (λ (s : State). s.settings) left;
-    told = λ grid events set sharing came. inl (bytes, refl, image_of_what_stands old bytes is grid events set came);
-    came = λ grid events set came calm. stays grid events came;
+    told = λ grid opening events set sharing came. inl (bytes, refl, image_of_what_stands old bytes is grid opening events set came);
+    came = λ grid opening events set came calm. stays opening events came;
   }
 
-  pub image_refused : (fault : GridFault) (reply : Reply) → reply ≡ GridRefused fault → IsCalled old new command.Image reply
-  image_refused fault reply is = subst (IsCalled old new command.Image) (sym is) record {
+  pub image_refused : (place : ℕ) → IsCalled old new command.Image (GridRefused (grid_fault.BadImage place))
+  image_refused place = record {
     settings = ap (λ (s : State). s.settings) left;
-    told = λ grid events set sharing came. inr (fault, refl);
-    came = λ grid events set came calm. stays grid events came;
+    told = λ grid opening events set sharing came. inr (place, refl);
+    came = λ grid opening events set came calm. stays opening events came;
   }

@@ -6,6 +6,7 @@ pub mod Asks
 pub mod LineLists
 pub mod StoreLists
 pub mod Begins
+pub mod Restores
 pub mod Turning
 pub mod Steps
 pub mod CallLemmas

@@ -1,5 +1,5 @@
 -- Steps that are answered.
-use Rattle.std.proofs.Common.{◌≡◌, ℕ, ◌≤◌, List, [], ◌∷◌, ◌++◌, length, Bool, true, false, Option, Some, None, refl, sym, ap, subst, ◌∙◌, append_assoc, length-append, arith}
+use Rattle.std.proofs.Common.{◌≡◌, ℕ, ◌≤◌, List, [], ◌∷◌, ◌++◌, length, Bool, true, false, cond, Option, Some, None, refl, sym, ap, subst, ◌∙◌, append_assoc, length-append, arith}
 use Rattle.std.specs.Prelude.{◌&&◌, not}
 use Rattle.std.proofs.lemmas.List.{append-nil}
 use Rattle.chk_file.specs.World.{World}
@@ -9,9 +9,9 @@ use Rattle.gate_core.specs.Items.{Entry, items, items_after, completed}
 use Rattle.gate_core.specs.Runs.{after_entry}
 use Rattle.gate_core.specs.Rooms.{Rooms, room_after, HasRoomFor}
 use Rattle.gate_core.specs.Held.{State}
-use Rattle.gate_core.specs.Came.{Came}
+use Rattle.gate_core.specs.Came.{Opening, Came}
 use Rattle.gate_tasks.specs.Script.{Step, is_grid, is_restore, is_call, may_stand, ends_run}
-use Rattle.gate_tasks.specs.Replies.{settings_by, opening_by, IsCalm, IsReply, event_by, events_of, AreReplies, restores, IsFirstReply, BeginsWell, IsToldAfter, IsToldFrom, IsTold}
+use Rattle.gate_tasks.specs.Replies.{settings_by, opening_by, IsOpenedWith, IsOpening, IsCalm, IsReply, event_by, events_of, calls_in, AreReplies, IsFirstReply, BeginsWell, IsToldAfter, IsToldFrom, IsTold}
 use Rattle.gate_tasks.specs.Running.{CameAfter, CameFrom, CameBy, IsAt, IsCalled, Answered}
 use Rattle.gate_tasks.specs.declared.command.Command.{Command}
 use Rattle.gate_tasks.specs.declared.command.Command.TheVariants as command
@@ -25,12 +25,12 @@ events_more grid [] step = append-nil (event_by grid step.command step.reply)
 events_more grid (first ∷ log) step =
     ap (λ e. event_by grid first.command first.reply ++ e) (events_more grid log step) ∙ sym (append_assoc (event_by grid first.command first.reply) (events_of grid log) (event_by grid step.command step.reply))
 
-replies_more : (grid : Grid) (events : List Event) (log : List Step) (step : Step) → AreReplies grid events log → (IsCalm grid (events ++ events_of grid log) → IsReply grid (events ++ events_of grid log) step.command step.reply)
-    → AreReplies grid events (log ++ step ∷ [])
-replies_more grid events [] step told reply = (subst (λ e. IsCalm grid e → IsReply grid e step.command step.reply) (append-nil events) reply, tt)
-replies_more grid events (first ∷ log) step told reply =
+replies_more : (grid : Grid) (opening : Opening) (events : List Event) (log : List Step) (step : Step) → AreReplies grid opening events log
+    → (IsCalm grid opening (events ++ events_of grid log) → IsReply grid opening (events ++ events_of grid log) step.command step.reply) → AreReplies grid opening events (log ++ step ∷ [])
+replies_more grid opening events [] step told reply = (subst (λ e. IsCalm grid opening e → IsReply grid opening e step.command step.reply) (append-nil events) reply, tt)
+replies_more grid opening events (first ∷ log) step told reply =
     let e = event_by grid first.command first.reply in
-    (told.0, replies_more grid (events ++ e) log step told.1 (subst (λ l. IsCalm grid l → IsReply grid l step.command step.reply) (sym (append_assoc events e (events_of grid log))) reply))
+    (told.0, replies_more grid opening (events ++ e) log step told.1 (subst (λ l. IsCalm grid opening l → IsReply grid opening l step.command step.reply) (sym (append_assoc events e (events_of grid log))) reply))
 
 -- ---- room for a beginning
 
@@ -44,12 +44,12 @@ items_first before (e ∷ events) more =
     let rest = items_first (before ++ e ∷ []) events more in
     (rest.0, ap (λ l. completed before e ++ l) rest.1 ∙ sym (append_assoc (completed before e) (items_after (before ++ e ∷ []) events) rest.0))
 
-pub calm_first : (grid : Grid) (events more : List Event) → IsCalm grid (events ++ more) → IsCalm grid events
+pub calm_first : (grid : Grid) (opening : Opening) (events more : List Event) → IsCalm grid opening (events ++ more) → IsCalm grid opening events
 unfolding items
-calm_first grid events more calm =
+calm_first grid opening events more calm =
     let rest = items_first [] events more in
-    room_first (settings_by grid) (opening_by grid).world (opening_by grid).rooms (items_after [] events) rest.0
-    (subst (HasRoomFor (settings_by grid) (opening_by grid).world (opening_by grid).rooms) rest.1 calm)
+    room_first (settings_by grid) opening.world opening.rooms (items_after [] events) rest.0
+    (subst (HasRoomFor (settings_by grid) opening.world opening.rooms) rest.1 calm)
 
 -- ---- where commands may stand
 
@@ -95,9 +95,32 @@ goes_on (command.Lose share) reply is = refl
 goes_on (command.Spoil share place) reply is = refl
 goes_on command.Image reply is = refl
 
-restores_same : (log : List Step) (step : Step) → is_restore step.command ≡ false → restores (log ++ step ∷ []) ≡ restores log
-restores_same [] step is = is
-restores_same (first ∷ log) step is = refl
+-- ---- calls and what stands before them
+
+-- a call is the last of them
+after_first : (restores : Bool) (first : Step) (log : List Step) (step : Step) → cond restores (log ++ step ∷ []) (first ∷ (log ++ step ∷ [])) ≡ cond restores log (first ∷ log) ++ step ∷ []
+after_first true first log step = refl
+after_first false first log step = refl
+
+calls_more : (log : List Step) (step : Step) → is_restore step.command ≡ false → calls_in (log ++ step ∷ []) ≡ calls_in log ++ step ∷ []
+calls_more [] step other = ap (λ b. cond b [] (step ∷ [])) other
+calls_more (first ∷ log) step other = after_first (is_restore first.command) first log step
+
+-- and with it the same stands before them
+opened_with : (grid : Grid) (asked : Command) (opening : Opening) → is_restore asked ≡ false → IsOpenedWith grid asked opening → opening ≡ opening_by grid
+opened_with grid (command.Grid other) opening no_restore opened = opened
+opened_with grid (command.Restore image) opening no_restore opened = absurd cc
+opened_with grid (command.Open id secret) opening no_restore opened = opened
+opened_with grid (command.Bytes id piece) opening no_restore opened = opened
+opened_with grid (command.End id) opening no_restore opened = opened
+opened_with grid (command.Take id most) opening no_restore opened = opened
+opened_with grid (command.Lose share) opening no_restore opened = opened
+opened_with grid (command.Spoil share place) opening no_restore opened = opened
+opened_with grid command.Image opening no_restore opened = opened
+
+opening_same : (grid : Grid) (log : List Step) (step : Step) (opening : Opening) → is_restore step.command ≡ false → IsOpening grid (log ++ step ∷ []) opening → IsOpening grid log opening
+opening_same grid [] step opening other opened = opened_with grid step.command opening other opened
+opening_same grid (first ∷ log) step opening other opened = opened
 
 -- ---- a call after these steps
 
@@ -122,20 +145,22 @@ told_after : (grid : Grid) (reply : Reply) (log : List Step) (old new : State) (
 told_after grid reply log old new step other told came called = record {
   made = told.made;
   restored = begins_more grid log step other told.restored;
-  replies = λ none.
-      let same = sym (restores_same log step other) ∙ none in
-      replies_more grid [] log step (told.replies same) (λ calm. called.told grid (events_of grid log) came.settings came.sharing (came.calm same calm));
+  replies = λ opening opened.
+      let same = opening_same grid log step opening other opened in
+      subst (AreReplies grid opening []) (sym (calls_more log step other))
+      (replies_more grid opening [] (calls_in log) step (told.replies opening same) (λ calm. called.told grid opening (events_of grid (calls_in log)) came.settings came.sharing (came.calm opening same calm)));
 }
 
 came_after : (grid : Grid) (log : List Step) (old new : State) (step : Step) → is_restore step.command ≡ false → CameAfter grid log old → IsCalled old new step.command step.reply → CameAfter grid (log ++ step ∷ []) new
 came_after grid log old new step other came called = record {
   settings = called.settings ∙ came.settings;
   sharing = came.sharing;
-  calm = λ none calm.
-      let same = sym (restores_same log step other) ∙ none in
-      let all = subst (IsCalm grid) (events_more grid log step) calm in
-      let first = calm_first grid (events_of grid log) (event_by grid step.command step.reply) all in
-      subst (Came (opening_by grid) new) (sym (events_more grid log step)) (called.came grid (events_of grid log) came.settings (came.calm same first) all);
+  calm = λ opening opened calm.
+      let same = opening_same grid log step opening other opened in
+      let more : events_of grid (calls_in (log ++ step ∷ [])) ≡ events_of grid (calls_in log) ++ event_by grid step.command step.reply = ap (events_of grid) (calls_more log step other) ∙ events_more grid (calls_in log) step in
+      let all = subst (IsCalm grid opening) more calm in
+      let first = calm_first grid opening (events_of grid (calls_in log)) (event_by grid step.command step.reply) all in
+      subst (Came opening new) (sym more) (called.came grid opening (events_of grid (calls_in log)) came.settings (came.calm opening same first) all);
 }
 
 told_from : (asked : Command) (reply : Reply) (log : List Step) (old new : State) (step : Step) → is_restore step.command ≡ false → IsToldFrom asked reply log → CameFrom asked log old → IsCalled old new step.command step.reply

@@ -1,9 +1,8 @@
 -- Which replies commands get, by what was called before.
-use Rattle.std.specs.Prelude.{◌≡◌, ℕ, ◌&&◌, not, nat_le, nat_lt, ◌⊎◌, List, [], ◌∷◌, ◌++◌, length, take, drop, ⊤, Bool, false, is_some, unwrap_or, if◌then◌else◌, Option, Some, None}
-use Rattle.grid.specs.declared.fault.GridFault.{GridFault}
+use Rattle.std.specs.Prelude.{◌≡◌, ℕ, ◌+◌, ◌&&◌, not, nat_le, nat_lt, ◌⊎◌, List, [], ◌∷◌, ◌++◌, length, take, drop, ⊤, Bool, is_some, unwrap_or, if◌then◌else◌, Option, Some, None}
 use Rattle.grid.specs.declared.fault.GridFault.TheVariants.{NoServer, BadImage}
-use Rattle.share_store.specs.Shares.{Shares}
-use Rattle.grid.specs.Standing.{standing}
+use Rattle.share_store.specs.Shares.{Shares, bytes_of as size_of}
+use Rattle.grid.specs.Standing.{standing, at_server as in_store}
 use Rattle.grid.specs.Rows.{rows_of}
 use Rattle.grid.specs.Image.{image}
 use Rattle.grid.specs.ImageReading.{image_said}
@@ -12,9 +11,10 @@ use Rattle.chk_file.specs.World.{World, empty}
 use Rattle.chk_file.specs.Look.{by_fit}
 use Rattle.gate_core.specs.Settings.{Settings}
 use Rattle.gate_core.specs.Events.{Event, Open, Bytes, End, Take, Lose, Spoil, is_known, has_ended, handed}
-use Rattle.gate_core.specs.Items.{items}
+use Rattle.gate_core.specs.Items.{Entry, items}
 use Rattle.gate_core.specs.Runs.{world_after, said_by, said}
 use Rattle.gate_core.specs.Reach.{only, kept}
+use Rattle.gate_core.specs.Uploaded.{IsLeftBy}
 use Rattle.gate_core.specs.Apart.{Apart}
 use Rattle.gate_core.specs.Came.{Opening, IsRoomy}
 use Rattle.gate_core.specs.declared.fault.GatewayFault.TheVariants.{Known, NotOpen, BadParameters}
@@ -35,20 +35,34 @@ settings_by grid = record { k = grid.k; n = grid.n; secret = grid.secret; server
 abbrev pub are_parameters : Grid → Bool
 are_parameters grid = nat_le 1 grid.k && nat_le grid.k grid.n && nat_le grid.n 256 && nat_le 1 grid.servers && nat_le grid.servers 256 && nat_le (length grid.secret) 256
 
--- what stands at first: nothing, and each store has ROOM
+-- nothing stands, and each store has ROOM
 abbrev pub room_of : Grid → ℕ → ℕ
 room_of grid server = if nat_lt server grid.servers then grid.room else 0
 
 abbrev pub opening_by : Grid → Opening
 opening_by grid = record { world = empty; rooms = room_of grid }
 
+-- An image brought what stands: it is that of stores, one for each server, in which stands what stands in this world, and of
+-- each store the room that is left and the bytes that stand there are together ROOM.
+pub record IsOpenedBy (grid : Grid) (bytes : List ℕ) (opening : Opening) : Type 0 where
+  pub maps : List Shares
+  pub servers : length maps ≡ grid.servers
+  pub stand : standing maps ≡ shown opening.world.marks
+  pub rows : rows_of maps ≡ (image_said grid.servers bytes).rows
+  pub room : (server : ℕ) → opening.rooms server + in_store size_of maps server ≡ room_of grid server
+
+-- what stands before the first call, where this is the command after `grid`
+abbrev pub IsOpenedWith : Grid → Command → Opening → Type 0
+IsOpenedWith grid (command.Restore bytes) opening = IsOpenedBy grid bytes opening
+IsOpenedWith grid _ opening = opening ≡ opening_by grid
+
 -- the stores have the room for what these calls bring
-abbrev pub IsCalm : Grid → List Event → Type 0
-IsCalm grid events = IsRoomy (settings_by grid) (opening_by grid) events
+abbrev pub IsCalm : Grid → Opening → List Event → Type 0
+IsCalm grid opening events = IsRoomy (settings_by grid) opening events
 
 -- what stands after these calls
-abbrev pub world_by : Grid → List Event → World
-world_by grid events = world_after (settings_by grid) empty (items events)
+abbrev pub world_by : Grid → Opening → List Event → World
+world_by grid opening events = world_after (settings_by grid) opening.world (items events)
 
 -- ---- replies
 
@@ -57,16 +71,19 @@ abbrev pub is_going : ℕ → List Event → Bool
 is_going id events = is_known id events && not (has_ended id events)
 
 -- what a caller is to be told and was not given yet, where caps give what verification finds
-abbrev pub unsaid : Grid → ℕ → List Event → List ℕ
-unsaid grid id events = drop (length (handed id events)) (said_by by_fit (settings_by grid) id empty (items events))
+abbrev pub unsaid : Grid → Opening → ℕ → List Event → List ℕ
+unsaid grid opening id events = drop (length (handed id events)) (said_by by_fit (settings_by grid) id opening.world (items events))
 
 -- what of the written answers to the items that are kept for a caller it was not given yet
-abbrev pub unsaid_of_kept : Grid → ℕ → List Event → List ℕ
-unsaid_of_kept grid id events = drop (length (handed id events)) (said (settings_by grid) id empty (kept (settings_by grid) (only id) empty (items events)))
+abbrev pub unsaid_of_kept : Grid → Opening → ℕ → List Event → List ℕ
+unsaid_of_kept grid opening id events =
+    drop (length (handed id events)) (said (settings_by grid) id opening.world (kept (settings_by grid) (only id) opening.world (items events)))
 
--- no two strings collide that are hashed in this caller's part
-abbrev pub IsApart : Grid → ℕ → List Event → Type 0
-IsApart grid id events = Apart (settings_by grid) (only id) [] empty (items events)
+-- the items of a run left what stood at first, and no two strings collide that are hashed in this caller's part
+pub record IsApart (grid : Grid) (opening : Opening) (id : ℕ) (events : List Event) : Type 0 where
+  pub past : List Entry
+  pub left : IsLeftBy (settings_by grid) past opening.world
+  pub apart : Apart (settings_by grid) (only id) past opening.world (items events)
 
 -- the first of these bytes, where the connection was opened
 abbrev pub first_of : ℕ → List Event → ℕ → List ℕ → Reply
@@ -75,42 +92,43 @@ first_of id events most bytes = if is_known id events then Given (take most byte
 -- The reply to `take` has the next bytes that its caller is to be told: what verification finds in the whole run, and where
 -- no two strings of this caller's part collide what the written answers say when the requests of others are dropped, save
 -- uploads under a storage index that it met.
-pub record IsTaken (grid : Grid) (events : List Event) (id most : ℕ) (reply : Reply) : Type 0 where
-  pub verified : reply ≡ first_of id events most (unsaid grid id events)
-  pub isolated : IsApart grid id events → reply ≡ first_of id events most (unsaid_of_kept grid id events)
+pub record IsTaken (grid : Grid) (opening : Opening) (events : List Event) (id most : ℕ) (reply : Reply) : Type 0 where
+  pub verified : reply ≡ first_of id events most (unsaid grid opening id events)
+  pub isolated : IsApart grid opening id events → reply ≡ first_of id events most (unsaid_of_kept grid opening id events)
 
 -- at a server that there is
 abbrev pub at_server : Grid → ℕ → Bool → Reply
 at_server grid server answer = if nat_lt server grid.servers then Answered answer else GridRefused NoServer
 
 -- these bytes are the image of stores, one for each server, in which stands what stands after these calls
-pub record IsImageAfter (grid : Grid) (events : List Event) (bytes : List ℕ) : Type 0 where
+pub record IsImageAfter (grid : Grid) (opening : Opening) (events : List Event) (bytes : List ℕ) : Type 0 where
   pub maps : List Shares
   pub servers : length maps ≡ grid.servers
-  pub stand : standing maps ≡ shown (world_by grid events).marks
+  pub stand : standing maps ≡ shown (world_by grid opening events).marks
   pub is : bytes ≡ image grid.servers (rows_of maps)
 
--- an image of what stands, or why it can't be written
-abbrev pub IsImageReply : Grid → List Event → Reply → Type 0
-IsImageReply grid events reply = ((bytes : List ℕ) × (reply ≡ Imaged bytes) × IsImageAfter grid events bytes) ⊎ ((fault : GridFault) × (reply ≡ GridRefused fault))
+-- an image of what stands, or `BadImage`: nothing else keeps it from being written
+abbrev pub IsImageReply : Grid → Opening → List Event → Reply → Type 0
+IsImageReply grid opening events reply =
+    ((bytes : List ℕ) × (reply ≡ Imaged bytes) × IsImageAfter grid opening events bytes) ⊎ ((place : ℕ) × (reply ≡ GridRefused (BadImage place)))
 
 -- why a secret is not taken: it is too long
 abbrev pub opened_reply : Option (List ℕ) → Reply
 opened_reply secret = if nat_lt 256 (length (unwrap_or secret [])) then Refused BadParameters else Done
 
 -- the reply to a command after these calls
-abbrev pub IsReply : Grid → List Event → Command → Reply → Type 0
-IsReply grid events (command.Grid other) reply = ⊥
-IsReply grid events (command.Restore image) reply = ⊥
-IsReply grid events (command.Open id secret) reply = reply ≡ (if is_known id events then Refused Known else opened_reply secret)
-IsReply grid events (command.Bytes id piece) reply = reply ≡ (if is_going id events then Done else Refused NotOpen)
-IsReply grid events (command.End id) reply = reply ≡ (if is_going id events then Done else Refused NotOpen)
-IsReply grid events (command.Take id most) reply = IsTaken grid events id most reply
-IsReply grid events (command.Lose share) reply =
-    reply ≡ at_server grid share.server (is_some (shown (world_by grid events).marks share.server (share.index, share.number)))
-IsReply grid events (command.Spoil share place) reply =
-    reply ≡ at_server grid share.server (nat_lt place (length (unwrap_or (shown (world_by grid events).marks share.server (share.index, share.number)) [])))
-IsReply grid events command.Image reply = IsImageReply grid events reply
+abbrev pub IsReply : Grid → Opening → List Event → Command → Reply → Type 0
+IsReply grid opening events (command.Grid other) reply = ⊥
+IsReply grid opening events (command.Restore image) reply = ⊥
+IsReply grid opening events (command.Open id secret) reply = reply ≡ (if is_known id events then Refused Known else opened_reply secret)
+IsReply grid opening events (command.Bytes id piece) reply = reply ≡ (if is_going id events then Done else Refused NotOpen)
+IsReply grid opening events (command.End id) reply = reply ≡ (if is_going id events then Done else Refused NotOpen)
+IsReply grid opening events (command.Take id most) reply = IsTaken grid opening events id most reply
+IsReply grid opening events (command.Lose share) reply =
+    reply ≡ at_server grid share.server (is_some (shown (world_by grid opening events).marks share.server (share.index, share.number)))
+IsReply grid opening events (command.Spoil share place) reply =
+    reply ≡ at_server grid share.server (nat_lt place (length (unwrap_or (shown (world_by grid opening events).marks share.server (share.index, share.number)) [])))
+IsReply grid opening events command.Image reply = IsImageReply grid opening events reply
 
 -- the call of a command that gave these bytes: a connection without a secret of its own takes the gateway's
 abbrev pub event_of : Grid → Command → List ℕ → List Event
@@ -139,9 +157,10 @@ events_of grid (step ∷ log) = event_by grid step.command step.reply ++ events_
 
 -- Each step, after these calls, is answered as the calls so far say, where the stores have the room for what those
 -- bring. What this step and later ones bring is no premise of its reply.
-abbrev pub AreReplies : Grid → List Event → List Step → Type 0
-AreReplies grid events [] = ⊤
-AreReplies grid events (step ∷ log) = (IsCalm grid events → IsReply grid events step.command step.reply) × AreReplies grid (events ++ event_by grid step.command step.reply) log
+abbrev pub AreReplies : Grid → Opening → List Event → List Step → Type 0
+AreReplies grid opening events [] = ⊤
+AreReplies grid opening events (step ∷ log) =
+    (IsCalm grid opening events → IsReply grid opening events step.command step.reply) × AreReplies grid opening (events ++ event_by grid step.command step.reply) log
 
 -- ---- all steps
 
@@ -160,17 +179,22 @@ abbrev pub BeginsWell : Grid → List Step → Type 0
 BeginsWell grid [] = ⊤
 BeginsWell grid (step ∷ log) = IsFirstReply grid step.command step.reply
 
--- whether an image is restored
-abbrev pub restores : List Step → Bool
-restores [] = false
-restores (step ∷ log) = is_restore step.command
+-- what stands before the first call, after `grid` and what follows it
+abbrev pub IsOpening : Grid → List Step → Opening → Type 0
+IsOpening grid [] opening = opening ≡ opening_by grid
+IsOpening grid (step ∷ log) opening = IsOpenedWith grid step.command opening
 
--- After the line `grid` and its answer: an image is restored or called bad for cause, and where none is restored the
--- written answers decide each reply before which the stores had the room.
+-- the steps after `grid` that are calls: all, or all but the first where it restores an image
+abbrev pub calls_in : List Step → List Step
+calls_in [] = []
+calls_in (step ∷ log) = if is_restore step.command then log else step ∷ log
+
+-- After the line `grid` and its answer: an image is restored or called bad for cause, and from what stands then, be it nothing
+-- or what the image brought, the written answers decide each reply before which the stores had the room.
 pub record IsToldAfter (grid : Grid) (reply : Reply) (log : List Step) : Type 0 where
   pub made : reply ≡ (if are_parameters grid then Done else Refused BadParameters)
   pub restored : BeginsWell grid log
-  pub replies : restores log ≡ false → AreReplies grid [] log
+  pub replies : (opening : Opening) → IsOpening grid log opening → AreReplies grid opening [] (calls_in log)
 
 abbrev pub IsToldFrom : Command → Reply → List Step → Type 0
 IsToldFrom (command.Grid grid) reply log = IsToldAfter grid reply log

@@ -6,11 +6,11 @@ use Rattle.octets.specs.Sharing.{IsSharing}
 use Rattle.octets.specs.Written.{WritesBeginning}
 use Rattle.gate_core.specs.Events.{Event}
 use Rattle.gate_core.specs.Held.{State}
-use Rattle.gate_core.specs.Came.{Came}
+use Rattle.gate_core.specs.Came.{Opening, Came}
 use Rattle.gate_tasks.specs.Command.{command_of}
 use Rattle.gate_tasks.specs.Lines.{LacksLf}
 use Rattle.gate_tasks.specs.Script.{Step, End, Ended, Stopped, may_stand, allowed, ends_run, answer_text, written_by}
-use Rattle.gate_tasks.specs.Replies.{settings_by, opening_by, IsCalm, IsReply, event_by, events_of, restores, IsTold}
+use Rattle.gate_tasks.specs.Replies.{settings_by, IsOpening, IsCalm, IsReply, event_by, events_of, calls_in, IsTold}
 use Rattle.gate_tasks.specs.declared.command.Command.{Command}
 use Rattle.gate_tasks.specs.declared.command.Command.TheVariants as command
 use Rattle.gate_tasks.specs.declared.command.Grid.{Grid}
@@ -21,12 +21,11 @@ use Rattle.gate_tasks.specs.declared.fault.ScriptFault.TheVariants.{BadLine, Rea
 
 -- ---- where a run is
 
--- The gateway was set up so, any k of its n shares are enough, and it came from these calls where no image was restored and
--- the stores have the room.
+-- The gateway was set up so, any k of its n shares are enough, and it came from these calls where the stores have the room.
 pub record CameAfter (grid : Grid) (log : List Step) (g : State) : Type 0 where
   pub settings : g.settings ≡ settings_by grid
   pub sharing : IsSharing grid.k grid.n
-  pub calm : restores log ≡ false → IsCalm grid (events_of grid log) → Came (opening_by grid) g (events_of grid log)
+  pub calm : (opening : Opening) → IsOpening grid log opening → IsCalm grid opening (events_of grid (calls_in log)) → Came opening g (events_of grid (calls_in log))
 
 abbrev pub CameFrom : Command → List Step → State → Type 0
 CameFrom (command.Grid grid) log g = CameAfter grid log g
@@ -46,9 +45,9 @@ IsAt log (Some grid) (Some g) = (log ≡ record { command = command.Grid grid; r
 -- a call that a command asks for was made, with this reply
 pub record IsCalled (old new : State) (asked : Command) (reply : Reply) : Type 0 where
   pub settings : new.settings ≡ old.settings
-  pub told : (grid : Grid) (events : List Event) → old.settings ≡ settings_by grid → IsSharing grid.k grid.n → Came (opening_by grid) old events → IsReply grid events asked reply
-  pub came : (grid : Grid) (events : List Event) → old.settings ≡ settings_by grid → Came (opening_by grid) old events → IsCalm grid (events ++ event_by grid asked reply)
-      → Came (opening_by grid) new (events ++ event_by grid asked reply)
+  pub told : (grid : Grid) (opening : Opening) (events : List Event) → old.settings ≡ settings_by grid → IsSharing grid.k grid.n → Came opening old events → IsReply grid opening events asked reply
+  pub came : (grid : Grid) (opening : Opening) (events : List Event) → old.settings ≡ settings_by grid → Came opening old events → IsCalm grid opening (events ++ event_by grid asked reply)
+      → Came opening new (events ++ event_by grid asked reply)
 
 -- what a step leads to
 pub record IsAnswer (log : List Step) (step : Step) (grid : Option Grid) (gateway : Option State) : Type 0 where

@@ -1,5 +1,6 @@
 //! The calls of a gateway that commands ask for.
-ghost use Rattle.std.specs.Prelude.{◌≡◌, IfOk, true, option_copied};
+ghost use Rattle.std.specs.Prelude.{◌≡◌, ℕ, IfOk, true, option_copied};
+ghost use Rattle.grid.specs.GridState.{held_at, size_at};
 ghost use Rattle.gate_tasks.specs.Running.{IsCalled};
 ghost use Rattle.gate_tasks.specs.Script.{is_call};
 
@@ -13,6 +14,13 @@ use std::alloc::{AllocError, Global};
 
 /// A gateway over stores in memory.
 pub type MemGateway = Gateway<MemStore>;
+
+/// A law and no more: stores in memory hold the bytes of what stands in them.
+pub fn held_is_what_stands(gateway: &MemGateway)
+    ensures { (s : ℕ) → held_at gateway.now.grid s ≡ size_at gateway.now.grid s }
+{
+    let _servers = gateway.servers();
+}
 
 /// Makes the call that a command asks for.
 pub fn call(alloc: Global, gateway: &mut MemGateway, command: &Command) -> Result<Reply, AllocError>
@@ -110,14 +118,14 @@ fn spoil(gateway: &mut MemGateway, share: &Share, place: u64) -> Result<Reply, A
     }
 }
 
-/// A writer in memory that stops has no memory.
 fn image(alloc: Global, gateway: &mut MemGateway) -> Result<Reply, AllocError>
     ensures { IfOk result (λ reply. IsCalled gateway.old gateway.new Command.Image reply) }
 {
     let mut image = Vec::new(alloc);
     match gateway.image(&mut image) {
         Ok(()) => Ok(Reply::Imaged(Bytes::from_vec(image))),
-        Err(GridFault::WriteFailed) => Err(AllocError),
-        Err(fault) => Reply::grid_refused(fault),
+        Err(GridFault::BadImage(place)) => Ok(Reply::GridRefused(GridFault::BadImage(place))),
+        // No store in memory fails, and a writer in memory that stops has no memory.
+        Err(_) => Err(AllocError),
     }
 }

@@ -1,6 +1,17 @@
 //! What holds of the words in which scripts are defined.
-ghost use Rattle.std.specs.Prelude.{◌≡◌, ◌<◌, ℕ, List, All, Some};
+ghost use Rattle.std.specs.Prelude.{◌≡◌, ◌<◌, ◌+◌, ℕ, List, [], All, Some, true};
 ghost use Rattle.std.specs.List.{flat_map};
+ghost use Rattle.share_store.specs.Shares.{bytes_of};
+ghost use Rattle.grid.specs.Standing.{at_server};
+ghost use Rattle.grid.specs.Rows.{rows_of};
+ghost use Rattle.grid.specs.ImageLaws.{CanBeWritten};
+ghost use Rattle.grid.specs.declared.image_layout.Layout.TheVariants.{VersionTwo};
+ghost use Rattle.gate_core.specs.Events.{Event};
+ghost use Rattle.gate_core.specs.Rooms.{Rooms};
+ghost use Rattle.gate_core.specs.Came.{Opening};
+ghost use Rattle.gate_core.specs.Uploaded.{IsLeftBy};
+ghost use Rattle.gate_tasks.specs.declared.command.Grid.{Grid};
+ghost use Rattle.gate_tasks.specs.Replies.{settings_by, opening_by, are_parameters, room_of, IsOpenedBy, world_by, IsImageAfter};
 ghost use Rattle.gate_tasks.specs.Lines.{lines_of, piece_of};
 ghost use Rattle.gate_tasks.specs.Text.{unescaped, escaped};
 
@@ -14,3 +25,24 @@ pub fn texts_are_read_back()
 pub fn lines_join_to_the_script()
     ensures { (script : List ℕ) → flat_map piece_of (lines_of script) ≡ script }
 {}
+
+/// A gateway that was just set up was left so by no items. So of a run without an image, the written answers to a caller's
+/// kept items need nothing but that no two strings of its part collide.
+pub fn nothing_was_left_by_no_items()
+    ensures { (grid : Grid) → are_parameters grid ≡ true →
+        IsLeftBy (settings_by grid) [] (opening_by grid).world }
+{}
+
+/// Where the image of a run is restored for as many servers, what stood in that run stands at first, with the room that is
+/// left beside it.
+pub fn images_bring_what_stood()
+    ensures { (grid other : Grid) (opening : Opening) (events : List Event) (bytes : List ℕ)
+        (rooms : Rooms) → (image : IsImageAfter grid opening events bytes) →
+        other.servers ≡ grid.servers →
+        CanBeWritten VersionTwo grid.servers (rows_of image.maps) →
+        ((s : ℕ) → rooms s + at_server bytes_of image.maps s ≡ room_of other s) →
+        IsOpenedBy other bytes
+        (record { world = world_by grid opening events; rooms = rooms }) }
+{
+    grid::laws::image_laws();
+}

@@ -8,6 +8,8 @@ mod arguments;
 mod calls;
 /// A line of a script.
 mod command;
+/// One connection's turns.
+mod connection;
 /// Why a run ended before its end.
 mod fault;
 /// What holds of the definitions.
@@ -30,11 +32,10 @@ mod status;
 mod stores;
 /// Bytes as text.
 mod text;
-/// One connection's turns.
-mod turns;
 
 pub use arguments::{Service, Task, read_task};
 pub use calls::MemGateway;
+pub use connection::turns;
 pub use fault::{ProgramFault, ScriptFault, ServeFault};
 pub use script::run_script;
 pub use serving::serve_on;
@@ -42,4 +43,3 @@ pub use setup::set_up;
 pub use status::exit_status;
 pub use stores::make_stores;
 pub use text::escape;
-pub use turns::turns;

@@ -6,13 +6,14 @@ ghost use Rattle.gate_tasks.specs.Script.{Step, Ended, Stopped, is_call};
 ghost use Rattle.gate_tasks.specs.Replies.{IsTold};
 ghost use Rattle.gate_tasks.specs.Running.{IsAt, Answered, LineRuns, StopsAfter, Answers, AnswersSome, IsOneLine, RunEnds};
 
-use crate::calls::{MemGateway, call};
+use crate::calls::{MemGateway, call, held_is_what_stands};
 use crate::command::{Command, Grid, read_command};
 use crate::fault::ScriptFault;
 use crate::lines::read_line;
 use crate::reply::Reply;
 use crate::stores::make_stores;
 use gate_core::{Gateway, GatewayFault, RestoreFault};
+use grid::laws::image_laws;
 use octets::write_whole;
 use std::alloc::{AllocError, Global};
 use std::io::{BufRead, Write};
@@ -180,6 +181,7 @@ fn restore(
         IsAt log progress.old.grid progress.old.gateway → IsTold log →
         Answered log (Command.Restore image.now) reply progress.new.grid progress.new.gateway) }
 {
+    image_laws();
     let Some(grid) = progress.grid.take() else {
         return Ok(None);
     };
@@ -195,6 +197,7 @@ fn restore(
         &mut reader,
     ) {
         Ok(made) => {
+            held_is_what_stands(&made);
             progress.gateway = Some(made);
             Ok(Some(Reply::Done))
         }

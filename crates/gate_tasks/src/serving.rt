@@ -1,7 +1,7 @@
 //! Connections, served one after the other.
 
+use crate::connection::turns;
 use crate::fault::ServeFault;
-use crate::turns::turns;
 use gate_core::Gateway;
 use gate_flow::FlowFault;
 use share_store::Store;

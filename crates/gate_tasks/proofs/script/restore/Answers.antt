@@ -8,6 +8,7 @@ use Rattle.gate_tasks.specs.Script.{Step, is_refusal}
 use Rattle.gate_tasks.specs.declared.command.Command.TheVariants as command
 use Rattle.gate_tasks.specs.declared.reply.Reply.TheVariants.{Done, GridRefused}
 use Rattle.gate_tasks.proofs.Begins.{restored, restore_refused, set_is}
+use Rattle.gate_tasks.proofs.Restores.{came_restored}
 use Rattle.gate_tasks.proofs.script.restore.Goals as goal
 
 pub returns-in-Ok : goal.returns-in-Ok
@@ -19,7 +20,9 @@ returns-in-Ok c log at told =
     subst (λ was. IsAnswer log step was (Some c.in-Ok.made)) (sym none)
     (restored log grid c.args.progress.now.gateway c.args.image.now c.in-Ok.made (subst (λ was. IsAt log was c.args.progress.now.gateway) some at) told
     (c.in-Ok.ensures.held.0 ∙ set_is grid c.as_slice.result.now _ c.as_slice.ensures c.in_ok-stores.ensures.count)
-    (subst (λ servers. (image_said servers c.args.image.now).fault ≡ None) c.in_ok-stores.ensures.count c.in-Ok.ensures.no_fault))
+    (subst (λ servers. (image_said servers c.args.image.now).fault ≡ None) c.in_ok-stores.ensures.count c.in-Ok.ensures.no_fault)
+    (came_restored grid c.args.image.now _ c.in-Ok.made c.image_laws.ensures.told_by_rows c.in_ok-stores.ensures.fresh c.in-Ok.ensures.leaves
+    (λ honest. c.in-Ok.ensures.read honest ∙ ap (λ servers. (image_said servers c.args.image.now).rows) c.in_ok-stores.ensures.count) c.held_is_what_stands.ensures c.in-Ok.ensures.came))
 
 same_fault : (a b : GridFault) → GridRefused a ≡ GridRefused b → a ≡ b
 same_fault a b is = cc

@@ -2,7 +2,7 @@ use Rattle.std.proofs.Common.{◌*◌, ◌+◌, arith}
 use Rattle.std.proofs.lemmas.Result.{err_from_is_err_and}
 use Rattle.gate_tasks.specs.Turns.{most_at_a_time, most_read}
 use Rattle.gate_tasks.proofs.Turning.{read_rests, none_read, read_on}
-use Rattle.gate_tasks.proofs.turns.take_turns.Goals as goal
+use Rattle.gate_tasks.proofs.connection.take_turns.Goals as goal
 
 pub reads-init : goal.reads-init
 reads-init g c = record { runs = λ id secret first read before was. was; rests = c.requires.rests; quiet = c.requires.quiet; bounded = none_read 0 (g.R.Read.remaining c.args.reader.now) }

@@ -2,7 +2,7 @@ use Rattle.std.proofs.Common.{refl}
 use Rattle.std.proofs.lemmas.Result.{err_from_is_err_and, IfErr-weaker, IfErr-at_err}
 use Rattle.gate_tasks.specs.Turns.{RunsInto}
 use Rattle.gate_tasks.proofs.Turning.{begun_so, on_ok_all, unopened_stops}
-use Rattle.gate_tasks.proofs.turns.turns.Goals as goal
+use Rattle.gate_tasks.proofs.connection.turns.Goals as goal
 
 pub returns-clause-ok : goal.returns-clause-ok
 returns-clause-ok g c =

@@ -1,7 +1,7 @@
 use Rattle.std.proofs.lemmas.Result.{err_from_is_err_and}
 use Rattle.gate_tasks.proofs.Turning.{call_stops}
-use Rattle.gate_tasks.proofs.turns.writes_next.Goals as goal
-use Rattle.gate_tasks.proofs.turns.writes_next.Goals.{then-eq+in_ok-advance, else-eq}
+use Rattle.gate_tasks.proofs.connection.writes_next.Goals as goal
+use Rattle.gate_tasks.proofs.connection.writes_next.Goals.{then-eq+in_ok-advance, else-eq}
 
 pub returns-in_err-advance-clause-err : goal.returns-in_err-advance-clause-err
 returns-in_err-advance-clause-err g c =

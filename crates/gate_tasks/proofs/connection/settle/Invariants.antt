@@ -3,7 +3,7 @@ use Rattle.std.specs.Prelude.{Option}
 use Rattle.gate_flow.specs.declared.want.Want.TheVariants.{Advance}
 use Rattle.gate_flow.specs.Steps.{Rests}
 use Rattle.gate_tasks.specs.Turns.{RunsOn}
-use Rattle.gate_tasks.proofs.turns.settle.Given as goal
+use Rattle.gate_tasks.proofs.connection.settle.Given as goal
 
 abbrev pub invariant-writes : goal.invariant-writes
 invariant-writes g l = record {

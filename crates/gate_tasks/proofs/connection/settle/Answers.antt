@@ -1,6 +1,6 @@
 use Rattle.std.proofs.lemmas.Result.{err_from_is_err_and}
 use Rattle.gate_tasks.proofs.Turning.{written_rests}
-use Rattle.gate_tasks.proofs.turns.settle.Goals as goal
+use Rattle.gate_tasks.proofs.connection.settle.Goals as goal
 
 pub returns-then-not-branch-clause-ok : goal.returns-then-not-branch-clause-ok
 returns-then-not-branch-clause-ok g c left id secret first read before was =

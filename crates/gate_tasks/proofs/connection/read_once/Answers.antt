@@ -2,7 +2,7 @@ use Rattle.std.proofs.Common.{refl}
 use Rattle.gate_flow.specs.declared.fault.FlowFault.TheVariants.{ReadFailed}
 use Rattle.gate_tasks.specs.Turns.{most_at_a_time}
 use Rattle.gate_tasks.proofs.Turning.{read_stops, still_within}
-use Rattle.gate_tasks.proofs.turns.read_once.Goals as goal
+use Rattle.gate_tasks.proofs.connection.read_once.Goals as goal
 
 pub returns-in-Ok-Blocked-clause-stops : goal.returns-in-Ok-Blocked-clause-stops
 returns-in-Ok-Blocked-clause-stops g c h rests = read_stops ReadFailed h c.args.flow.now c.read_from.new.self (c.in-Ok-Blocked.ensures.blocked (rw c.in-Ok-Blocked.field-0-is refl)) c.requires rests tt

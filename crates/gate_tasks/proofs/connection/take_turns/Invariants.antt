@@ -2,7 +2,7 @@ use Rattle.std.proofs.Common.{◌≢◌, ◌*◌}
 use Rattle.gate_flow.specs.declared.want.Want.TheVariants.{Write}
 use Rattle.gate_flow.specs.Steps.{Rests}
 use Rattle.gate_tasks.specs.Turns.{RunsOn, IsReadWithin}
-use Rattle.gate_tasks.proofs.turns.take_turns.Given as goal
+use Rattle.gate_tasks.proofs.connection.take_turns.Given as goal
 
 abbrev pub invariant-reads : goal.invariant-reads
 invariant-reads g l = record {
