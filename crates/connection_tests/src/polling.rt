@@ -51,6 +51,19 @@ fn client(
     Ok(stream)
 }
 
+/// Serves what came on a listener.
+fn counts_on<R: Net<Stream = TcpStream> + Clock + CpuClock + AllocGlobal + Log>(
+    rt: &R,
+    listener: TcpListener,
+    limits: &Limits,
+    gateway: &mut Gateway<MemStore>,
+) -> Result<Counts, Fail> {
+    match serve_on(rt, listener, None, limits, gateway, &mut NoControl) {
+        Ok(counts) => Ok(counts),
+        Err(_) => Err(Fail::from("serving ended")),
+    }
+}
+
 /// Serves these clients, all of which came before, and compares what each was given.
 fn serves<R: Net<Stream = TcpStream> + Clock + CpuClock + AllocGlobal + Log + Abort>(
     rt: &R,
@@ -66,13 +79,18 @@ fn serves<R: Net<Stream = TcpStream> + Clock + CpuClock + AllocGlobal + Log + Ab
     }
     let mut limits = *limits;
     limits.served = Some(rows.len() as u64);
-    let counts = serve_on(rt, listener, None, &limits, gateway, &mut NoControl)?;
+    let counts = counts_on(rt, listener, &limits, gateway)?;
     for (client, row) in clients.iter_mut().zip(rows) {
-        let mut given = Vec::new(rt.alloc());
-        let _ = client.read_to_end(&mut given);
-        assert!(rt; given.as_slice() == row.given);
+        assert!(rt; all_of(rt.alloc(), client)?.as_slice() == row.given);
     }
     Ok(counts)
+}
+
+/// What a client is given before its connection ends, in whatever way.
+fn all_of(alloc: Global, client: &mut TcpStream) -> Result<Vec<u8>, Fail> {
+    let mut given = Vec::new(alloc);
+    let _ = client.read_to_end(&mut given);
+    Ok(given)
 }
 
 const GET: &[u8] = b"GET /uri/URI:LIT:mzxw6 HTTP/1.1\r\nHost: g\r\n\r\n";
@@ -162,43 +180,64 @@ fn large_request(alloc: Global, gateway: &mut Gateway<MemStore>) -> Result<Vec<u
     Ok(request)
 }
 
+/// A client that connected and sent these bytes eight times.
+fn eager(
+    rt: &impl Net<Stream = TcpStream>,
+    address: SocketAddr,
+    request: &[u8],
+) -> Result<TcpStream, Fail> {
+    let mut stream = client(rt, address, b"", false)?;
+    for _ in 0..8u32 {
+        stream.write_all(request)?;
+    }
+    Ok(stream)
+}
+
 #[test]
 fn a_reader_that_takes_nothing_is_cut(rt: HostRuntime) -> Result<(), Fail> {
-    let alloc = rt.alloc();
-    let mut many = gateway(alloc)?;
-    let request = large_request(alloc, &mut many)?;
-    let listener = listen(&rt)?;
-    let mut stream = client(&rt, listener.local_addr()?, b"", false)?;
-    for _ in 0..8u32 {
-        stream.write_all(&request)?;
-    }
+    let mut many = gateway(rt.alloc())?;
+    assert!(rt; is_cut(&rt, &mut many)?);
+    Ok(())
+}
+
+/// Whether a client is cut that asks for a large file eight times, and takes nothing.
+fn is_cut<R: Net<Stream = TcpStream> + Clock + CpuClock + AllocGlobal + Log>(
+    rt: &R,
+    many: &mut Gateway<MemStore>,
+) -> Result<bool, Fail> {
+    let request = large_request(rt.alloc(), many)?;
+    let listener = listen(rt)?;
+    let stream = eager(rt, listener.local_addr()?, &request)?;
     let mut limits = Limits::new(10, Duration::from_millis(300));
     limits.served = Some(1);
-    let counts = serve_on(&rt, listener, None, &limits, &mut many, &mut NoControl)?;
-    assert_eq!(rt; counts.late, 1);
-    assert!(rt; counts.bytes_out > 0);
-    assert!(rt; counts.bytes_out < 8 * 4_194_304);
-    Ok(())
+    let counts = counts_on(rt, listener, &limits, many)?;
+    drop(stream);
+    Ok(counts.late == 1 && counts.bytes_out > 0 && counts.bytes_out < 8 * 4_194_304)
 }
 
 #[test]
 fn a_socket_whose_id_was_used_is_refused(rt: HostRuntime) -> Result<(), Fail> {
-    let alloc = rt.alloc();
-    let mut many = gateway(alloc)?;
+    let mut many = gateway(rt.alloc())?;
     many.open(1, None)?;
-    let listener = listen(&rt)?;
-    let refused = client(&rt, listener.local_addr()?, b"", false)?;
-    let mut served = client(&rt, listener.local_addr()?, GET, true)?;
+    assert!(rt; is_first_refused(&rt, &mut many)?);
+    Ok(())
+}
+
+/// Whether the first of two clients is refused, and the second served.
+fn is_first_refused<R: Net<Stream = TcpStream> + Clock + CpuClock + AllocGlobal + Log>(
+    rt: &R,
+    many: &mut Gateway<MemStore>,
+) -> Result<bool, Fail> {
+    let listener = listen(rt)?;
+    let address = listener.local_addr()?;
+    let refused = client(rt, address, b"", false)?;
+    let mut served = client(rt, address, GET, true)?;
     let mut limits = Limits::new(10, Duration::from_secs(20));
     limits.served = Some(1);
-    let counts = serve_on(&rt, listener, None, &limits, &mut many, &mut NoControl)?;
-    assert_eq!(rt; counts.refused, 1);
-    assert_eq!(rt; counts.over, 1);
-    let mut given = Vec::new(alloc);
-    served.read_to_end(&mut given)?;
-    assert!(rt; given.as_slice() == FOO);
+    let counts = counts_on(rt, listener, &limits, many)?;
     drop(refused);
-    Ok(())
+    let given = all_of(rt.alloc(), &mut served)?;
+    Ok(counts.refused == 1 && counts.over == 1 && given.as_slice() == FOO)
 }
 
 /// Asks that serving stop, whatever is asked.
@@ -223,40 +262,51 @@ impl Control<MemStore> for Stops {
     }
 }
 
+/// A request that asks to stop, and what it is answered.
+const STOP: &[u8] = b"POST /stop HTTP/1.1\r\nHost: g\r\n\r\n";
+
+const STOPPED: &[u8] =
+    b"HTTP/1.1 200 OK\r\nContent-Type: text/plain; charset=utf-8\r\nContent-Length: 5\r\nConnection: close\r\n\r\n/stop";
+
 #[test]
 fn a_control_request_stops_the_loop(rt: HostRuntime) -> Result<(), Fail> {
-    let alloc = rt.alloc();
-    let mut many = gateway(alloc)?;
-    let (listener, control) = (listen(&rt)?, listen(&rt)?);
-    let stop = b"POST /stop HTTP/1.1\r\nHost: g\r\n\r\n".as_slice();
-    // What is asked on the gateway's port is no control request.
-    let mut asked = client(&rt, listener.local_addr()?, stop, false)?;
-    let silent = client(&rt, listener.local_addr()?, b"", false)?;
-    let mut caller = client(&rt, control.local_addr()?, stop, true)?;
+    let mut many = gateway(rt.alloc())?;
+    assert!(rt; is_stopped(&rt, &mut many)?);
+    Ok(())
+}
+
+/// Whether a control request stops the loop, and is answered, where one on the gateway's port is refused, and a silent
+/// client is let go.
+fn is_stopped<R: Net<Stream = TcpStream> + Clock + CpuClock + AllocGlobal + Log>(
+    rt: &R,
+    many: &mut Gateway<MemStore>,
+) -> Result<bool, Fail> {
+    let listener = listen(rt)?;
+    let address = listener.local_addr()?;
+    let control = listen(rt)?;
+    let mut caller = client(rt, control.local_addr()?, STOP, true)?;
+    let mut asked = client(rt, address, STOP, false)?;
+    let silent = client(rt, address, b"", false)?;
+    let is_counted = are_stopped(rt, listener, control, many)?;
+    drop(silent);
+    let answer = all_of(rt.alloc(), &mut caller)?;
+    let refusal = all_of(rt.alloc(), &mut asked)?;
+    Ok(is_counted && answer.as_slice() == STOPPED && refusal.starts_with(b"HTTP/1.1 4"))
+}
+
+/// Whether two connections are stopped after one control request.
+fn are_stopped<R: Net<Stream = TcpStream> + Clock + CpuClock + AllocGlobal + Log>(
+    rt: &R,
+    listener: TcpListener,
+    control: TcpListener,
+    many: &mut Gateway<MemStore>,
+) -> Result<bool, Fail> {
     let limits = Limits::new(10, Duration::from_secs(20));
     let mut answers = Stops { asked: 0 };
-    let counts = serve_on(
-        &rt,
-        listener,
-        Some(control),
-        &limits,
-        &mut many,
-        &mut answers,
-    )?;
-    assert_eq!(rt; answers.asked, 1);
-    assert_eq!(rt; counts.opened, 2);
-    assert_eq!(rt; counts.stopped, 2);
-    let mut given = Vec::new(alloc);
-    caller.read_to_end(&mut given)?;
-    assert!(rt;
-        given.as_slice()
-            == b"HTTP/1.1 200 OK\r\nContent-Type: text/plain; charset=utf-8\r\nContent-Length: 5\r\nConnection: close\r\n\r\n/stop".as_slice()
-    );
-    given.clear();
-    asked.read_to_end(&mut given)?;
-    assert!(rt; given.as_slice().starts_with(b"HTTP/1.1 4".as_slice()));
-    drop(silent);
-    Ok(())
+    match serve_on(rt, listener, Some(control), &limits, many, &mut answers) {
+        Ok(counts) => Ok(answers.asked == 1 && counts.opened == 2 && counts.stopped == 2),
+        Err(_) => Err(Fail::from("serving ended")),
+    }
 }
 
 /// So many milliseconds after another time.
