@@ -329,11 +329,7 @@ const CUT: &[(usize, usize, usize)] = &[
 
 /// How many of these bytes are brought at once, where there are any.
 fn part(bytes: &[u8]) -> usize {
-    if bytes.is_empty() {
-        0
-    } else {
-        part_len(bytes)
-    }
+    if bytes.is_empty() { 0 } else { part_len(bytes) }
 }
 
 #[test]

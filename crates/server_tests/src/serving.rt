@@ -8,16 +8,14 @@ use gate_poll::Counts;
 use server_tasks::board::{Asked, Method, asked_by, status_text};
 use server_tasks::figures::StoreFigures;
 use server_tasks::folders::{Found, Opening, look, open_folder};
-use server_tasks::handles;
 use server_tasks::metrics::metrics_text;
 use server_tasks::options::{Shares, StoreWanted, Task, read_store, read_words};
-use server_tasks::{ProgramFault, check};
+use server_tasks::{ProgramFault, check, handles};
 use share_store::Store;
 use std::alloc::Global;
-use std::process;
 use std::rc::RcSlice;
 use std::test::Fail;
-use std::{env, fs};
+use std::{env, fs, process};
 
 /// Two lines of a system's file of limits.
 const LIMITS: &str =

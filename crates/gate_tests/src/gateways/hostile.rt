@@ -75,7 +75,10 @@ const TRIALS: &[Trial] = &[
 fn each_failure_of_a_store_is_told(rt: HostRuntime) -> Result<(), Fail> {
     for trial in TRIALS {
         for for_good in [false, true] {
-            assert!(rt; holds_at_each_failure(rt.alloc(), trial, for_good)?, "{for_good}");
+            assert!(rt;
+                holds_at_each_failure(rt.alloc(), trial, for_good)?,
+                "{for_good}"
+            );
         }
     }
     Ok(())
@@ -139,18 +142,16 @@ fn has_failed(gateway: &Gateway<FailAt>) -> bool {
 const BIG: &[u8] =
     b"URI:CHK:cpgmyfu7y4nqyhvkcqfcsmnqvq:cvffjve3vt7bw5r2bn4fpzm22wnb5vsv7pduk635eeclhal7bo5q:3:10:200000";
 
-const BIG_ROWS: &[Row<'static>] = &[
-    (&[GET, BIG, HTTP], GONE),
-    (
-        &[CHECK, BIG, VERIFY],
-        &[
-            JSON,
-            b"567\r\n\r\n",
-            b"{\"results\":{\"count-corrupt-shares\":10,\"count-shares-expected\":10,\"count-shares-good\":0,\"count-shares-needed\":3,\"healthy\":false,\"list-corrupt-shares\":[[0,\"qg2arnqdrcwls5l3fr6ulmwa4y\",0],[0,\"qg2arnqdrcwls5l3fr6ulmwa4y\",1],[0,\"qg2arnqdrcwls5l3fr6ulmwa4y\",2],[0,\"qg2arnqdrcwls5l3fr6ulmwa4y\",3],[0,\"qg2arnqdrcwls5l3fr6ulmwa4y\",4],[0,\"qg2arnqdrcwls5l3fr6ulmwa4y\",5],[0,\"qg2arnqdrcwls5l3fr6ulmwa4y\",6],[0,\"qg2arnqdrcwls5l3fr6ulmwa4y\",7],[0,\"qg2arnqdrcwls5l3fr6ulmwa4y\",8],[0,\"qg2arnqdrcwls5l3fr6ulmwa4y\",9]],\"recoverable\":false},\"storage-index\":\"qg2arnqdrcwls5l3fr6ulmwa4y\"}",
-        ],
-    ),
-    (&[GET, BIG, HTTP], GONE),
-];
+const BIG_GONE: Row<'static> = (&[GET, BIG, HTTP], GONE);
+
+const BIG_CHECKED: Row<'static> = (
+    &[CHECK, BIG, VERIFY],
+    &[
+        JSON,
+        b"567\r\n\r\n",
+        b"{\"results\":{\"count-corrupt-shares\":10,\"count-shares-expected\":10,\"count-shares-good\":0,\"count-shares-needed\":3,\"healthy\":false,\"list-corrupt-shares\":[[0,\"qg2arnqdrcwls5l3fr6ulmwa4y\",0],[0,\"qg2arnqdrcwls5l3fr6ulmwa4y\",1],[0,\"qg2arnqdrcwls5l3fr6ulmwa4y\",2],[0,\"qg2arnqdrcwls5l3fr6ulmwa4y\",3],[0,\"qg2arnqdrcwls5l3fr6ulmwa4y\",4],[0,\"qg2arnqdrcwls5l3fr6ulmwa4y\",5],[0,\"qg2arnqdrcwls5l3fr6ulmwa4y\",6],[0,\"qg2arnqdrcwls5l3fr6ulmwa4y\",7],[0,\"qg2arnqdrcwls5l3fr6ulmwa4y\",8],[0,\"qg2arnqdrcwls5l3fr6ulmwa4y\",9]],\"recoverable\":false},\"storage-index\":\"qg2arnqdrcwls5l3fr6ulmwa4y\"}",
+    ],
+);
 
 #[test]
 fn a_store_that_lies_gives_no_other_bytes(rt: HostRuntime) -> Result<(), Fail> {
@@ -158,7 +159,10 @@ fn a_store_that_lies_gives_no_other_bytes(rt: HostRuntime) -> Result<(), Fail> {
     let others = image_after(alloc, made(alloc, 3, 10, 10_000, b"")?, &[STORED])?;
     // Shares of another file, whole, cut off, and empty; and what is no share.
     for length in [394, 393, 0] {
-        assert!(rt; is_big_refused(alloc, shares_in(alloc, &others, length)?)?, "{length}");
+        assert!(rt;
+            is_big_refused(alloc, shares_in(alloc, &others, length)?)?,
+            "{length}"
+        );
     }
     let mut others = Vec::new(alloc);
     others.push(RcSlice::from_vec(joined(alloc, &[b"1:1,1:0,"])?)?)?;
@@ -180,10 +184,12 @@ fn shares_in(alloc: Global, image: &[u8], length: usize) -> Result<Vec<RcSlice<u
 /// Whether a store that lies takes the big file, and gives no other bytes for it.
 fn is_big_refused(alloc: Global, answers: Vec<RcSlice<u8>>) -> Result<bool, Fail> {
     let request = put_counted(alloc, 200_000)?;
-    let mut gateway = lying(alloc, answers)?;
-    open(&mut gateway, 1)?;
-    let is_stored = is_answered(alloc, &mut gateway, (&[&request], &[TEXT, b"99\r\n\r\n", BIG]))?;
-    Ok(is_stored && each_is_answered(alloc, &mut gateway, BIG_ROWS)?)
+    let stored: Row<'_> = (&[&request], &[TEXT, b"99\r\n\r\n", BIG]);
+    serves(
+        alloc,
+        lying(alloc, answers)?,
+        &[stored, BIG_GONE, BIG_CHECKED, BIG_GONE],
+    )
 }
 
 /// 3 of 10 on one store that lies.
@@ -235,7 +241,11 @@ fn bytes_of_another_root_are_not_given(rt: HostRuntime) -> Result<(), Fail> {
 /// Whether a share whose root and segment hash are changed alike gives no bytes.
 fn is_forged_root_refused(alloc: Global, gateway: &mut Gateway<MemStore>) -> Result<bool, Fail> {
     open(gateway, 1)?;
-    if !is_answered(alloc, gateway, (PUT_LETTERS, &[TEXT, b"94\r\n\r\n", SINGLE]))? {
+    if !is_answered(
+        alloc,
+        gateway,
+        (PUT_LETTERS, &[TEXT, b"94\r\n\r\n", SINGLE]),
+    )? {
         return Ok(false);
     }
     let is_changed = gateway.spoil(0, SINGLE_INDEX, 0, 35) == Ok(true)

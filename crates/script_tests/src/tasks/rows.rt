@@ -1,7 +1,5 @@
 //! Scripts over files on servers, with their answers.
-use super::steps::{
-    A56, BIG, OCTETS, SMALL, Script, Step, WITH_BIG, holds, holds_after, reply_of,
-};
+use super::steps::{A56, BIG, OCTETS, SMALL, Script, Step, WITH_BIG, holds, holds_after, reply_of};
 use super::*;
 use octets::fakes::counted_bytes;
 use std::alloc::AllocError;
