@@ -41,7 +41,7 @@ fn with_stores<'a>(alloc: Global, command: Command<'a>) -> Result<Command<'a>, A
             alloc,
             "store",
             "STORE",
-            "a store: dir:PATH or dir:PATH:BYTES keeps its shares in a folder, mem:BYTES doesn't; one for each server, in their order",
+            "a store: dir:PATH or dir:PATH:BYTES keeps its shares in a folder too, dir:PATH:BYTES,disk there alone, mem:BYTES in memory; one for each server, in their order",
         )
         .action(ArgAction::Append))?
         .arg(

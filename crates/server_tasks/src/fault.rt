@@ -4,9 +4,10 @@ ghost use Rattle.server_tasks.specs.Status.{status_of, folder_status};
 
 use folder_shelf::FolderFault;
 use gate_poll::ServeFault;
-use kept_store::OpenFault;
+use kept_store::OpenFault as KeptFault;
 use share_shelf::ShelfFault;
 use share_store::StoreFault;
+use shelf_store::OpenFault as DiskFault;
 use std::alloc::{AllocError, AllocFailed};
 use thiserror::Error;
 
@@ -23,7 +24,7 @@ pub enum ProgramFault {
     #[error("--shares wants K,N with 1 <= K <= N <= 256, as in 3,10")]
     Shares,
     /// `--store` names no store, or stands too often.
-    #[error("--store wants dir:PATH, dir:PATH:BYTES or mem:BYTES, and stands 256 times at most")]
+    #[error("--store wants dir:PATH, dir:PATH:BYTES, dir:PATH:BYTES,disk or mem:BYTES, and stands 256 times at most")]
     Stores,
     /// An address has no such host, or no port.
     #[error("the {0} address is none: HOST:PORT is wanted, and a host that there is")]
@@ -184,12 +185,23 @@ impl From<FolderFault> for ProgramFault {
     }
 }
 
-impl From<OpenFault> for ProgramFault {
-    fn from(fault: OpenFault) -> ProgramFault {
+impl From<KeptFault> for ProgramFault {
+    fn from(fault: KeptFault) -> ProgramFault {
         match fault {
-            OpenFault::Shelf(ShelfFault::NoMemory) => ProgramFault::NoMemory,
-            OpenFault::Store(StoreFault::NoMemory) => ProgramFault::NoMemory,
-            OpenFault::Store(StoreFault::Full) => ProgramFault::NoRoom,
+            KeptFault::Shelf(ShelfFault::NoMemory) => ProgramFault::NoMemory,
+            KeptFault::Store(StoreFault::NoMemory) => ProgramFault::NoMemory,
+            KeptFault::Store(StoreFault::Full) => ProgramFault::NoRoom,
+            _ => ProgramFault::Folder(FolderFault::Failed),
+        }
+    }
+}
+
+impl From<DiskFault> for ProgramFault {
+    fn from(fault: DiskFault) -> ProgramFault {
+        match fault {
+            DiskFault::Shelf(ShelfFault::NoMemory) => ProgramFault::NoMemory,
+            DiskFault::Store(StoreFault::NoMemory) => ProgramFault::NoMemory,
+            DiskFault::Store(StoreFault::Full) => ProgramFault::NoRoom,
             _ => ProgramFault::Folder(FolderFault::Failed),
         }
     }

@@ -1,10 +1,12 @@
 //! Folders of servers: what stands in them before they are opened, and opening them.
+use crate::either_store::EitherStore;
 use crate::fault::ProgramFault;
 use crate::server_shelf::ServerShelf;
 use folder_shelf::{FolderFault, FolderLock, FolderShelf, Settings, check_settings, read_settings};
 use kept_store::KeptStore;
 use log::{Log, info, warn};
 use share_store::Store;
+use shelf_store::ShelfStore;
 use std::alloc::{AllocError, Global};
 use std::fs::File;
 use std::io::ErrorKind;
@@ -14,8 +16,14 @@ use std::{fs, io};
 /// How many bytes a folder's disk is to have room for at least when it is opened.
 const PROBE: usize = 65_536;
 
-/// A server's store: it answers from memory, and keeps its shares in a folder too where it has one.
-pub type ServerStore<R> = KeptStore<ServerShelf<R>>;
+/// A store that answers from memory, and keeps its shares in a folder too where it has one.
+pub type FolderStore<R> = KeptStore<ServerShelf<R>>;
+
+/// A store whose shares are in a folder alone.
+pub type DiskStore<R> = ShelfStore<ServerShelf<R>>;
+
+/// A server's store.
+pub type ServerStore<R> = EitherStore<FolderStore<R>, DiskStore<R>>;
 
 /// What stands in a folder before it is opened.
 #[derive(Clone, Copy, Debug, PartialEq, Eq)]
@@ -183,17 +191,43 @@ pub fn open_folder<R: Files<File = File> + AllocGlobal + Clone + Drop + Log + Ep
     rt: &R,
     folder: &str,
     opening: &Opening,
-) -> Result<ServerStore<R>, ProgramFault> {
+) -> Result<FolderStore<R>, ProgramFault> {
     match open_store(rt, folder, opening) {
         Ok(store) => {
-            info!(rt; "{folder}: {} bytes of shares", store.held());
-            if let Some(shelf) = store.shelf().folder() {
-                log_each(rt, "rotten and left alone", shelf.rotten());
-                log_each(rt, "no share and left alone", shelf.strangers());
-            }
+            log_opened(rt, folder, store.held(), store.shelf());
             Ok(store)
         }
         Err(fault) => Err(named(rt, folder, fault)),
+    }
+}
+
+/// Opens a folder that is to be served from its files, as [`open_folder`] does: of its shares only their lengths stay
+/// in memory.
+pub fn open_on_disk<R: Files<File = File> + AllocGlobal + Clone + Drop + Log + Eprint>(
+    rt: &R,
+    folder: &str,
+    opening: &Opening,
+) -> Result<DiskStore<R>, ProgramFault> {
+    match open_disk_store(rt, folder, opening) {
+        Ok(store) => {
+            log_opened(rt, folder, store.held(), store.shelf());
+            Ok(store)
+        }
+        Err(fault) => Err(named(rt, folder, fault)),
+    }
+}
+
+/// Logs how many bytes of shares a folder has that was opened, and what of it is left alone.
+fn log_opened<R: Files + AllocGlobal + Clone + Drop + Log>(
+    rt: &R,
+    folder: &str,
+    held: u64,
+    shelf: &ServerShelf<R>,
+) {
+    info!(rt; "{folder}: {held} bytes of shares");
+    if let Some(shelf) = shelf.folder() {
+        log_each(rt, "rotten and left alone", shelf.rotten());
+        log_each(rt, "no share and left alone", shelf.strangers());
     }
 }
 
@@ -209,13 +243,34 @@ fn open_store<R: Files<File = File> + AllocGlobal + Clone + Drop>(
     rt: &R,
     folder: &str,
     opening: &Opening,
-) -> Result<ServerStore<R>, ProgramFault> {
+) -> Result<FolderStore<R>, ProgramFault> {
+    let shelf = open_roomy(rt, folder, opening)?;
+    Ok(KeptStore::open(rt.alloc(), shelf, opening.room)?)
+}
+
+/// The store whose shares are in a folder alone.
+fn open_disk_store<R: Files<File = File> + AllocGlobal + Clone + Drop>(
+    rt: &R,
+    folder: &str,
+    opening: &Opening,
+) -> Result<DiskStore<R>, ProgramFault> {
+    let shelf = open_roomy(rt, folder, opening)?;
+    Ok(ShelfStore::open(rt.alloc(), shelf, opening.room)?)
+}
+
+/// The shelf in a folder whose disk has room.
+fn open_roomy<R: Files<File = File> + AllocGlobal + Clone + Drop>(
+    rt: &R,
+    folder: &str,
+    opening: &Opening,
+) -> Result<ServerShelf<R>, ProgramFault> {
     match open_shelf(rt, folder, opening) {
         Ok(shelf) => {
             if is_full(rt, folder)? {
-                return Err(ProgramFault::DiskFull);
+                Err(ProgramFault::DiskFull)
+            } else {
+                Ok(shelf)
             }
-            Ok(KeptStore::open(rt.alloc(), shelf, opening.room)?)
         }
         Err(FolderFault::Failed) => {
             if is_full(rt, folder)? {
@@ -267,5 +322,6 @@ pub fn memory_store<R: Files + AllocGlobal + Clone + Drop>(
     alloc: Global,
     room: u64,
 ) -> Result<ServerStore<R>, ProgramFault> {
-    Ok(KeptStore::open(alloc, ServerShelf::nothing(), room)?)
+    let store = KeptStore::open(alloc, ServerShelf::nothing(), room)?;
+    Ok(EitherStore::Kept(store))
 }

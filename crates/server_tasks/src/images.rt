@@ -3,7 +3,7 @@ ghost use Rattle.std.specs.Prelude.{◌≡◌, ◌<◌, ◌≤◌, All, IfOk, Is
 
 use crate::fault::ProgramFault;
 use crate::folders::{
-    Opening, ServerStore, is_full, look_at_new, look_at_old, named, open_folder, settings_in,
+    FolderStore, Opening, is_full, look_at_new, look_at_old, named, open_folder, settings_in,
 };
 use crate::options::Restoring;
 use crate::server_shelf::ServerShelf;
@@ -52,7 +52,7 @@ pub fn write_image<R: Files<File = File> + AllocGlobal + Clone + Drop + Log + Pr
 /// Writes the image of a grid on standard output.
 fn put_image<R: Files + AllocGlobal + Clone + Drop + Print>(
     rt: &R,
-    grid: &mut Grid<ServerStore<R>>,
+    grid: &mut Grid<FolderStore<R>>,
 ) -> Result<(), ProgramFault> {
     let Ok(mut writer) = BufWriter::with_capacity(rt.alloc(), BUFFER, io::writer(rt)) else {
         return Err(ProgramFault::NoMemory);
@@ -73,7 +73,7 @@ fn open_all<R: Files<File = File> + AllocGlobal + Clone + Drop + Log + Eprint>(
     folders: &[&str],
     first: &Settings,
     synced: bool,
-) -> Result<Vec<ServerStore<R>>, ProgramFault>
+) -> Result<Vec<FolderStore<R>>, ProgramFault>
     requires { length folders.now ≡ first.now.servers }
     ensures { IfOk result (λ stores. vec_len stores ≡ first.now.servers) }
 {
@@ -134,7 +134,7 @@ fn look_at_each<R: Files + AllocGlobal + Clone + Drop + Eprint>(
 fn log_restored<R: Files + AllocGlobal + Clone + Drop + Log>(
     rt: &R,
     folders: &[&str],
-    stores: &[ServerStore<R>],
+    stores: &[FolderStore<R>],
 ) {
     for (folder, store) in folders.iter().zip(stores) {
         info!(rt; "{}: {} bytes of shares were laid in", *folder, store.held());
@@ -178,7 +178,7 @@ fn why_not_read(fault: GridFault) -> ProgramFault {
 }
 
 /// Whether no store holds a byte.
-fn hold_nothing<R: Files + AllocGlobal + Clone + Drop>(stores: &[ServerStore<R>]) -> bool
+fn hold_nothing<R: Files + AllocGlobal + Clone + Drop>(stores: &[FolderStore<R>]) -> bool
     ensures { IsTrue result →
         All (λ store. ⟦<KeptStore<ServerShelf<R>> as Store>⟧.held store ≡ 0) stores.now }
 {
@@ -194,7 +194,7 @@ fn hold_nothing<R: Files + AllocGlobal + Clone + Drop>(stores: &[ServerStore<R>]
 fn tell_filled<R: Files + AllocGlobal + Clone + Drop + Eprint>(
     rt: &R,
     folders: &[&str],
-    stores: &[ServerStore<R>],
+    stores: &[FolderStore<R>],
 ) -> ProgramFault {
     for (folder, store) in folders.iter().zip(stores) {
         if store.held() > 0 {
@@ -208,8 +208,8 @@ fn tell_filled<R: Files + AllocGlobal + Clone + Drop + Eprint>(
 fn lay_image<R: Files + AllocGlobal + Clone + Drop + Eprint>(
     rt: &R,
     wanted: &Restoring<'_>,
-    stores: Vec<ServerStore<R>>,
-) -> Result<Grid<ServerStore<R>>, ProgramFault>
+    stores: Vec<FolderStore<R>>,
+) -> Result<Grid<FolderStore<R>>, ProgramFault>
     requires some { 0 < vec_len stores }
     requires few { vec_len stores ≤ 256 }
     requires empty { All (λ store. ⟦<KeptStore<ServerShelf<R>> as Store>⟧.held store ≡ 0) stores.items }

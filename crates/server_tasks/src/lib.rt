@@ -12,12 +12,14 @@ pub mod options;
 pub mod handles;
 /// What a server keeps its shares on beside memory.
 mod server_shelf;
+/// A store of one of two kinds.
+pub mod either_store;
 /// Folders of servers.
 pub mod folders;
 /// The stores of the gateway.
 mod stores;
 /// Looking through folders.
-mod check;
+mod checking;
 /// Images of a grid in folders.
 mod images;
 /// What is known of the stores.
@@ -28,7 +30,7 @@ pub mod metrics;
 pub mod board;
 
 use board::Board;
-pub use check::check;
+pub use checking::check;
 pub use fault::ProgramFault;
 use folder_shelf::Settings;
 use folders::ServerStore;

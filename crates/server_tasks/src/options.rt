@@ -49,7 +49,7 @@ impl Options<'_> {
     pub fn folders(&self) -> usize {
         self.stores
             .iter()
-            .filter(|store| store.is_in_folder())
+            .filter(|store| store.folder().is_some())
             .count()
     }
 }
@@ -61,14 +61,17 @@ pub enum StoreWanted<'a> {
     Memory(u64),
     /// One that keeps its shares in this folder too.
     Folder(&'a str, u64),
+    /// One that has its shares in this folder alone.
+    Disk(&'a str, u64),
 }
 
-impl StoreWanted<'_> {
-    /// Whether it keeps its shares in a folder.
-    pub fn is_in_folder(&self) -> bool {
+impl<'a> StoreWanted<'a> {
+    /// The folder in which it keeps its shares, if there is one.
+    pub fn folder(&self) -> Option<&'a str> {
         match self {
-            StoreWanted::Memory(_) => false,
-            StoreWanted::Folder(_, _) => true,
+            StoreWanted::Memory(_) => None,
+            StoreWanted::Folder(folder, _) => Some(*folder),
+            StoreWanted::Disk(folder, _) => Some(*folder),
         }
     }
 }
@@ -212,20 +215,35 @@ fn read_stores<'a>(alloc: Global, given: &ArgMatches<'a>) -> Result<Vec<StoreWan
     Ok(stores)
 }
 
-/// A store by its name: `mem:BYTES`, `dir:PATH` or `dir:PATH:BYTES`. A path with a colon in it wants the bytes behind it.
+/// A store by its name: `mem:BYTES`, `dir:PATH`, `dir:PATH:BYTES` or `dir:PATH:BYTES,disk`. A path with a colon in it, or
+/// with `,disk` at its end, wants the bytes behind it.
 pub fn read_store(name: &str, room: u64) -> Option<StoreWanted<'_>> {
     if let Some(bytes) = name.strip_prefix("mem:") {
         return Some(StoreWanted::Memory(bytes.parse::<u64>().ok()?));
     }
-    let rest = name.strip_prefix("dir:")?;
-    let (path, room) = match rest.rsplit_once(':') {
-        Some((path, bytes)) => (path, bytes.parse::<u64>().ok()?),
-        None => (rest, room),
-    };
+    let folder = name.strip_prefix("dir:")?;
+    if let Some(sized) = folder.strip_suffix(",disk") {
+        let (path, room) = read_sized(sized)?;
+        return Some(StoreWanted::Disk(path, room));
+    }
+    if folder.contains(':') {
+        let (path, room) = read_sized(folder)?;
+        return Some(StoreWanted::Folder(path, room));
+    }
+    if folder.is_empty() {
+        None
+    } else {
+        Some(StoreWanted::Folder(folder, room))
+    }
+}
+
+/// A path and the bytes behind its last colon.
+fn read_sized(text: &str) -> Option<(&str, u64)> {
+    let (path, bytes) = text.rsplit_once(':')?;
     if path.is_empty() {
         None
     } else {
-        Some(StoreWanted::Folder(path, room))
+        Some((path, bytes.parse::<u64>().ok()?))
     }
 }
 

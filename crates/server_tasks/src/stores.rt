@@ -1,8 +1,11 @@
 //! The stores of the gateway.
 ghost use Rattle.std.specs.Prelude.{◌≡◌, All, vec_len, IfOk};
 
+use crate::either_store::EitherStore;
 use crate::fault::ProgramFault;
-use crate::folders::{Found, Opening, ServerStore, look, memory_store, named, open_folder};
+use crate::folders::{
+    Found, Opening, ServerStore, look, memory_store, named, open_folder, open_on_disk,
+};
 use crate::options::{Options, StoreWanted};
 use folder_shelf::Settings;
 use log::{Log, info};
@@ -48,11 +51,11 @@ fn look_at_each<R: Files + AllocGlobal + Clone + Drop + Log + Eprint>(
 ) -> Result<(), ProgramFault> {
     for (place, wanted) in (0..first.servers).zip(&options.stores) {
         let settings = Settings { place, ..*first };
-        if let StoreWanted::Folder(folder, _) = wanted {
-            match look(rt, *folder, &settings) {
+        if let Some(folder) = wanted.folder() {
+            match look(rt, folder, &settings) {
                 Ok(Found::Ours) => {}
-                Ok(Found::New) => info!(rt; "{}: a new folder", *folder),
-                Err(fault) => return Err(named(rt, *folder, ProgramFault::from(fault))),
+                Ok(Found::New) => info!(rt; "{folder}: a new folder"),
+                Err(fault) => return Err(named(rt, folder, ProgramFault::from(fault))),
             }
         }
     }
@@ -74,7 +77,15 @@ fn open_wanted<R: Files<File = File> + AllocGlobal + Clone + Drop + Log + Eprint
                 room: *room,
                 synced,
             };
-            open_folder(rt, *folder, &opening)
+            Ok(EitherStore::Kept(open_folder(rt, *folder, &opening)?))
+        }
+        StoreWanted::Disk(folder, room) => {
+            let opening = Opening {
+                settings,
+                room: *room,
+                synced,
+            };
+            Ok(EitherStore::OnDisk(open_on_disk(rt, *folder, &opening)?))
         }
     }
 }

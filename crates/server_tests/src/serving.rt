@@ -7,7 +7,7 @@ use gate_core::Tally;
 use gate_poll::Counts;
 use server_tasks::board::{Asked, Method, asked_by, status_text};
 use server_tasks::figures::StoreFigures;
-use server_tasks::folders::{Found, Opening, look, open_folder};
+use server_tasks::folders::{Found, Opening, look, open_folder, open_on_disk};
 use server_tasks::metrics::metrics_text;
 use server_tasks::options::{Shares, StoreWanted, Task, read_store, read_words};
 use server_tasks::{ProgramFault, check, handles};
@@ -104,11 +104,20 @@ fn stores_are_named(rt: HostRuntime) {
         ("dir:/a/b", Some(StoreWanted::Folder("/a/b", 7))),
         ("dir:a:12", Some(StoreWanted::Folder("a", 12))),
         ("dir:a:b:12", Some(StoreWanted::Folder("a:b", 12))),
+        ("dir:a:12,disk", Some(StoreWanted::Disk("a", 12))),
+        ("dir:a:b:12,disk", Some(StoreWanted::Disk("a:b", 12))),
+        ("dir:a,disk:12", Some(StoreWanted::Folder("a,disk", 12))),
         ("mem:", None),
         ("mem:1k", None),
         ("dir:", None),
         ("dir::12", None),
         ("dir:a:12k", None),
+        ("dir:a,disk", None),
+        ("dir::12,disk", None),
+        ("dir:a:,disk", None),
+        ("dir:a:12,disc", None),
+        ("dir:a:12,disk,disk", None),
+        ("mem:12,disk", None),
         ("/a", None),
     ] {
         assert!(rt; read_store(name, 7) == wanted, "at {name}");
@@ -144,10 +153,29 @@ fn a_folder_outlives_the_store_over_it(rt: HostRuntime) -> Result<(), Fail> {
     let other = Settings::new(0, 1, 1, 1, b"other");
     assert!(rt; look(&rt, folder, &other) == Err(FolderFault::OtherGrid));
     assert!(rt; look(&rt, folder, &opening.settings)? == Found::Ours);
+    {
+        let store = open_folder(&rt, folder, &opening)?;
+        assert_eq!(rt; store.held(), 3);
+    }
+    served_from_its_disk(&rt, folder, &opening)?;
     let store = open_folder(&rt, folder, &opening)?;
-    assert_eq!(rt; store.held(), 3);
+    assert_eq!(rt; store.held(), 6);
     check(&rt, &[folder])?;
     fs::remove_dir_all(&rt, folder)?;
+    Ok(())
+}
+
+/// A folder with a share is served from its disk, where that is read and another one put.
+fn served_from_its_disk(rt: &HostRuntime, folder: &str, opening: &Opening) -> Result<(), Fail> {
+    let alloc = rt.alloc();
+    let mut store = open_on_disk(rt, folder, opening)?;
+    assert_eq!(rt; store.held(), 3);
+    assert!(rt; store.get([7; 16], 0)? == Some(share(alloc)?));
+    assert!(rt; store.put([7; 16], 1, share(alloc)?)?);
+    assert!(rt; store.get([7; 16], 1)? == Some(share(alloc)?));
+    assert_eq!(rt; store.failures(), 0);
+    let again = open_folder(rt, folder, opening);
+    assert!(rt; again.err() == Some(ProgramFault::Folder(FolderFault::InUse)));
     Ok(())
 }
 
