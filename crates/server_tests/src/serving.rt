@@ -157,7 +157,7 @@ fn a_folder_outlives_the_store_over_it(rt: HostRuntime) -> Result<(), Fail> {
         let store = open_folder(&rt, folder, &opening)?;
         assert_eq!(rt; store.held(), 3);
     }
-    served_from_its_disk(&rt, folder, &opening)?;
+    assert!(rt; is_served_from_its_disk(&rt, folder, &opening)?);
     let store = open_folder(&rt, folder, &opening)?;
     assert_eq!(rt; store.held(), 6);
     check(&rt, &[folder])?;
@@ -165,18 +165,34 @@ fn a_folder_outlives_the_store_over_it(rt: HostRuntime) -> Result<(), Fail> {
     Ok(())
 }
 
-/// A folder with a share is served from its disk, where that is read and another one put.
-fn served_from_its_disk(rt: &HostRuntime, folder: &str, opening: &Opening) -> Result<(), Fail> {
-    let alloc = rt.alloc();
+/// Whether a folder with a share is served from its disk, where that is read and another one put.
+fn is_served_from_its_disk(
+    rt: &HostRuntime,
+    folder: &str,
+    opening: &Opening,
+) -> Result<bool, Fail> {
     let mut store = open_on_disk(rt, folder, opening)?;
-    assert_eq!(rt; store.held(), 3);
-    assert!(rt; store.get([7; 16], 0)? == Some(share(alloc)?));
-    assert!(rt; store.put([7; 16], 1, share(alloc)?)?);
-    assert!(rt; store.get([7; 16], 1)? == Some(share(alloc)?));
-    assert_eq!(rt; store.failures(), 0);
-    let again = open_folder(rt, folder, opening);
-    assert!(rt; again.err() == Some(ProgramFault::Folder(FolderFault::InUse)));
-    Ok(())
+    let held = store.held();
+    let first = store.get([7; 16], 0)?;
+    let is_put = store.put([7; 16], 1, share(rt.alloc())?) == Ok(true);
+    let second = store.get([7; 16], 1)?;
+    let again = open_folder(rt, folder, opening).err();
+    Ok(
+        held == 3
+            && is_put
+            && is_share(&first)
+            && is_share(&second)
+            && store.failures() == 0
+            && again == Some(ProgramFault::Folder(FolderFault::InUse)),
+    )
+}
+
+/// Whether these are the share's bytes.
+fn is_share(bytes: &Option<RcSlice<u8>>) -> bool {
+    match bytes {
+        Some(bytes) => bytes.as_slice() == [9u8; 3].as_slice(),
+        None => false,
+    }
 }
 
 #[test]
