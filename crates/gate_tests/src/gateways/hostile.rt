@@ -94,7 +94,7 @@ enum Outcome {
 /// Whether a trial holds whichever call of its store fails, from the first on until none does.
 fn holds_at_each_failure(alloc: Global, trial: &Trial, for_good: bool) -> Result<bool, Fail> {
     for at in 1..100 {
-        let mut gateway = failing(alloc, 10_000, trial.calls + at, for_good)?;
+        let mut gateway = failing(alloc, 10_000, trial.calls.saturating_add(at), for_good)?;
         match outcome_of(alloc, &mut gateway, trial, for_good)? {
             Outcome::Failed => {}
             Outcome::Whole => return Ok(at > 10),
@@ -170,13 +170,15 @@ fn a_store_that_lies_gives_no_other_bytes(rt: HostRuntime) -> Result<(), Fail> {
     Ok(())
 }
 
-/// The first bytes, so many, of each share of an image of ten shares of 394 bytes.
+/// The first bytes, so many, of each share of an image of shares of 394 bytes.
 fn shares_in(alloc: Global, image: &[u8], length: usize) -> Result<Vec<RcSlice<u8>>, Fail> {
     let mut shares = Vec::new(alloc);
-    for number in 0..10_usize {
-        let at = 52 + number * 426;
-        let share = image.get(at..at + length).ok_or("no share")?;
-        shares.push(RcSlice::from_vec(joined(alloc, &[share])?)?)?;
+    // Behind the head each row has 32 bytes before its share's own.
+    let rows = image.get(20..).ok_or("no image")?;
+    for row in rows.chunks(426) {
+        let share = row.get(32..).ok_or("no share")?;
+        let front = share.get(..length).ok_or("no share")?;
+        shares.push(RcSlice::from_vec(joined(alloc, &[front])?)?)?;
     }
     Ok(shares)
 }
