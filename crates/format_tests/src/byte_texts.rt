@@ -1,143 +1,132 @@
+//! Bytes that are held, cut, read slowly and written in parts, texts and numbers.
+use crate::words::{count, digits, joined, said, small_number, truth};
+use case_lines::{Case, NoAnswer, shown};
 use octets::fakes::{AtTheEnd, SlowReader, SlowWriter};
-use octets::*;
-use std::alloc::AllocError;
-use std::io::{self, ErrorKind, Read, Write};
+use octets::{Bytes, Text, is_sharing, laws, read_number, split_at_byte, write_whole};
+use std::alloc::{AllocError, Global};
+use std::io::{self, Read};
 
-#[test]
-fn bytes_are_held_without_a_copy(rt: HostRuntime) -> Result<(), AllocError> {
-    assert!(rt; Bytes::new(rt.alloc()).is_empty());
-    let bytes = Bytes::from_slice(rt.alloc(), b"foobar")?;
-    assert_eq!(rt; bytes.len(), 6);
-    assert!(rt; !bytes.is_empty());
-    assert_eq!(rt; bytes.as_slice(), b"foobar".as_slice());
-    let mut roomy = Vec::with_capacity(rt.alloc(), 1000)?;
-    roomy.extend_from_slice(b"foobar")?;
+/// Answers questions whose second word is `held`, `none`, `roomy`, `text`, `number`, `cut`, `sharing`, `write`, `calls` or
+/// `read`.
+pub fn answer(alloc: Global, case: &Case<'_>) -> Result<String, NoAnswer> {
+    match case.word(1)? {
+        "held" => held(alloc, &Bytes::from_slice(alloc, &case.bytes(alloc, 2)?)?),
+        "none" => held(alloc, &Bytes::new(alloc)),
+        "roomy" => roomy(alloc, count(case, 2)?, &case.bytes(alloc, 3)?),
+        "text" => text(alloc, case.word(2)?),
+        "number" => number(alloc, &case.bytes(alloc, 2)?, case.number(3)?),
+        "cut" => cut(alloc, &case.bytes(alloc, 2)?, &case.bytes(alloc, 3)?),
+        "sharing" => sharing(alloc, small_number(case, 2)?, small_number(case, 3)?),
+        "write" => written(alloc, case),
+        "calls" => calls_left(alloc, case),
+        "read" => slowly_read(alloc, &case.bytes(alloc, 2)?),
+        _ => Err(NoAnswer::Question),
+    }
+}
+
+/// The bytes, how many they are, and whether there is none.
+fn held(alloc: Global, bytes: &Bytes) -> Result<String, NoAnswer> {
+    let word = shown(alloc, bytes.as_slice())?;
+    let len = digits(alloc, bytes.len() as u64)?;
+    joined(alloc, &[&word, &len, truth(bytes.is_empty())])
+}
+
+/// The bytes as a vector with room for more gives them back, and whether it still has that room.
+fn roomy(alloc: Global, room: usize, bytes: &[u8]) -> Result<String, NoAnswer> {
+    let mut roomy = Vec::with_capacity(alloc, room)?;
+    roomy.extend_from_slice(bytes)?;
     let vector = Bytes::from_vec(roomy).into_vec();
-    assert_eq!(rt; vector.as_slice(), b"foobar".as_slice());
-    assert!(rt; vector.capacity() >= 1000);
-    Ok(())
+    let word = shown(alloc, &vector)?;
+    joined(alloc, &[&word, truth(vector.capacity() >= room)])
 }
 
-#[test]
-fn text_is_that_of_its_string(rt: HostRuntime) -> Result<(), AllocError> {
-    for string in ["", "foobar", "é/日"] {
-        let text = Text::from_string(String::from_str(rt.alloc(), string)?);
-        assert_eq!(rt; text.as_str(), string);
-    }
-    Ok(())
+/// A text in quotes.
+fn text(alloc: Global, word: &str) -> Result<String, NoAnswer> {
+    let text = Text::from_string(String::from_str(alloc, word)?);
+    Ok(format!(in alloc; "\"{}\"", text.as_str())?)
 }
 
-#[test]
-fn numbers_have_no_leading_zeros_and_no_sign(rt: HostRuntime) {
-    let texts = [
-        ("0", Some(0)),
-        ("7", Some(7)),
-        ("255", Some(255)),
-        ("256", None),
-        ("00", None),
-        ("07", None),
-        ("+7", None),
-        ("-7", None),
-        (" 7", None),
-        ("7a", None),
-        ("", None),
-        ("18446744073709551623", None),
-    ];
-    for (text, wanted) in texts {
-        assert_eq!(rt; read_number(text.as_bytes(), 255), wanted, "at {text}");
-    }
-    let largest = b"18446744073709551615";
-    assert_eq!(rt; read_number(largest.as_slice(), u64::MAX), Some(u64::MAX));
-    let past = b"18446744073709551616";
-    assert_eq!(rt; read_number(past.as_slice(), u64::MAX), None);
-}
-
-#[test]
-fn bytes_are_cut_at_the_first_such_byte(rt: HostRuntime) {
-    let Some((front, back)) = split_at_byte(b"k:n:size", b':') else {
-        panic!(rt; "no colon");
-    };
-    assert_eq!(rt; front, b"k".as_slice());
-    assert_eq!(rt; back, b"n:size".as_slice());
-    assert!(rt; split_at_byte(b"size", b':').is_none());
-}
-
-#[test]
-fn some_shares_are_enough_of_at_most_256(rt: HostRuntime) {
-    let wanted = [
-        (3, 10, true),
-        (1, 1, true),
-        (256, 256, true),
-        (0, 1, false),
-        (0, 0, false),
-        (4, 3, false),
-        (1, 257, false),
-    ];
-    for (k, n, is) in wanted {
-        assert_eq!(rt; is_sharing(k, n), is, "at {k} of {n}");
-    }
-}
-
-#[test]
-fn bytes_are_written_whole_or_a_beginning_of_them(rt: HostRuntime) {
-    let bytes = b"foobarbaz";
-    for (room, budget, held, wanted) in [
-        (9, 10, 9, Ok(())),
-        (20, 100, 9, Ok(())),
-        (9, 9, 8, Err(WriteFault)),
-        (8, 100, 8, Err(WriteFault)),
-        (0, 100, 0, Err(WriteFault)),
-        (9, 0, 0, Err(WriteFault)),
-    ] {
-        for at_the_end in [AtTheEnd::Fails, AtTheEnd::TakesNothing] {
-            let mut writer = SlowWriter {
-                held: Vec::new(rt.alloc()),
-                room,
-                at_a_time: 2,
-                interrupts: Some(true),
-                at_the_end,
-                flushes: true,
-            };
-            let mut calls = budget;
-            let outcome = write_whole(&mut writer, bytes, &mut calls);
-            assert_eq!(rt; outcome, wanted, "at {room} and {budget}");
-            assert_eq!(rt;
-                writer.held.as_slice(),
-                &bytes[..held],
-                "at {room} and {budget}"
-            );
-        }
-    }
-}
-
-#[test]
-fn each_call_of_a_writer_counts(rt: HostRuntime) {
-    let mut writer = Vec::new(rt.alloc());
-    let mut calls = 7;
-    assert_eq!(rt; write_whole(&mut writer, b"foobar", &mut calls), Ok(()));
-    assert_eq!(rt; write_whole(&mut writer, b"", &mut calls), Ok(()));
-    assert_eq!(rt; writer.as_slice(), b"foobar".as_slice());
-    assert_eq!(rt; calls, 6);
+fn number(alloc: Global, text: &[u8], most: u64) -> Result<String, NoAnswer> {
     laws::numbers_have_one_text();
+    match read_number(text, most) {
+        Some(number) => Ok(digits(alloc, number)?),
+        None => said(alloc, "none"),
+    }
 }
 
-#[test]
-fn a_slow_reader_gives_its_bytes_and_then_fails(rt: HostRuntime) {
+/// What stands in front of a byte and behind it.
+fn cut(alloc: Global, bytes: &[u8], at: &[u8]) -> Result<String, NoAnswer> {
+    let Some(byte) = at.first() else {
+        return Err(NoAnswer::Word(3));
+    };
+    let Some((front, back)) = split_at_byte(bytes, *byte) else {
+        return said(alloc, "none");
+    };
+    let (front, back) = (shown(alloc, front)?, shown(alloc, back)?);
+    joined(alloc, &[&front, &back])
+}
+
+fn sharing(alloc: Global, k: u16, n: u16) -> Result<String, NoAnswer> {
+    said(alloc, truth(is_sharing(k, n)))
+}
+
+/// What a writer with so much room holds after so many calls at most, and the outcome.
+fn written(alloc: Global, case: &Case<'_>) -> Result<String, NoAnswer> {
+    let mut calls = case.number(3)?;
+    let at_the_end = match case.word(4)? {
+        "fails" => AtTheEnd::Fails,
+        "takes_nothing" => AtTheEnd::TakesNothing,
+        _ => return Err(NoAnswer::Word(4)),
+    };
+    let mut writer = SlowWriter {
+        held: Vec::new(alloc),
+        room: count(case, 2)?,
+        at_a_time: 2,
+        interrupts: Some(true),
+        at_the_end,
+        flushes: true,
+    };
+    let outcome = write_whole(&mut writer, &case.bytes(alloc, 5)?, &mut calls);
+    let word = shown(alloc, &writer.held)?;
+    joined(alloc, &[&word, &format!(in alloc; "{outcome:?}")?])
+}
+
+/// What a vector holds after two times of bytes, and how many of so many calls are left.
+fn calls_left(alloc: Global, case: &Case<'_>) -> Result<String, NoAnswer> {
+    let mut calls = case.number(2)?;
+    let mut writer = Vec::new(alloc);
+    let first = write_whole(&mut writer, &case.bytes(alloc, 3)?, &mut calls).is_ok();
+    let second = write_whole(&mut writer, &case.bytes(alloc, 4)?, &mut calls).is_ok();
+    let word = shown(alloc, &writer)?;
+    let calls = digits(alloc, calls)?;
+    joined(alloc, &[&word, truth(first), truth(second), &calls])
+}
+
+/// What a reader that is interrupted once and fails at the end gives, four bytes at a time, and what it gives there when
+/// it doesn't fail.
+fn slowly_read(alloc: Global, bytes: &[u8]) -> Result<String, NoAnswer> {
     let mut reader = SlowReader {
-        bytes: b"foobar",
+        bytes,
         at_a_time: 4,
         interrupts: Some(false),
         fails: true,
     };
     let mut buf = [0; 8];
-    assert_eq!(rt; reader.read(&mut buf).ok(), Some(4));
-    assert_eq!(rt; buf, *b"foob\0\0\0\0");
-    let interrupted = reader.read(&mut buf).err().map(|error| error.kind());
-    assert_eq!(rt; interrupted, Some(ErrorKind::Interrupted));
-    assert_eq!(rt; reader.read(&mut buf).ok(), Some(2));
+    let first = outcome(alloc, reader.read(&mut buf))?;
+    let word = shown(alloc, buf.as_slice())?;
+    let second = outcome(alloc, reader.read(&mut buf))?;
+    let third = outcome(alloc, reader.read(&mut buf))?;
     reader.interrupts = None;
-    let failed = reader.read(&mut buf).err().map(|error| error.kind());
-    assert_eq!(rt; failed, Some(ErrorKind::BrokenPipe));
+    let fourth = outcome(alloc, reader.read(&mut buf))?;
     reader.fails = false;
-    assert_eq!(rt; reader.read(&mut buf).ok(), Some(0));
+    let fifth = outcome(alloc, reader.read(&mut buf))?;
+    joined(alloc, &[&first, &word, &second, &third, &fourth, &fifth])
+}
+
+/// How many bytes were read, or the kind of the error.
+fn outcome(alloc: Global, read: io::Result<usize>) -> Result<String, AllocError> {
+    match read {
+        Ok(size) => format!(in alloc; "{size}"),
+        Err(error) => format!(in alloc; "{:?}", error.kind()),
+    }
 }

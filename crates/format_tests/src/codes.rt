@@ -1,14 +1,58 @@
-//! Blocks of another program, and what the clauses do not show.
-ghost use Rattle.std.specs.Prelude.{◌≡◌, ◌<◌, IsTrue, length, take, All};
+//! The k-of-N code: blocks that are made and decoded, in both forms of each call, and products that are added.
+ghost use Rattle.std.specs.Prelude.{◌≡◌, ◌<◌, IsTrue, take, All};
 ghost use Rattle.erasure.specs.Given.{contents_of, HaveOneLength};
 
-use erasure::*;
+use crate::words::{count, in_hex, said, small_number};
+use case_lines::{Case, NoAnswer};
+use erasure::{Code, CodeFault, mul_add};
 use gf_field::mul;
-use std::alloc::Global;
-use std::process::Abort;
-use std::test::Fail;
+use std::alloc::{AllocError, Global};
 
-mod vectors;
+/// Answers `code new K N`, `code rest K N BLOCK..`, `code choices K N BLOCK..`, `code decode K N (NUMBER BLOCK)..`,
+/// `code add DST SRC C`, `code sums COUNT BYTE` and `code sum COUNT C`.
+pub fn answer(alloc: Global, case: &Case<'_>) -> Result<String, NoAnswer> {
+    match case.word(1)? {
+        "new" => fresh(alloc, small_number(case, 2)?, small_number(case, 3)?),
+        "add" => added(alloc, case),
+        "sums" => sums(alloc, count(case, 2)?, &case.bytes(alloc, 3)?),
+        "sum" => sum(alloc, count(case, 2)?, constant(case, 3)?),
+        "decode" => from_numbered(alloc, case),
+        _ => of_primary(alloc, case),
+    }
+}
+
+fn constant(case: &Case<'_>, at: usize) -> Result<u8, NoAnswer> {
+    match case.word(at)?.parse::<u8>() {
+        Ok(number) => Ok(number),
+        Err(_) => Err(NoAnswer::Word(at)),
+    }
+}
+
+/// Whether there is a code of these numbers.
+fn fresh(alloc: Global, k: u16, n: u16) -> Result<String, NoAnswer> {
+    match Code::new(k, n) {
+        Ok(_) => said(alloc, "a code"),
+        Err(fault) => Ok(format!(in alloc; "{fault}")?),
+    }
+}
+
+/// What is asked of the primary blocks that are the words from the fifth on.
+fn of_primary(alloc: Global, case: &Case<'_>) -> Result<String, NoAnswer> {
+    let (k, n) = (small_number(case, 2)?, small_number(case, 3)?);
+    let mut blocks = Vec::new(alloc);
+    for at in 4..case.len() {
+        blocks.push(case.bytes(alloc, at)?)?;
+    }
+    let mut primary = Vec::new(alloc);
+    for block in &blocks {
+        primary.push(block.as_slice())?;
+    }
+    match case.word(1)? {
+        "rest" => rest(alloc, (k, n), &primary),
+        "choices" => choices(alloc, (k, n), &primary),
+        _ => Err(NoAnswer::Question),
+    }
+}
 
 fn have_one_length(blocks: &[&[u8]]) -> bool
     ensures { IsTrue result → HaveOneLength (contents_of blocks.now) }
@@ -33,36 +77,39 @@ fn can_decode(code: &Code, n: u16, blocks: &[(u16, &[u8])]) -> bool
     true
 }
 
-/// All n blocks, in both forms of the call.
+/// All n blocks, where both forms of the call make the same.
 fn encode_all(
-    rt: &impl Abort,
     alloc: Global,
     (k, n): (u16, u16),
     primary: &[&[u8]],
-) -> Result<Vec<Vec<u8>>, Fail> {
+) -> Result<Vec<Vec<u8>>, CodeFault> {
     let code = Code::new(k, n)?;
-    assert_eq!(rt; primary.len(), k as usize);
-    assert!(rt; have_one_length(primary));
+    if primary.len() != k as usize || !have_one_length(primary) {
+        return Err(CodeFault::UnequalLength);
+    }
     let mut blocks = Vec::new(alloc);
     let mut row = Vec::new(alloc);
     for i in 0..n {
         let block = code.encode_block(alloc, primary, i)?;
         code.encode_block_into(primary, i, &mut row)?;
-        assert!(rt; row.ends_with(&block));
+        if !row.ends_with(&block) {
+            return Err(CodeFault::BadParameters);
+        }
         blocks.push(block)?;
     }
     Ok(blocks)
 }
 
-/// The primary blocks, in both forms of the call.
+/// The primary blocks, where both forms of the call decode the same.
 fn decode(
-    rt: &impl Abort,
     alloc: Global,
     (k, n): (u16, u16),
     blocks: &[(u16, &[u8])],
 ) -> Result<Vec<Vec<u8>>, CodeFault> {
     let code = Code::new(k, n)?;
-    assert!(rt; can_decode(&code, n, blocks));
+    if !can_decode(&code, n, blocks) {
+        return Err(CodeFault::BadParameters);
+    }
     let mut row = Vec::from_slice(alloc, &[7])?;
     let into = code.decode_into(alloc, blocks, &mut row);
     let primary = code.decode(alloc, blocks);
@@ -72,130 +119,78 @@ fn decode(
             whole.extend_from_slice(block)?;
         }
     }
-    assert!(rt; into.as_ref().err() == primary.as_ref().err());
-    assert_eq!(rt; row, whole);
+    if into.as_ref().err() != primary.as_ref().err() || row != whole {
+        return Err(CodeFault::BadParameters);
+    }
     primary
 }
 
-#[test]
-fn k_is_at_least_one_and_n_at_most_256(rt: HostRuntime) {
-    for (k, n) in [(0, 1), (3, 2), (1, 257), (0, 0), (257, 257)] {
-        assert!(rt; matches!(&Code::new(k, n), Err(CodeFault::BadParameters)));
-    }
-    for (k, n) in [(1, 1), (1, 256), (256, 256), (3, 10)] {
-        assert!(rt; Code::new(k, n).is_ok());
-    }
-}
-
-#[test]
-fn two_of_four(rt: HostRuntime) -> Result<(), Fail> {
-    let blocks = encode_all(&rt, rt.alloc(), (2, 4), &[&[1], &[3]])?;
-    assert_eq!(rt; blocks.len(), 4);
-    assert_eq!(rt; blocks[2].as_slice(), [5].as_slice());
-    assert_eq!(rt; blocks[3].as_slice(), [9].as_slice());
-    let primary = decode(&rt, rt.alloc(), (2, 4), &[(2, &[5]), (3, &[9])])?;
-    assert_eq!(rt; primary.len(), 2);
-    assert_eq!(rt; primary[0].as_slice(), [1].as_slice());
-    assert_eq!(rt; primary[1].as_slice(), [3].as_slice());
-    Ok(())
-}
-
-#[test]
-fn faults_come_in_their_order(rt: HostRuntime) {
-    assert!(rt;
-        matches!(
-            &decode(&rt, rt.alloc(), (2, 4), &[(2, &[5])]),
-            Err(CodeFault::TooFew)
-        )
-    );
-    assert!(rt;
-        matches!(
-            &decode(&rt, rt.alloc(), (2, 4), &[(2, &[5]), (2, &[5, 7])]),
-            Err(CodeFault::Repeated)
-        )
-    );
-    assert!(rt;
-        matches!(
-            &decode(&rt, rt.alloc(), (2, 4), &[(2, &[5]), (3, &[9, 7])]),
-            Err(CodeFault::UnequalLength)
-        )
-    );
-}
-
-#[test]
-fn blocks_past_the_kth_are_not_looked_at(rt: HostRuntime) -> Result<(), Fail> {
-    let primary = decode(
-        &rt,
-        rt.alloc(),
-        (2, 4),
-        &[(2, &[5]), (3, &[9]), (3, &[0, 0])],
-    )?;
-    assert_eq!(rt; primary.len(), 2);
-    assert_eq!(rt; primary[0].as_slice(), [1].as_slice());
-    Ok(())
-}
-
-#[test]
-fn with_one_primary_block_each_block_is_it(rt: HostRuntime) -> Result<(), Fail> {
-    for block in encode_all(&rt, rt.alloc(), (1, 5), &[&[7, 0, 255]])? {
-        assert_eq!(rt; block.as_slice(), [7, 0, 255].as_slice());
-    }
-    for block in encode_all(&rt, rt.alloc(), (2, 3), &[&[], &[]])? {
-        assert_eq!(rt; block.len(), 0);
-    }
-    Ok(())
-}
-
-/// The blocks are `bytes` in pieces of `size`: encoding the first k gives all, and decoding the last k the first.
-fn check_vector(
-    rt: &impl Abort,
-    alloc: Global,
-    (k, n): (u16, u16),
-    size: usize,
-    text: &str,
-) -> Result<(), Fail> {
-    let bytes = hex::decode(alloc, text)?;
-    let mut expected = Vec::new(alloc);
-    for piece in bytes.chunks(size.max(1)) {
-        expected.push(piece)?;
-    }
-    assert!(rt; expected.len() == n as usize && k <= n);
-    let primary = &expected[..k as usize];
-    let blocks = encode_all(rt, alloc, (k, n), primary)?;
-    for (block, piece) in blocks.iter().zip(&expected) {
-        assert_eq!(rt; block.as_slice(), *piece);
-    }
-    let mut given = Vec::new(alloc);
-    for (i, piece) in (0..n).zip(&expected) {
-        if i >= n - k {
-            given.push((i, *piece))?;
+/// Whether the first blocks are the primary ones.
+fn begin_with(blocks: &[Vec<u8>], primary: &[&[u8]]) -> bool {
+    for (block, expected) in blocks.iter().zip(primary) {
+        if block.as_slice() != *expected {
+            return false;
         }
     }
-    let decoded = decode(rt, alloc, (k, n), &given)?;
-    for (block, piece) in decoded.iter().zip(primary) {
-        assert_eq!(rt; block.as_slice(), *piece);
-    }
-    Ok(())
+    blocks.len() >= primary.len()
 }
 
-#[test]
-fn blocks_are_those_of_zfec(rt: HostRuntime) -> Result<(), Fail> {
-    check_vector(&rt, rt.alloc(), (2, 4), 1, vectors::BLOCKS_2_OF_4)?;
-    check_vector(&rt, rt.alloc(), (3, 10), 19, vectors::BLOCKS_3_OF_10)?;
-    check_vector(&rt, rt.alloc(), (5, 7), 8, vectors::BLOCKS_5_OF_7)?;
-    check_vector(&rt, rt.alloc(), (4, 4), 5, vectors::BLOCKS_4_OF_4)?;
-    check_vector(&rt, rt.alloc(), (16, 40), 2, vectors::BLOCKS_16_OF_40)?;
-    check_vector(&rt, rt.alloc(), (100, 256), 1, vectors::BLOCKS_100_OF_256)
-}
-
-/// Decodes from the blocks whose bits are set.
-fn check_choice(
-    rt: &impl Abort,
+/// Whether the primary blocks are decoded from the last k of all.
+fn are_from_last(
     alloc: Global,
     (k, n): (u16, u16),
     blocks: &[Vec<u8>],
+    primary: &[&[u8]],
+) -> Result<bool, AllocError> {
+    let mut last = Vec::new(alloc);
+    for (number, block) in (0..n).zip(blocks) {
+        if number >= n.saturating_sub(k) {
+            last.push((number, block.as_slice()))?;
+        }
+    }
+    match decode(alloc, (k, n), &last) {
+        Ok(decoded) => Ok(begin_with(&decoded, primary)),
+        Err(_) => Ok(false),
+    }
+}
+
+/// The blocks behind the primary ones, where the last k of all give the primary ones back.
+fn rest(alloc: Global, (k, n): (u16, u16), primary: &[&[u8]]) -> Result<String, NoAnswer> {
+    let Ok(blocks) = encode_all(alloc, (k, n), primary) else {
+        return said(alloc, "not encoded");
+    };
+    if !begin_with(&blocks, primary) || !are_from_last(alloc, (k, n), &blocks, primary)? {
+        return said(alloc, "other primary blocks");
+    }
+    let mut rest = Vec::new(alloc);
+    for block in blocks.iter().skip(k as usize) {
+        rest.extend_from_slice(block)?;
+    }
+    Ok(in_hex(alloc, &rest)?)
+}
+
+/// From how many choices of k of the n blocks, at most 8, the primary ones are decoded.
+fn choices(alloc: Global, (k, n): (u16, u16), primary: &[&[u8]]) -> Result<String, NoAnswer> {
+    let Ok(blocks) = encode_all(alloc, (k, n), primary) else {
+        return said(alloc, "not encoded");
+    };
+    let mut decoding = 0_u32;
+    for choice in 0..1_u16 << n.min(8) {
+        if is_decoding(alloc, (k, n), &blocks, primary, choice)? {
+            decoding = decoding.saturating_add(1);
+        }
+    }
+    Ok(format!(in alloc; "{decoding}")?)
+}
+
+/// Whether k bits of the choice are set, and the primary blocks are decoded from the blocks whose bits these are.
+fn is_decoding(
+    alloc: Global,
+    (k, n): (u16, u16),
+    blocks: &[Vec<u8>],
+    primary: &[&[u8]],
     choice: u16,
-) -> Result<(), Fail> {
+) -> Result<bool, AllocError> {
     let mut given = Vec::new(alloc);
     for (i, block) in (0..n).zip(blocks) {
         if (choice >> (i % 16)) & 1 == 1 {
@@ -203,90 +198,103 @@ fn check_choice(
         }
     }
     if given.len() != k as usize {
-        return Ok(());
+        return Ok(false);
     }
-    let decoded = decode(rt, alloc, (k, n), &given)?;
-    assert_eq!(rt; decoded.len(), k as usize);
-    for (block, expected) in decoded.iter().zip(blocks) {
-        assert_eq!(rt; block.as_slice(), expected.as_slice());
+    match decode(alloc, (k, n), &given) {
+        Ok(decoded) => Ok(decoded.len() == k as usize && begin_with(&decoded, primary)),
+        Err(_) => Ok(false),
     }
-    Ok(())
 }
 
-#[test]
-fn every_choice_of_k_of_n_decodes(rt: HostRuntime) -> Result<(), Fail> {
-    let bytes: [&[u8]; 8] = [
-        &[1, 200],
-        &[30, 4],
-        &[5, 60],
-        &[70, 8],
-        &[9, 0],
-        &[11, 255],
-        &[13, 14],
-        &[128, 29],
-    ];
-    for n in 1..=8u16 {
-        for k in 1..=n {
-            let blocks = encode_all(&rt, rt.alloc(), (k, n), &bytes[..k as usize])?;
-            for choice in 0..256u16 {
-                check_choice(&rt, rt.alloc(), (k, n), &blocks, choice)?;
+/// The words from the fifth on, a number and a block each.
+fn numbered(alloc: Global, case: &Case<'_>) -> Result<Vec<(u16, Vec<u8>)>, NoAnswer> {
+    let mut blocks = Vec::new(alloc);
+    for at in 4..case.len() {
+        if at % 2 == 0 {
+            let number = small_number(case, at)?;
+            let block = case.bytes(alloc, at.saturating_add(1))?;
+            blocks.push((number, block))?;
+        }
+    }
+    Ok(blocks)
+}
+
+/// The primary blocks that are decoded from the words from the fifth on, a number and a block each.
+fn from_numbered(alloc: Global, case: &Case<'_>) -> Result<String, NoAnswer> {
+    let (k, n) = (small_number(case, 2)?, small_number(case, 3)?);
+    let blocks = numbered(alloc, case)?;
+    let mut given = Vec::new(alloc);
+    for (number, block) in &blocks {
+        given.push((*number, block.as_slice()))?;
+    }
+    match decode(alloc, (k, n), &given) {
+        Ok(primary) => in_words(alloc, &primary),
+        Err(fault) => Ok(format!(in alloc; "{fault}")?),
+    }
+}
+
+/// Blocks in hexadecimal digits, each with a blank behind it but the last.
+fn in_words(alloc: Global, blocks: &[Vec<u8>]) -> Result<String, NoAnswer> {
+    let mut words = String::new(alloc);
+    for block in blocks {
+        if !words.is_empty() {
+            words.push(' ')?;
+        }
+        words.push_str(&in_hex(alloc, block)?)?;
+    }
+    Ok(words)
+}
+
+/// Bytes to which the products of others and a constant were added.
+fn added(alloc: Global, case: &Case<'_>) -> Result<String, NoAnswer> {
+    let (mut sum, src) = (case.bytes(alloc, 2)?, case.bytes(alloc, 3)?);
+    if sum.len() != src.len() {
+        return Err(NoAnswer::Word(3));
+    }
+    mul_add(&mut sum, &src, constant(case, 4)?);
+    Ok(in_hex(alloc, &sum)?)
+}
+
+/// So many bytes that are spread over all values.
+fn spread(alloc: Global, count: usize) -> Result<Vec<u8>, AllocError> {
+    let mut bytes = Vec::with_capacity(alloc, count)?;
+    for i in 0..count {
+        bytes.push((i % 256 * 167 % 256) as u8)?;
+    }
+    Ok(bytes)
+}
+
+/// Whether products are added as byte by byte, by the field's own product.
+fn is_plain(alloc: Global, start: &[u8], src: &[u8], c: u8) -> Result<bool, AllocError> {
+    let mut fast = Vec::from_slice(alloc, start)?;
+    let mut plain = Vec::from_slice(alloc, start)?;
+    if fast.len() != src.len() {
+        return Ok(false);
+    }
+    mul_add(&mut fast, src, c);
+    for (sum, byte) in plain.iter_mut().zip(src) {
+        *sum ^= mul(c, *byte);
+    }
+    Ok(fast == plain)
+}
+
+/// At how many constants and lengths up to `count` products are added to bytes of one value as byte by byte.
+fn sums(alloc: Global, count: usize, start: &[u8]) -> Result<String, NoAnswer> {
+    let src = spread(alloc, count)?;
+    let mut plain = 0_u32;
+    for c in 0..=255_u8 {
+        for size in 0..=src.len() {
+            let starts = start.repeat(alloc, size)?;
+            if is_plain(alloc, &starts, &src[..size], c)? {
+                plain = plain.saturating_add(1);
             }
         }
     }
-    Ok(())
+    Ok(format!(in alloc; "{plain}")?)
 }
 
-#[test]
-fn mul_add_adds_products(rt: HostRuntime) {
-    let mut sum = [1, 2, 128, 0];
-    mul_add(&mut sum, &[128, 0, 128, 7], 2);
-    assert_eq!(rt; sum, [1 ^ 29, 2, 128 ^ 29, 14]);
-}
-
-/// `mul_add` byte by byte, by the field's own product.
-fn mul_add_plainly(dst: &mut [u8], src: &[u8], c: u8)
-    requires { length dst.old ≡ length src.now }
-{
-    for i in 0..src.len() {
-        dst[i] ^= mul(c, src[i]);
-    }
-}
-
-/// Compares both at these bytes.
-fn check_mul_add(rt: &impl Abort, fast: &mut [u8], plain: &mut [u8], src: &[u8], c: u8)
-    requires fast { length fast.old ≡ length src.now }
-    requires plain { length plain.old ≡ length src.now }
-{
-    mul_add(fast, src, c);
-    mul_add_plainly(plain, src, c);
-    assert_eq!(rt; &*fast, &*plain);
-}
-
-#[test]
-fn mul_add_is_byte_by_byte_at_each_constant_and_length(rt: HostRuntime) {
-    let mut src = [0u8; 100];
-    for i in 0..100usize {
-        src[i] = (i * 167 % 256) as u8;
-    }
-    for c in 0..=255u8 {
-        for size in 0..=100usize {
-            let mut fast = [0x5au8; 100];
-            let mut plain = [0x5au8; 100];
-            check_mul_add(&rt, &mut fast[..size], &mut plain[..size], &src[..size], c);
-            assert_eq!(rt; fast, plain);
-        }
-    }
-}
-
-#[test]
-fn mul_add_is_byte_by_byte_at_many_bytes(rt: HostRuntime) -> Result<(), Fail> {
-    let mut src = Vec::with_capacity(rt.alloc(), 100_003)?;
-    for i in 0..100_003usize {
-        src.push((i % 256 * 167 % 256) as u8)?;
-    }
-    let mut fast = Vec::from_slice(rt.alloc(), &src)?;
-    let mut plain = Vec::from_slice(rt.alloc(), &src)?;
-    assert!(rt; fast.len() == src.len() && plain.len() == src.len());
-    check_mul_add(&rt, &mut fast, &mut plain, &src, 0x8e);
-    Ok(())
+/// Whether the products of so many bytes and a constant are added to these bytes as byte by byte.
+fn sum(alloc: Global, count: usize, c: u8) -> Result<String, NoAnswer> {
+    let src = spread(alloc, count)?;
+    Ok(format!(in alloc; "{}", is_plain(alloc, &src, &src, c)?)?)
 }

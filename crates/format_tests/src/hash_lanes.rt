@@ -1,12 +1,76 @@
-//! Hashes by another program, in each lane and at each length that ends a block in another way.
+//! Hashes of several values at once, in each lane and at each length that ends a block in another way. Byte `i` of value
+//! `j` is `7 i + 31 j + 1` modulo 256.
+use crate::words::{count, hashes_in_hex, in_hex, said};
+use case_lines::{Case, NoAnswer};
 use std::alloc::{AllocError, Global};
-use std::process::Abort;
-use std::test::Fail;
 use tag_hash::{tagged_all, tagged_four};
 
-mod vectors;
+/// The values of the cases before, and their hashes.
+#[derive(Drop)]
+pub struct Lanes {
+    values: Vec<Vec<u8>>,
+    hashes: Vec<[u8; 32]>,
+}
 
-const TAG: &[u8] = b"webgate_block_v1";
+impl Lanes {
+    /// No values.
+    pub fn new(alloc: Global) -> Lanes {
+        Lanes {
+            values: Vec::new(alloc),
+            hashes: Vec::new(alloc),
+        }
+    }
+
+    /// Answers `lanes four TAG SIZE`: the hashes of values 0 to 3 of this size; `lanes next TAG SIZE`, the hash of the
+    /// next value, of this size; and `lanes none TAG`, how many hashes no values have.
+    pub fn answer(&mut self, alloc: Global, case: &Case<'_>) -> Result<String, NoAnswer> {
+        let tag = case.bytes(alloc, 2)?;
+        match case.word(1)? {
+            "four" => four(alloc, &tag, count(case, 3)?),
+            "next" => self.next(alloc, &tag, count(case, 3)?),
+            "none" => Ok(format!(in alloc; "{}", tagged_all(alloc, &tag, &[])?.len())?),
+            _ => Err(NoAnswer::Question),
+        }
+    }
+
+    /// The hash of a further value, made with those of all before it, and with those of the last four, where all agree.
+    fn next(&mut self, alloc: Global, tag: &[u8], size: usize) -> Result<String, NoAnswer> {
+        self.values.push(value(alloc, self.values.len(), size)?)?;
+        let mut slices = Vec::new(alloc);
+        for bytes in &self.values {
+            slices.push(bytes.as_slice())?;
+        }
+        let hashes = tagged_all(alloc, tag, &slices)?;
+        if hashes.len() != slices.len() || !hashes.starts_with(&self.hashes) {
+            return said(alloc, "other hashes than before");
+        }
+        if !is_of_four(tag, &slices, &hashes) {
+            return said(alloc, "other hashes than of four at once");
+        }
+        self.hashes = hashes;
+        match self.hashes.last() {
+            Some(hash) => Ok(in_hex(alloc, hash)?),
+            None => said(alloc, "no hash"),
+        }
+    }
+}
+
+/// Whether the last four hashes are those of the last four values at once. Fewer than four are.
+fn is_of_four(tag: &[u8], values: &[&[u8]], hashes: &[[u8; 32]]) -> bool {
+    let Some([a, b, c, d]) = values.last_chunk::<4>() else {
+        return true;
+    };
+    hashes.ends_with(&tagged_four(tag, &[*a, *b, *c, *d]))
+}
+
+/// The hashes of values 0 to 3 of a size, made at once.
+fn four(alloc: Global, tag: &[u8], size: usize) -> Result<String, NoAnswer> {
+    let a = value(alloc, 0, size)?;
+    let b = value(alloc, 1, size)?;
+    let c = value(alloc, 2, size)?;
+    let d = value(alloc, 3, size)?;
+    Ok(hashes_in_hex(alloc, &tagged_four(tag, &[&a, &b, &c, &d]))?)
+}
 
 /// Value `j` of `size` bytes.
 fn value(alloc: Global, j: usize, size: usize) -> Result<Vec<u8>, AllocError> {
@@ -15,87 +79,4 @@ fn value(alloc: Global, j: usize, size: usize) -> Result<Vec<u8>, AllocError> {
         bytes.push(((i % 256 * 7 + j % 256 * 31 + 1) % 256) as u8)?;
     }
     Ok(bytes)
-}
-
-/// Compares the hashes of values 0 to 3 of `size` bytes with these texts.
-fn check_four(
-    rt: &impl Abort,
-    alloc: Global,
-    tag: &[u8],
-    size: usize,
-    expected: &[&str; 4],
-) -> Result<(), Fail> {
-    let a = value(alloc, 0, size)?;
-    let b = value(alloc, 1, size)?;
-    let c = value(alloc, 2, size)?;
-    let d = value(alloc, 3, size)?;
-    let digests = tagged_four(tag, &[&a, &b, &c, &d]);
-    for (digest, text) in digests.iter().zip(expected) {
-        let bytes = hex::decode(alloc, *text)?;
-        assert_eq!(rt; digest.as_slice(), bytes.as_slice(), "{size} bytes");
-    }
-    Ok(())
-}
-
-#[test]
-fn four_at_once_are_those_of_another_program(rt: HostRuntime) -> Result<(), Fail> {
-    for (size, expected) in &vectors::HASHES_BY_LENGTH {
-        check_four(&rt, rt.alloc(), TAG, *size, expected)?;
-    }
-    Ok(())
-}
-
-#[test]
-fn four_under_long_tags_are_those_of_another_program(rt: HostRuntime) -> Result<(), Fail> {
-    let tag = [b't'; 61];
-    check_four(
-        &rt,
-        rt.alloc(),
-        &tag[..60],
-        20,
-        &vectors::HASHES_UNDER_THE_LONGEST_TAG,
-    )?;
-    check_four(&rt, rt.alloc(), &tag, 20, &vectors::HASHES_UNDER_A_LONG_TAG)
-}
-
-/// The values of the table that has a hash for each.
-fn all_values(alloc: Global) -> Result<Vec<Vec<u8>>, AllocError> {
-    let mut values = Vec::new(alloc);
-    for (j, (size, _)) in vectors::HASHES_OF_ALL.iter().enumerate() {
-        values.push(value(alloc, j, *size)?)?;
-    }
-    Ok(values)
-}
-
-/// Compares hashes with those of the table from `at` on.
-fn check_all(rt: &impl Abort, alloc: Global, at: usize, digests: &[[u8; 32]]) -> Result<(), Fail> {
-    for (digest, (size, text)) in digests.iter().zip(vectors::HASHES_OF_ALL.iter().skip(at)) {
-        let bytes = hex::decode(alloc, *text)?;
-        assert_eq!(rt; digest.as_slice(), bytes.as_slice(), "{size} bytes");
-    }
-    Ok(())
-}
-
-#[test]
-fn four_of_any_lengths_are_those_of_another_program(rt: HostRuntime) -> Result<(), Fail> {
-    let values = all_values(rt.alloc())?;
-    for (at, four) in values.windows(4).enumerate() {
-        let digests = tagged_four(TAG, &[&four[0], &four[1], &four[2], &four[3]]);
-        check_all(&rt, rt.alloc(), at, &digests)?;
-    }
-    Ok(())
-}
-
-#[test]
-fn all_are_those_of_another_program(rt: HostRuntime) -> Result<(), Fail> {
-    let values = all_values(rt.alloc())?;
-    let mut slices = Vec::new(rt.alloc());
-    for bytes in &values {
-        slices.push(bytes.as_slice())?;
-        let digests = tagged_all(rt.alloc(), TAG, &slices)?;
-        assert_eq!(rt; digests.len(), slices.len());
-        check_all(&rt, rt.alloc(), 0, &digests)?;
-    }
-    assert_eq!(rt; tagged_all(rt.alloc(), TAG, &[])?.len(), 0);
-    Ok(())
 }

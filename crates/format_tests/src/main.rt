@@ -1,38 +1,64 @@
-//! Tests of bytes, hashes, codes, caps and directories, over the public calls of their crates. The gate proves a
-//! crate with tests twice, with them and without, so they stand in a crate of their own. The program itself does
-//! nothing.
+//! Cases of bytes, hashes, codes, caps and directories, over the public calls of their crates. The second word of a
+//! question that a module answers names the call.
 #![tactic(auto)]
 
 /// Base32.
-#[cfg(test)]
 mod base32;
 /// Bytes, texts and numbers.
-#[cfg(test)]
 mod byte_texts;
 /// Caps and their texts.
-#[cfg(test)]
 mod cap_texts;
 /// The k-of-N code.
-#[cfg(test)]
 mod codes;
 /// Directory texts and children as JSON.
-#[cfg(test)]
 mod directories;
 /// Several messages hashed at once.
-#[cfg(test)]
 mod hash_lanes;
 /// Replies of the Redis protocol.
-#[cfg(test)]
 mod redis_texts;
 /// Shares.
-#[cfg(test)]
 mod shares;
 /// Netstrings and tagged hashes.
-#[cfg(test)]
 mod tagged_hashes;
 /// Hash trees.
-#[cfg(test)]
 mod trees;
+/// Words that several modules read and write.
+mod words;
 
-/// Nothing: the tests are all that this crate has.
-fn main() {}
+use crate::hash_lanes::Lanes;
+use crate::shares::Shares;
+use case_lines::{Answers, Case, CaseFault, NoAnswer, run_cases};
+use std::alloc::Global;
+
+/// What is kept from one case for the next.
+#[derive(Drop)]
+struct Questions {
+    lanes: Lanes,
+    shares: Shares,
+}
+
+impl Answers for Questions {
+    fn answer(&mut self, alloc: Global, case: &Case<'_>) -> Result<String, NoAnswer> {
+        match case.word(0)? {
+            "base32" => base32::answer(alloc, case),
+            "octets" => byte_texts::answer(alloc, case),
+            "cap" => cap_texts::answer(alloc, case),
+            "code" => codes::answer(alloc, case),
+            "directory" => directories::answer(alloc, case),
+            "lanes" => self.lanes.answer(alloc, case),
+            "reply" => redis_texts::answer(alloc, case),
+            "share" => self.shares.answer(alloc, case),
+            "hash" => tagged_hashes::answer(alloc, case),
+            "tree" => trees::answer(alloc, case),
+            _ => Err(NoAnswer::Question),
+        }
+    }
+}
+
+fn main(rt: HostRuntime) -> Result<(), CaseFault> {
+    let mut questions = Questions {
+        lanes: Lanes::new(rt.alloc()),
+        shares: Shares::new(rt.alloc()),
+    };
+    run_cases(&rt, &mut questions)
+}

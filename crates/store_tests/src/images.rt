@@ -1,164 +1,109 @@
-//! What no clause says of images: their bytes, each fault of an image, and readers, writers and stores that fail.
+//! Images of grids: what is written and read, each fault, and readers and writers that are slow or fail.
 ghost use Rattle.std.specs.Prelude.{◌≡◌, ◌<◌, ◌≤◌, All, IfOk, vec_len};
 ghost use Rattle.std.specs.Prelude.{length as length_of};
 ghost use Rattle.grid.specs.GridState.{states, maps_of, IsHonest};
 
+use crate::grids::{failure_at, gathered, servers_at, stores_of};
+use crate::stores::{index_at, number_at, store_of};
+use crate::texts::{debug, done, fixed};
+use case_lines::{Case, NoAnswer, shown};
 use grid::laws::image_laws;
 use grid::{Grid, GridFault};
 use octets::fakes::{AtTheEnd, SlowReader, SlowWriter};
-use share_store::{FailAt, MemStore, Store};
+use share_store::{FailAt, Store};
 use std::alloc::Global;
 use std::io;
 use std::io::Read;
 use std::rc::RcSlice;
-use std::test::Fail;
 
-/// The versions of an image.
-#[derive(Clone, Copy)]
-enum Layout {
-    VersionOne,
-    VersionTwo,
-}
+/// How many servers and how much room the grids of these cases have, where no word says it.
+const SERVERS: usize = 5;
 
-// The empty grid of five servers, in versions 1 and 2.
-const EMPTY_ONE: [u8; 16] = *b"TGRIDIM1\x00\x00\x00\x05\x00\x00\x00\x00";
+const ROOM: u64 = 1_000;
 
-const EMPTY_TWO: [u8; 20] = *b"TGRIDIM2\x00\x00\x00\x05\x00\x00\x00\x00\x00\x00\x00\x00";
-
-// Three shares at servers 1 and 3 of five, of two, three and one bytes.
-const THREE_ONE: [u8; 106] = *b"TGRIDIM1\x00\x00\x00\x05\x00\x00\x00\x03\
-    \x00\x00\x00\x01\x07\x07\x07\x07\x07\x07\x07\x07\x07\x07\x07\x07\x07\x07\x07\x07\
-    \x00\x00\x00\x00\x00\x00\x00\x02ab\
-    \x00\x00\x00\x01\x07\x07\x07\x07\x07\x07\x07\x07\x07\x07\x07\x07\x07\x07\x07\x07\
-    \x00\x00\x00\x04\x00\x00\x00\x03cde\
-    \x00\x00\x00\x03\x02\x02\x02\x02\x02\x02\x02\x02\x02\x02\x02\x02\x02\x02\x02\x02\
-    \x00\x00\x00\xff\x00\x00\x00\x01f";
-
-const THREE_TWO: [u8; 122] = *b"TGRIDIM2\x00\x00\x00\x05\x00\x00\x00\x00\x00\x00\x00\x03\
-    \x00\x00\x00\x01\x07\x07\x07\x07\x07\x07\x07\x07\x07\x07\x07\x07\x07\x07\x07\x07\
-    \x00\x00\x00\x00\x00\x00\x00\x00\x00\x00\x00\x02ab\
-    \x00\x00\x00\x01\x07\x07\x07\x07\x07\x07\x07\x07\x07\x07\x07\x07\x07\x07\x07\x07\
-    \x00\x00\x00\x04\x00\x00\x00\x00\x00\x00\x00\x03cde\
-    \x00\x00\x00\x03\x02\x02\x02\x02\x02\x02\x02\x02\x02\x02\x02\x02\x02\x02\x02\x02\
-    \x00\x00\x00\xff\x00\x00\x00\x00\x00\x00\x00\x01f";
-
-fn stores_of(alloc: Global, count: usize, room: u64) -> Result<Vec<MemStore>, Fail>
-    ensures count { IfOk result (λ stores. vec_len stores ≡ count) }
-    ensures empty { IfOk result (λ stores.
-        All (λ store. ⟦<MemStore as Store>⟧.held store ≡ 0) stores.items) }
-{
-    let mut stores = Vec::new(alloc);
-    for _server in 0..count {
-        stores.push(MemStore::new(alloc, room))?;
+/// The answer to a case of an image.
+pub fn answer(
+    alloc: Global,
+    held: &mut Option<Grid<FailAt>>,
+    left: &mut Vec<FailAt>,
+    case: &Case<'_>,
+) -> Result<String, NoAnswer> {
+    match case.word(1)? {
+        "read" => read(alloc, held, left, case),
+        "left" => left_at(alloc, left, case.number(2)? as usize),
+        "left-has" => left_has(alloc, left, case),
+        "cuts" => cuts(alloc, &case.bytes(alloc, 2)?),
+        "slow-reader" => slow_reader(alloc, &case.bytes(alloc, 2)?),
+        "slow-writer" => slow_writer(alloc, &case.bytes(alloc, 2)?, &case.bytes(alloc, 3)?),
+        "above-255" => above_255(alloc),
+        "widest" => asked_widely(alloc, &case.bytes(alloc, 2)?),
+        _ => match held {
+            Some(grid) => of_grid(alloc, grid, case),
+            None => Err(NoAnswer::Question),
+        },
     }
-    Ok(stores)
 }
 
-// What comes of an image that is read into five stores.
-fn read(alloc: Global, image: &[u8]) -> Result<Result<Grid<MemStore>, GridFault>, Fail> {
-    let mut reader = image;
-    let stores = stores_of(alloc, 5, 1_000)?;
+/// The answer to a case of the grid's own image.
+fn of_grid(alloc: Global, grid: &mut Grid<FailAt>, case: &Case<'_>) -> Result<String, NoAnswer> {
+    match case.word(1)? {
+        "write" => written(alloc, grid),
+        "gather" => gathered(alloc, grid, index_at(case, 2)?),
+        "copy" => copy(alloc, grid, case),
+        _ => Err(NoAnswer::Question),
+    }
+}
+
+/// Reads an image into as many stores with this room; what a refusal leaves of them is kept.
+fn read(
+    alloc: Global,
+    held: &mut Option<Grid<FailAt>>,
+    left: &mut Vec<FailAt>,
+    case: &Case<'_>,
+) -> Result<String, NoAnswer> {
+    let image = case.bytes(alloc, 2)?;
+    let count = servers_at(case, 3)?;
+    let stores = stores_of(alloc, count, case.number(4)?, failure_at(case, 5)?)?;
+    let mut reader = image.as_slice();
     match Grid::read_image(alloc, stores, &mut reader) {
-        Ok(grid) => Ok(Ok(grid)),
-        Err((error, stores)) => {
-            drop(stores);
-            Ok(Err(error))
+        Ok(grid) => {
+            *held = Some(grid);
+            fixed(alloc, "ok")
+        }
+        Err((fault, stores)) => {
+            *left = stores;
+            debug(alloc, &fault)
         }
     }
 }
 
-fn fault(alloc: Global, image: &[u8]) -> Result<Option<GridFault>, Fail> {
-    Ok(read(alloc, image)?.err())
-}
-
-// A number of shares or a length.
-fn put_count(image: &mut Vec<u8>, layout: Layout, count: u8) -> Result<(), Fail> {
-    match layout {
-        Layout::VersionOne => image.extend_from_slice(&[0, 0, 0, count])?,
-        Layout::VersionTwo => image.extend_from_slice(&[0, 0, 0, 0, 0, 0, 0, count])?,
-    }
-    Ok(())
-}
-
-// The bytes before a share's own.
-fn put_head(
-    image: &mut Vec<u8>,
-    layout: Layout,
-    server: u8,
-    index: u8,
-    number: u16,
-    length: u8,
-) -> Result<(), Fail> {
-    image.extend_from_slice(&[0, 0, 0, server])?;
-    image.extend_from_slice(&[index; 16])?;
-    image.extend_from_slice(&u32::from(number).to_be_bytes())?;
-    put_count(image, layout, length)
-}
-
-// So many bytes, or all.
-fn first(bytes: &[u8], count: usize) -> &[u8] {
-    if count < bytes.len() {
-        &bytes[..count]
-    } else {
-        bytes
+/// Room, bytes and failures of a store that was left.
+fn left_at(alloc: Global, left: &[FailAt], server: usize) -> Result<String, NoAnswer> {
+    match left.get(server) {
+        Some(store) => debug(alloc, &(store.room(), store.held(), store.failures())),
+        None => Err(NoAnswer::Word(2)),
     }
 }
 
-#[test]
-fn the_empty_grid_is_written_in_twenty_bytes(rt: HostRuntime) -> Result<(), Fail> {
-    let mut grid = Grid::new(stores_of(rt.alloc(), 5, 10)?);
-    let mut image = Vec::new(rt.alloc());
-    grid.write_image(&mut image)?;
-    assert_eq!(rt; image.as_slice(), EMPTY_TWO.as_slice());
-    assert!(rt; read(rt.alloc(), &EMPTY_ONE)?.is_ok());
-    assert!(rt; read(rt.alloc(), &EMPTY_TWO)?.is_ok());
-    Ok(())
-}
-
-#[test]
-fn an_image_that_is_no_grid_of_five_is_refused_at_its_first_fault(
-    rt: HostRuntime,
-) -> Result<(), Fail> {
-    let cases = [
-        (b"".as_slice(), 0),
-        (b"TGRIDIM".as_slice(), 0),
-        (b"TGRIDIM0\x00\x00\x00\x05\x00\x00\x00\x00".as_slice(), 0),
-        (b"TGRIDIM3\x00\x00\x00\x05\x00\x00\x00\x00".as_slice(), 0),
-        (b"tGRIDIM2\x00\x00\x00\x05\x00\x00\x00\x00".as_slice(), 0),
-        (&EMPTY_ONE[..8], 8),
-        (&EMPTY_ONE[..11], 8),
-        (&EMPTY_ONE[..15], 12),
-        (b"TGRIDIM1\x00\x00\x00\x04\x00\x00\x00\x00".as_slice(), 8),
-        (
-            b"TGRIDIM1\x00\x00\x00\x05\x00\x00\x00\x00\x00".as_slice(),
-            16,
-        ),
-        (&EMPTY_TWO[..8], 8),
-        (&EMPTY_TWO[..11], 8),
-        (&EMPTY_TWO[..12], 12),
-        (&EMPTY_TWO[..16], 12),
-        (&EMPTY_TWO[..19], 12),
-        (
-            b"TGRIDIM2\x00\x00\x00\x04\x00\x00\x00\x00\x00\x00\x00\x00".as_slice(),
-            8,
-        ),
-        (
-            b"TGRIDIM2\x00\x00\x00\x05\x00\x00\x00\x00\x00\x00\x00\x00\x00".as_slice(),
-            20,
-        ),
-        // A number of shares above 32 bits, and none of them.
-        (
-            b"TGRIDIM2\x00\x00\x00\x05\x00\x00\x00\x01\x00\x00\x00\x00".as_slice(),
-            20,
-        ),
-    ];
-    for (image, place) in cases {
-        assert_eq!(rt; fault(rt.alloc(), image)?, Some(GridFault::BadImage(place)));
+/// Whether a share stands at a store that was left.
+fn left_has(alloc: Global, left: &mut [FailAt], case: &Case<'_>) -> Result<String, NoAnswer> {
+    match left.get_mut(case.number(2)? as usize) {
+        Some(store) => debug(alloc, &store.has(index_at(case, 3)?, number_at(case, 4)?)?),
+        None => Err(NoAnswer::Word(2)),
     }
-    Ok(())
 }
 
-// A grid of these stores with what another one holds, by way of its image.
+/// The image of the grid.
+fn written(alloc: Global, grid: &mut Grid<FailAt>) -> Result<String, NoAnswer> {
+    let mut image = Vec::new(alloc);
+    match grid.write_image(&mut image) {
+        Ok(()) => Ok(shown(alloc, &image)?),
+        Err(fault) if image.is_empty() => debug(alloc, &fault),
+        Err(fault) => debug(alloc, &(fault, image.len())),
+    }
+}
+
+/// A grid of these stores with what another one holds, by way of its image.
 fn copied<S: Store, T: Store>(
     alloc: Global,
     grid: &mut Grid<S>,
@@ -181,258 +126,173 @@ fn copied<S: Store, T: Store>(
     Grid::read_image(alloc, stores, &mut reader)
 }
 
-#[test]
-fn a_grid_is_copied_by_its_image(rt: HostRuntime) -> Result<(), Fail> {
-    let mut grid = read(rt.alloc(), &THREE_TWO)??;
-    assert!(rt; grid.spoil(3, [2; 16], 255, 0)?);
-    let stores = stores_of(rt.alloc(), grid.servers(), 5)?;
-    match copied(rt.alloc(), &mut grid, stores) {
-        Ok(mut copy) => assert!(rt; copy.spoil(3, [2; 16], 255, 0)?),
-        Err((error, stores)) => {
+/// Copies the grid by its image into stores of this room, and changes a byte of the copy.
+fn copy(alloc: Global, grid: &mut Grid<FailAt>, case: &Case<'_>) -> Result<String, NoAnswer> {
+    let stores = stores_of(alloc, grid.servers(), case.number(2)?, (0, 0, "once"))?;
+    match copied(alloc, grid, stores) {
+        Ok(mut copy) => {
+            let (server, number) = (case.number(3)? as usize, number_at(case, 5)?);
+            done(
+                alloc,
+                copy.spoil(server, index_at(case, 4)?, number, case.number(6)?),
+            )
+        }
+        Err((fault, stores)) => {
             drop(stores);
-            return Err(Fail::from(error));
+            debug(alloc, &fault)
         }
     }
-    Ok(())
 }
 
-#[test]
-fn an_image_of_either_version_is_written_again_in_version_2(rt: HostRuntime) -> Result<(), Fail> {
-    for image in [THREE_ONE.as_slice(), THREE_TWO.as_slice()] {
-        let mut grid = read(rt.alloc(), image)??;
-        let found = grid.gather([7; 16])?;
-        assert_eq!(rt; found.len(), 2);
-        for (server, number, bytes) in found {
-            assert_eq!(rt; server, 1);
-            let wanted = if number == 0 {
-                b"ab".as_slice()
-            } else {
-                b"cde".as_slice()
-            };
-            assert_eq!(rt; bytes.as_slice(), wanted);
-        }
-        let mut again = Vec::new(rt.alloc());
-        grid.write_image(&mut again)?;
-        assert_eq!(rt; again.as_slice(), THREE_TWO.as_slice());
+/// The fault of an image that is read into five stores with a reader, if it has one.
+fn fault_of<R: Read>(alloc: Global, reader: &mut R) -> Result<Option<GridFault>, NoAnswer> {
+    let stores = stores_of(alloc, SERVERS, ROOM, (0, 0, "once"))?;
+    match Grid::read_image(alloc, stores, reader) {
+        Ok(_) => Ok(None),
+        Err((fault, _)) => Ok(Some(fault)),
     }
-    Ok(())
 }
 
-#[test]
-fn an_image_is_refused_wherever_it_is_cut_off(rt: HostRuntime) -> Result<(), Fail> {
-    // Where the fields begin.
-    let one = [
-        0, 8, 12, 16, 20, 36, 40, 44, 46, 50, 66, 70, 74, 77, 81, 97, 101, 105,
-    ];
-    let two = [
-        0, 8, 12, 20, 24, 40, 44, 52, 54, 58, 74, 78, 86, 89, 93, 109, 113, 121,
-    ];
-    for (image, fields) in [(THREE_ONE.as_slice(), one), (THREE_TWO.as_slice(), two)] {
-        for length in 0..image.len() {
-            let mut place = 0;
-            for field in fields {
-                if field as usize <= length {
-                    place = field;
-                }
-            }
-            assert_eq!(rt;
-                fault(rt.alloc(), &image[..length])?,
-                Some(GridFault::BadImage(place))
-            );
-        }
-    }
-    Ok(())
-}
-
-// An image of a share at server 1 and of one more, of a byte each.
-fn two(
-    alloc: Global,
-    layout: Layout,
-    server: u8,
-    index: u8,
-    number: u16,
-    length: u8,
-) -> Result<Vec<u8>, Fail> {
-    let mut image = Vec::new(alloc);
-    match layout {
-        Layout::VersionOne => image.extend_from_slice(b"TGRIDIM1\x00\x00\x00\x05")?,
-        Layout::VersionTwo => image.extend_from_slice(b"TGRIDIM2\x00\x00\x00\x05")?,
-    }
-    put_count(&mut image, layout, 2)?;
-    put_head(&mut image, layout, 1, 7, 4, 1)?;
-    image.extend_from_slice(b"a")?;
-    put_head(&mut image, layout, server, index, number, length)?;
-    image.extend_from_slice(b"b")?;
-    Ok(image)
-}
-
-#[test]
-fn a_row_out_of_order_or_range_is_refused_at_its_field(rt: HostRuntime) -> Result<(), Fail> {
-    let alloc = rt.alloc();
-    // Its server, storage index, number and length, and the places of its fault in versions 1 and 2.
-    let rows = [
-        (1, 7, 5, 1, None),
-        (1, 8, 0, 1, None),
-        (4, 0, 0, 1, None),
-        (1, 7, 4, 1, Some((45, 53))),
-        (1, 7, 3, 1, Some((45, 53))),
-        (1, 6, 9, 1, Some((45, 53))),
-        (0, 9, 9, 1, Some((45, 53))),
-        (5, 9, 9, 1, Some((45, 53))),
-        (1, 7, 256, 1, Some((65, 73))),
-        (1, 7, 9, 0, Some((69, 77))),
-        (1, 7, 9, 2, Some((73, 85))),
-    ];
-    for (server, index, number, length, places) in rows {
-        let one = two(alloc, Layout::VersionOne, server, index, number, length)?;
-        let two = two(alloc, Layout::VersionTwo, server, index, number, length)?;
-        let wanted = match places {
-            Some((one, two)) => (
-                Some(GridFault::BadImage(one)),
-                Some(GridFault::BadImage(two)),
-            ),
-            None => (None, None),
-        };
-        assert_eq!(rt; fault(alloc, &one)?, wanted.0);
-        assert_eq!(rt; fault(alloc, &two)?, wanted.1);
-    }
-    Ok(())
-}
-
-#[test]
-fn a_number_above_255_is_not_written(rt: HostRuntime) -> Result<(), Fail> {
-    let alloc = rt.alloc();
-    let mut stores = stores_of(alloc, 2, 10)?;
-    stores[1].put([3; 16], 1, RcSlice::from_vec(vec![in alloc; 5; 4]?)?)?;
-    stores[1].put([3; 16], 256, RcSlice::from_vec(vec![in alloc; 5; 1]?)?)?;
-    let mut image = Vec::new(alloc);
-    assert_eq!(rt;
-        Grid::new(stores).write_image(&mut image).err(),
-        Some(GridFault::BadImage(76))
-    );
-    Ok(())
-}
-
-#[test]
-fn a_store_that_is_full_is_named_before_a_later_fault(rt: HostRuntime) -> Result<(), Fail> {
-    let alloc = rt.alloc();
-    for length in [77, 90, 106] {
-        let mut reader = first(&THREE_ONE, length);
-        match Grid::read_image(alloc, stores_of(alloc, 5, 4)?, &mut reader) {
-            Ok(grid) => drop(grid),
-            Err((error, mut stores)) => {
-                assert_eq!(rt; error, GridFault::Full(1));
-                assert!(rt; stores[1].has([7; 16], 0)?);
-                assert!(rt; !stores[1].has([7; 16], 4)?);
-                assert_eq!(rt; stores[1].room(), 2);
-            }
-        }
-    }
-    let mut reader = first(&THREE_ONE, 76);
-    let stores = stores_of(alloc, 5, 4)?;
-    let error = Grid::read_image(alloc, stores, &mut reader)
-        .err()
-        .map(|refusal| refusal.0);
-    assert_eq!(rt; error, Some(GridFault::BadImage(74)));
-    Ok(())
-}
-
-#[test]
-fn a_reader_may_be_slow_but_not_break(rt: HostRuntime) -> Result<(), Fail> {
-    for image in [THREE_ONE.as_slice(), THREE_TWO.as_slice()] {
-        for left in 0..=image.len() + 1 {
-            let mut reader = SlowReader {
-                bytes: first(image, left),
-                at_a_time: 1,
-                interrupts: Some(true),
-                fails: left <= image.len(),
-            };
-            let stores = stores_of(rt.alloc(), 5, 10)?;
-            let error = Grid::read_image(rt.alloc(), stores, &mut reader)
-                .err()
-                .map(|refusal| refusal.0);
-            let wanted = if left > image.len() {
-                None
-            } else {
-                Some(GridFault::ReadFailed)
-            };
-            assert_eq!(rt; error, wanted);
-        }
-    }
-    Ok(())
-}
-
-#[test]
-fn a_writer_may_be_slow_but_not_break(rt: HostRuntime) -> Result<(), Fail> {
-    for room in 0..=THREE_TWO.len() + 1 {
-        for at_the_end in [AtTheEnd::Fails, AtTheEnd::TakesNothing] {
-            let mut grid = read(rt.alloc(), &THREE_ONE)??;
-            let mut writer = SlowWriter {
-                held: Vec::new(rt.alloc()),
-                room,
-                at_a_time: 2,
-                interrupts: Some(true),
-                at_the_end,
-                flushes: true,
-            };
-            let written = grid.write_image(&mut writer);
-            assert_eq!(rt; writer.held.as_slice(), first(&THREE_TWO, room));
-            let wanted = if room < THREE_TWO.len() {
-                Some(GridFault::WriteFailed)
-            } else {
-                None
-            };
-            assert_eq!(rt; written.err(), wanted);
-        }
-    }
-    Ok(())
-}
-
-// Five stores that hold nothing, of which server 1's fails from this call on.
-fn failing(alloc: Global, at: u64) -> Result<Vec<FailAt>, Fail>
-    ensures count { IfOk result (λ stores. vec_len stores ≡ 5) }
-    ensures empty { IfOk result (λ stores.
-        All (λ store. ⟦<FailAt as Store>⟧.held store ≡ 0) stores.items) }
-{
+/// The fault of an image of two servers, the second of which has shares 1 and 256, of four bytes and of one.
+fn above_255(alloc: Global) -> Result<String, NoAnswer> {
     let mut stores = Vec::new(alloc);
-    for server in 0..5_usize {
-        let inner = MemStore::new(alloc, 10);
-        let at = if server == 1 { at } else { 0 };
-        stores.push(FailAt::new(alloc, inner, at, true))?;
+    stores.push(store_of(alloc, 10, 0, "once"))?;
+    stores.push(store_of(alloc, 10, 0, "once"))?;
+    for (number, length) in [(1_u16, 4_usize), (256, 1)] {
+        if let Some(store) = stores.get_mut(1) {
+            let bytes = vec![in alloc; 5_u8; length.max(1)]?;
+            let _ = store.put([3; 16], number, RcSlice::from_vec(bytes)?);
+        }
     }
-    Ok(stores)
+    if stores.len() != 2 {
+        return Err(NoAnswer::Question);
+    }
+    let fault = Grid::new(stores).write_image(&mut Vec::new(alloc)).err();
+    debug(alloc, &fault)
 }
 
-#[test]
-fn a_store_that_fails_is_named_and_no_share_is_left_out(rt: HostRuntime) -> Result<(), Fail> {
-    let alloc = rt.alloc();
-    // Two shares are put at server 1, and three calls walk over them.
-    for at in 1..8 {
-        let mut reader = THREE_TWO.as_slice();
-        match Grid::read_image(alloc, failing(alloc, at)?, &mut reader) {
-            Err((error, stores)) => {
-                assert!(rt; at < 3);
-                assert_eq!(rt; error, GridFault::Down(1));
-                assert_eq!(rt; stores[1].failures(), 1);
-                assert_eq!(rt; stores[1].held(), if at == 1 { 0 } else { 2 });
-            }
-            Ok(mut grid) => {
-                let mut again = Vec::new(alloc);
-                let written = grid.write_image(&mut again).err();
-                if at < 6 {
-                    assert_eq!(rt; written, Some(GridFault::Down(1)));
-                    assert!(rt; again.is_empty());
-                } else {
-                    assert_eq!(rt; written, None);
-                    assert_eq!(rt; again.as_slice(), THREE_TWO.as_slice());
+/// Outcomes in a row, each with how often it came one after the other.
+#[derive(Drop)]
+struct Tally {
+    last: Option<GridFault>,
+    count: u64,
+    text: String,
+}
+
+impl Tally {
+    /// One more outcome.
+    fn count(&mut self, alloc: Global, fault: Option<GridFault>) -> Result<(), NoAnswer> {
+        if self.count > 0 && self.last != fault {
+            self.close(alloc)?;
+        }
+        self.last = fault;
+        self.count = self.count.saturating_add(1);
+        Ok(())
+    }
+
+    /// Writes the outcome that came last.
+    fn close(&mut self, alloc: Global) -> Result<(), NoAnswer> {
+        let name = match self.last {
+            Some(GridFault::BadImage(place)) => debug(alloc, &place)?,
+            Some(fault) => debug(alloc, &fault)?,
+            None => fixed(alloc, "ok")?,
+        };
+        if !self.text.is_empty() {
+            self.text.push(' ')?;
+        }
+        self.text.push_str(&name)?;
+        self.text.push('*')?;
+        self.text.push_str(&debug(alloc, &self.count)?)?;
+        self.count = 0;
+        Ok(())
+    }
+
+    /// Nothing yet.
+    fn new(alloc: Global) -> Tally {
+        Tally {
+            last: None,
+            count: 0,
+            text: String::new(alloc),
+        }
+    }
+
+    /// All outcomes.
+    fn finish(mut self, alloc: Global) -> Result<String, NoAnswer> {
+        self.close(alloc)?;
+        Ok(self.text)
+    }
+}
+
+/// The place of the fault of each beginning of an image, from none of its bytes to all but one.
+fn cuts(alloc: Global, image: &[u8]) -> Result<String, NoAnswer> {
+    let mut tally = Tally::new(alloc);
+    for length in 0..image.len() {
+        let mut reader = image.get(..length).unwrap_or(image);
+        tally.count(alloc, fault_of(alloc, &mut reader)?)?;
+    }
+    tally.finish(alloc)
+}
+
+/// What comes of a reader that gives a byte at a time, is interrupted each other time and fails after so many bytes: none
+/// to all, and then of one that doesn't fail.
+fn slow_reader(alloc: Global, image: &[u8]) -> Result<String, NoAnswer> {
+    let mut tally = Tally::new(alloc);
+    for left in 0..=image.len().saturating_add(1) {
+        let mut reader = SlowReader {
+            bytes: image.get(..left).unwrap_or(image),
+            at_a_time: 1,
+            interrupts: Some(true),
+            fails: left <= image.len(),
+        };
+        tally.count(alloc, fault_of(alloc, &mut reader)?)?;
+    }
+    tally.finish(alloc)
+}
+
+/// What comes of a writer that takes two bytes at a time, is interrupted each other time, and has room for so many bytes:
+/// none to one more than the image has. An image is read first; `other bytes` where what is written is no beginning of the
+/// wanted one.
+fn slow_writer(alloc: Global, image: &[u8], wanted: &[u8]) -> Result<String, NoAnswer> {
+    let mut tally = Tally::new(alloc);
+    for room in 0..=wanted.len().saturating_add(1) {
+        for at_the_end in [AtTheEnd::Fails, AtTheEnd::TakesNothing] {
+            match written_to(alloc, image, room, at_the_end)? {
+                Some((fault, held)) if held.as_slice() == wanted.get(..room).unwrap_or(wanted) => {
+                    tally.count(alloc, fault)?
                 }
+                _ => return fixed(alloc, "other bytes"),
             }
         }
     }
-    Ok(())
+    tally.finish(alloc)
 }
 
-// A reader that keeps how many bytes it was asked for at once at most.
+/// What such a writer takes of the image of a grid that was read from one.
+fn written_to(
+    alloc: Global,
+    image: &[u8],
+    room: usize,
+    at_the_end: AtTheEnd,
+) -> Result<Option<(Option<GridFault>, Vec<u8>)>, NoAnswer> {
+    let mut reader = image;
+    let stores = stores_of(alloc, SERVERS, ROOM, (0, 0, "once"))?;
+    let Ok(mut grid) = Grid::read_image(alloc, stores, &mut reader) else {
+        return Ok(None);
+    };
+    let mut writer = SlowWriter {
+        held: Vec::new(alloc),
+        room,
+        at_a_time: 2,
+        interrupts: Some(true),
+        at_the_end,
+        flushes: true,
+    };
+    let fault = grid.write_image(&mut writer).err();
+    let SlowWriter { held, .. } = writer;
+    Ok(Some((fault, held)))
+}
+
+/// A reader that keeps how many bytes it was asked for at once at most.
 #[derive(Drop)]
 struct Widest<'a> {
     bytes: &'a [u8],
@@ -446,55 +306,12 @@ impl Read for Widest<'_> {
     }
 }
 
-// An image of one share, up to its length field, in versions 1 and 2.
-const SHARE_ONE: [u8; 40] = *b"TGRIDIM1\x00\x00\x00\x05\x00\x00\x00\x01\
-    \x00\x00\x00\x01\x07\x07\x07\x07\x07\x07\x07\x07\x07\x07\x07\x07\x07\x07\x07\x07\
-    \x00\x00\x00\x00";
-
-const SHARE_TWO: [u8; 44] = *b"TGRIDIM2\x00\x00\x00\x05\x00\x00\x00\x00\x00\x00\x00\x01\
-    \x00\x00\x00\x01\x07\x07\x07\x07\x07\x07\x07\x07\x07\x07\x07\x07\x07\x07\x07\x07\
-    \x00\x00\x00\x00";
-
-#[test]
-fn bytes_are_asked_for_in_pieces_whatever_a_length_says(rt: HostRuntime) -> Result<(), Fail> {
-    let alloc = rt.alloc();
-    // Its length, and how many bytes stand behind it.
-    let cases = [
-        (SHARE_ONE.as_slice(), b"\xff\xff\xff\xff".as_slice(), 10, 44),
-        (SHARE_ONE.as_slice(), b"\xff\xff\xff\xff".as_slice(), 0, 44),
-        (
-            SHARE_TWO.as_slice(),
-            b"\xff\xff\xff\xff\xff\xff\xff\xff".as_slice(),
-            10,
-            52,
-        ),
-        (
-            SHARE_TWO.as_slice(),
-            b"\xff\xff\xff\xff\xff\xff\xff\xff".as_slice(),
-            0,
-            52,
-        ),
-        (
-            SHARE_TWO.as_slice(),
-            b"\x00\x00\x00\x01\x00\x00\x00\x01".as_slice(),
-            1,
-            52,
-        ),
-    ];
-    for (front, length, behind, place) in cases {
-        let mut image = front.to_vec(alloc)?;
-        image.extend_from_slice(length)?;
-        image.extend_from_slice(first(&[1; 10], behind))?;
-        let mut reader = Widest {
-            bytes: &image,
-            asked: 0,
-        };
-        let stores = stores_of(alloc, 5, 1_000)?;
-        let error = Grid::read_image(alloc, stores, &mut reader)
-            .err()
-            .map(|refusal| refusal.0);
-        assert_eq!(rt; error, Some(GridFault::BadImage(place)));
-        assert_eq!(rt; reader.asked, 65_536);
-    }
-    Ok(())
+/// The fault of an image, and how many bytes were asked for at once at most.
+fn asked_widely(alloc: Global, image: &[u8]) -> Result<String, NoAnswer> {
+    let mut reader = Widest {
+        bytes: image,
+        asked: 0,
+    };
+    let fault = fault_of(alloc, &mut reader)?;
+    debug(alloc, &(fault, reader.asked))
 }

@@ -1,19 +1,26 @@
-//! Tests of stores, grids and files, over the public calls of their crates. The gate proves a crate with tests twice,
-//! with them and without, so they stand in a crate of their own. The program itself does nothing.
+//! Tests of stores, grids and files over the public calls of their crates: the program answers the cases on its standard
+//! input (README.md says which there are).
 #![tactic(auto)]
 
+/// What the cases are about.
+mod bench;
 /// Files on a grid.
-#[cfg(test)]
 mod files;
 /// Placement, loss and spoiling.
-#[cfg(test)]
 mod grids;
 /// Images of grids.
-#[cfg(test)]
 mod images;
-/// Stores of shares.
-#[cfg(test)]
+/// A store that lies.
+mod liars;
+/// A store of shares.
 mod stores;
+/// Answers as text.
+mod texts;
 
-/// Nothing: the tests are all that this crate has.
-fn main() {}
+use bench::Bench;
+use case_lines::{CaseFault, run_cases};
+
+/// Answers the cases on standard input.
+fn main(rt: HostRuntime) -> Result<(), CaseFault> {
+    run_cases(&rt, &mut Bench::new(rt.alloc()))
+}
