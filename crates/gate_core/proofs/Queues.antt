@@ -1,5 +1,5 @@
 -- A queue that is taken from its front.
-use Rattle.std.proofs.Common.{◌≡◌, ℕ, ◌≤◌, ◌+◌, ◌-◌, List, [], ◌∷◌, ◌++◌, length, take, drop, min, sym, ap, ◌∙◌, ⊎_elim, ◌⊎◌, inl, inr, length-append, arith, ◌↔◌, Bool, true, false, IsTrue, refl, append-nil, append_assoc}
+use Rattle.std.proofs.Common.{◌≡◌, ℕ, ◌≤◌, ◌+◌, ◌-◌, List, [], ◌∷◌, ◌++◌, length, take, drop, min, sym, ap, ◌∙◌, ⊎_elim, ◌⊎◌, inl, inr, length-append, arith, ◌↔◌, Bool, false, IsTrue, refl, append-nil, append_assoc}
 use Rattle.std.specs.Prelude.{nat_eq}
 use Rattle.std.proofs.Math.Seq.{take-append-add, drop-append-add}
 use Rattle.std.proofs.lemmas.List.{length-take, length-drop, take_all, drop_all, take-append-le, drop-append-le}

@@ -1,5 +1,5 @@
 -- A reply that is put behind what waits.
-use Rattle.std.proofs.Common.{◌≡◌, ℕ, List, [], ◌++◌, length, Bool, true, false, ap, ◌∙◌, append_assoc, append-nil}
+use Rattle.std.proofs.Common.{◌≡◌, ℕ, List, [], ◌++◌, length, Bool, true, false, append_assoc, append-nil}
 use Rattle.http_edge.specs.declared.reply.Reply.{Reply}
 use Rattle.http_edge.specs.Reply.{rendered_head, rendered}
 

@@ -1,5 +1,5 @@
 -- What stands where memory ran out while items were answered.
-use Rattle.std.specs.Prelude.{◌≡◌, ℕ, List, [], ◌∷◌, take, Option, Some, None, slice_get}
+use Rattle.std.specs.Prelude.{◌≡◌, ℕ, List, take, Option, Some, None, slice_get}
 use Rattle.http_edge.specs.declared.item.Item.{Item}
 use Rattle.http_edge.specs.Left.{frame_from}
 use Rattle.grid.specs.GridState.{GridState, IsHonest}

@@ -3,6 +3,11 @@
 //! on an address and serves connections one after the other, over stores in memory.
 #![tactic(auto)]
 
+ghost use Rattle.std.specs.Prelude.{◌≡◌, ◌≢◌, ◌⊎◌, Err};
+ghost use Rattle.std.specs.Process.{exit_status as status_at_exit};
+ghost use Rattle.gate_tasks.specs.Arguments.{Asks};
+ghost use Rattle.gate_tasks.specs.Status.{status_of};
+
 use gate_tasks::{
     ProgramFault, Service, Task, exit_status, read_task, run_script, serve_on, set_up,
 };
@@ -22,7 +27,14 @@ fn main(rt: HostRuntime) -> ExitCode {
     if let Err(fault) = &outcome {
         let _ = eprintln!(rt; "gate_main: {fault}");
     }
-    ExitCode::from(exit_status(&outcome))
+    code_of(&outcome)
+}
+
+/// The exit code for an outcome: it has the outcome's status.
+fn code_of(outcome: &Result<(), ProgramFault>) -> ExitCode
+    ensures { status_at_exit result ≡ status_of outcome.now }
+{
+    ExitCode::from(exit_status(outcome))
 }
 
 /// Does what the arguments ask for.
@@ -36,8 +48,15 @@ fn run<
 /// Does what words ask for.
 fn carry_out<
     R: Input + Print + Eprint + AllocGlobal + Net<Listener = TcpListener, Stream = TcpStream>,
->(rt: &R, words: &[Bytes]) -> Result<(), ProgramFault> {
-    match read_task(rt.alloc(), words)? {
+>(rt: &R, words: &[Bytes]) -> Result<(), ProgramFault>
+    ensures usage { ((task : Task) → ¬ (Asks words.now task)) →
+        (result ≡ Err ProgramFault.Usage) ⊎ (result ≡ Err ProgramFault.NoMemory) }
+    ensures asked { (task : Task) → Asks words.now task → result ≢ Err ProgramFault.Usage }
+{
+    let Ok(task) = read_task(rt.alloc(), words) else {
+        return Err(ProgramFault::NoMemory);
+    };
+    match task {
         Some(Task::Replay) => replay(rt),
         Some(Task::Serve(service)) => serve(rt, &service),
         None => Err(ProgramFault::Usage),
@@ -59,30 +78,37 @@ fn read_words(rt: &(impl Env + AllocGlobal)) -> Result<Vec<Bytes>, ProgramFault>
 }
 
 /// Runs the script on standard input, and writes its answers to standard output.
-fn replay(rt: &(impl Input + Print + AllocGlobal)) -> Result<(), ProgramFault> {
+fn replay(rt: &(impl Input + Print + AllocGlobal)) -> Result<(), ProgramFault>
+    ensures { result ≢ Err ProgramFault.Usage }
+{
     let Ok(mut reader) = BufReader::with_capacity(rt.alloc(), BUFFER, rt.reader()) else {
         return Err(ProgramFault::NoMemory);
     };
     let Ok(mut writer) = BufWriter::with_capacity(rt.alloc(), BUFFER, io::writer(rt)) else {
         return Err(ProgramFault::NoMemory);
     };
-    run_script(rt.alloc(), &mut reader, &mut writer)?;
-    Ok(())
+    match run_script(rt.alloc(), &mut reader, &mut writer) {
+        Ok(()) => Ok(()),
+        Err(fault) => Err(ProgramFault::Script(fault)),
+    }
 }
 
 /// Serves connections on an address, over stores in memory.
 fn serve<R: Eprint + AllocGlobal + Net<Listener = TcpListener, Stream = TcpStream>>(
     rt: &R,
     service: &Service,
-) -> Result<(), ProgramFault> {
+) -> Result<(), ProgramFault>
+    ensures { result ≢ Err ProgramFault.Usage }
+{
     let Ok(mut gateway) = set_up(rt.alloc(), service.secret.as_slice()) else {
         return Err(ProgramFault::NoMemory);
     };
     let Ok(listener) = TcpListener::bind(rt, service.address) else {
         return Err(ProgramFault::BindFailed);
     };
-    match serve_on(rt, &listener, service.connections, &mut gateway)? {
-        0 => Ok(()),
-        faults => Err(ProgramFault::Connections(faults)),
+    match serve_on(rt, &listener, service.connections, &mut gateway) {
+        Ok(0) => Ok(()),
+        Ok(faults) => Err(ProgramFault::Connections(faults)),
+        Err(fault) => Err(ProgramFault::Serve(fault)),
     }
 }

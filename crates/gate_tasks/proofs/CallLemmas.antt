@@ -13,7 +13,9 @@ use Rattle.grid.specs.Refusals.{IsChangeRefusal}
 use Rattle.grid.specs.Leaves.{TellsDown}
 use Rattle.grid.specs.GridState.{GridState, maps_of, stood, failures_at, IsHonest, NoneFailed}
 use Rattle.grid.specs.Rows.{rows_of}
-use Rattle.grid.specs.Image.{image}
+use Rattle.grid.specs.Image.{image, refused_place}
+use Rattle.grid.specs.ImageLaws.{CanBeWritten}
+use Rattle.grid.specs.declared.image_layout.Layout.TheVariants.{VersionTwo}
 use Rattle.chk_file.specs.World.{World, empty}
 use Rattle.chk_file.specs.Marks.{shown}
 use Rattle.chk_file.specs.Look.{by_fit}
@@ -31,7 +33,7 @@ use Rattle.gate_core.specs.Held.{Held, State, held_at, waiting, waiting_in, open
 use Rattle.gate_core.specs.Lefts.{with_held, with_grid, opened, taken, ended}
 use Rattle.gate_core.specs.Came.{Opening, Came, CameAt, IsRoomy, GoesOn, stage_of}
 use Rattle.gate_core.specs.Served.{IsReceived}
-use Rattle.gate_tasks.specs.Replies.{settings_by, is_going, unsaid, unsaid_of_kept, IsApart, first_of, opened_reply, IsTaken, world_by, at_server, IsImageAfter}
+use Rattle.gate_tasks.specs.Replies.{settings_by, is_going, unsaid, unsaid_of_kept, IsApart, first_of, opened_reply, IsTaken, world_by, at_server, IsImageAfter, IsNoImageAfter}
 use Rattle.gate_tasks.specs.Running.{IsCalled}
 use Rattle.gate_tasks.specs.declared.command.Command.TheVariants as command
 use Rattle.gate_tasks.specs.declared.command.Grid.{Grid}
@@ -250,30 +252,43 @@ module _ (old new : State) (share : Share) (fault : GridFault) (reply : Reply) (
 -- ---- `image`
 
 image_of_what_stands : (g : State) (bytes : List ℕ) → (IsHonest g.grid → bytes ≡ image (length g.grid.stores) (rows_of (maps_of g.grid)))
+    → (IsHonest g.grid → CanBeWritten VersionTwo (length g.grid.stores) (rows_of (maps_of g.grid)))
     → (grid : Grid) (opening : Opening) (events : List Event) → g.settings ≡ settings_by grid → Came opening g events → IsImageAfter grid opening events bytes
-image_of_what_stands g bytes is grid opening events set came =
+image_of_what_stands g bytes is can grid opening events set came =
     let many : length g.grid.stores ≡ grid.servers = servers_are g grid opening events set came in
     record {
       maps = maps_of g.grid;
       servers = length-map g.grid.stores (λ t. t.shares) ∙ many;
       stand = looked g grid opening events set came;
       is = is came.stores.honest ∙ ap (λ n. image n (rows_of (maps_of g.grid))) many;
+      whole = subst (λ n. CanBeWritten VersionTwo n (rows_of (maps_of g.grid))) many (can came.stores.honest);
     }
+
+no_image_of_what_stands : (g : State) (place : ℕ) → (IsHonest g.grid → refused_place (rows_of (maps_of g.grid)) ≡ Some place)
+    → (grid : Grid) (opening : Opening) (events : List Event) → g.settings ≡ settings_by grid → Came opening g events → IsNoImageAfter grid opening events place
+no_image_of_what_stands g place refused grid opening events set came = record {
+  maps = maps_of g.grid;
+  servers = length-map g.grid.stores (λ t. t.shares) ∙ servers_are g grid opening events set came;
+  stand = looked g grid opening events set came;
+  refused = refused came.stores.honest;
+}
 
 module _ (old new : State) (left : new ≡ with_grid old new.grid) (on : (opening : Opening) (events : List Event) → Came opening old events → Came opening new events) where
   stays : (opening : Opening) (events : List Event) → Came opening old events → Came opening new (events ++ [])
   stays opening events came = subst (Came opening new) (sym (append-nil events)) (on opening events came)
 
-  pub imaged : (bytes : List ℕ) → (IsHonest old.grid → bytes ≡ image (length old.grid.stores) (rows_of (maps_of old.grid))) → IsCalled old new command.Image (Imaged bytes)
-  imaged bytes is = record {
+  pub imaged : (bytes : List ℕ) → (IsHonest old.grid → bytes ≡ image (length old.grid.stores) (rows_of (maps_of old.grid)))
+      → (IsHonest old.grid → CanBeWritten VersionTwo (length old.grid.stores) (rows_of (maps_of old.grid))) → IsCalled old new command.Image (Imaged bytes)
+  imaged bytes is can = record {
     settings = ap (λ (s : State). s.settings) left;
-    told = λ grid opening events set sharing came. inl (bytes, refl, image_of_what_stands old bytes is grid opening events set came);
+    told = λ grid opening events set sharing came. inl (bytes, refl, image_of_what_stands old bytes is can grid opening events set came);
     came = λ grid opening events set came calm. stays opening events came;
   }
 
-  pub image_refused : (place : ℕ) → IsCalled old new command.Image (GridRefused (grid_fault.BadImage place))
-  image_refused place = record {
+  pub image_refused : (place : ℕ) → (IsHonest old.grid → refused_place (rows_of (maps_of old.grid)) ≡ Some place)
+      → IsCalled old new command.Image (GridRefused (grid_fault.BadImage place))
+  image_refused place refused = record {
     settings = ap (λ (s : State). s.settings) left;
-    told = λ grid opening events set sharing came. inr (place, refl);
+    told = λ grid opening events set sharing came. inr (place, refl, no_image_of_what_stands old place refused grid opening events set came);
     came = λ grid opening events set came calm. stays opening events came;
   }

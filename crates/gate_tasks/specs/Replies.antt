@@ -4,7 +4,9 @@ use Rattle.grid.specs.declared.fault.GridFault.TheVariants.{NoServer, BadImage}
 use Rattle.share_store.specs.Shares.{Shares, bytes_of as size_of}
 use Rattle.grid.specs.Standing.{standing, at_server as in_store}
 use Rattle.grid.specs.Rows.{rows_of}
-use Rattle.grid.specs.Image.{image}
+use Rattle.grid.specs.Image.{image, refused_place}
+use Rattle.grid.specs.ImageLaws.{CanBeWritten}
+use Rattle.grid.specs.declared.image_layout.Layout.TheVariants.{VersionTwo}
 use Rattle.grid.specs.ImageReading.{image_said}
 use Rattle.chk_file.specs.Marks.{shown}
 use Rattle.chk_file.specs.World.{World, empty}
@@ -106,11 +108,21 @@ pub record IsImageAfter (grid : Grid) (opening : Opening) (events : List Event) 
   pub servers : length maps ≡ grid.servers
   pub stand : standing maps ≡ shown (world_by grid opening events).marks
   pub is : bytes ≡ image grid.servers (rows_of maps)
+  pub whole : CanBeWritten VersionTwo grid.servers (rows_of maps)
 
--- an image of what stands, or `BadImage`: nothing else keeps it from being written
+-- No image holds what stands after these calls at stores, one for each server: this is the place of the first field that
+-- an image would have for it and can't.
+pub record IsNoImageAfter (grid : Grid) (opening : Opening) (events : List Event) (place : ℕ) : Type 0 where
+  pub maps : List Shares
+  pub servers : length maps ≡ grid.servers
+  pub stand : standing maps ≡ shown (world_by grid opening events).marks
+  pub refused : refused_place (rows_of maps) ≡ Some place
+
+-- an image of what stands, or `BadImage` where no image holds it: nothing else keeps it from being written
 abbrev pub IsImageReply : Grid → Opening → List Event → Reply → Type 0
 IsImageReply grid opening events reply =
-    ((bytes : List ℕ) × (reply ≡ Imaged bytes) × IsImageAfter grid opening events bytes) ⊎ ((place : ℕ) × (reply ≡ GridRefused (BadImage place)))
+    ((bytes : List ℕ) × (reply ≡ Imaged bytes) × IsImageAfter grid opening events bytes) ⊎
+    ((place : ℕ) × (reply ≡ GridRefused (BadImage place)) × IsNoImageAfter grid opening events place)
 
 -- why a secret is not taken: it is too long
 abbrev pub opened_reply : Option (List ℕ) → Reply

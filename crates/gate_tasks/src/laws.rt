@@ -3,9 +3,6 @@ ghost use Rattle.std.specs.Prelude.{◌≡◌, ◌<◌, ◌+◌, ℕ, List, [], 
 ghost use Rattle.std.specs.List.{flat_map};
 ghost use Rattle.share_store.specs.Shares.{bytes_of};
 ghost use Rattle.grid.specs.Standing.{at_server};
-ghost use Rattle.grid.specs.Rows.{rows_of};
-ghost use Rattle.grid.specs.ImageLaws.{CanBeWritten};
-ghost use Rattle.grid.specs.declared.image_layout.Layout.TheVariants.{VersionTwo};
 ghost use Rattle.gate_core.specs.Events.{Event};
 ghost use Rattle.gate_core.specs.Rooms.{Rooms};
 ghost use Rattle.gate_core.specs.Came.{Opening};
@@ -39,7 +36,6 @@ pub fn images_bring_what_stood()
     ensures { (grid other : Grid) (opening : Opening) (events : List Event) (bytes : List ℕ)
         (rooms : Rooms) → (image : IsImageAfter grid opening events bytes) →
         other.servers ≡ grid.servers →
-        CanBeWritten VersionTwo grid.servers (rows_of image.maps) →
         ((s : ℕ) → rooms s + at_server bytes_of image.maps s ≡ room_of other s) →
         IsOpenedBy other bytes
         (record { world = world_by grid opening events; rooms = rooms }) }

@@ -1,8 +1,9 @@
-use Rattle.std.proofs.Common.{length, vec_len, ◌∙◌, ap, sym}
+use Rattle.std.proofs.Common.{Err, length, vec_len, ◌∙◌, ap, sym}
 use Rattle.grid.specs.ImageReading.{image_said}
 use Rattle.gate_core.specs.Held.{State}
 use Rattle.gate_core.proofs.Arrivals.{inner_fault, fault_told}
 use Rattle.gate_core.proofs.Isolating.{isolates_first}
+use Rattle.grid.specs.GridState.{states}
 use Rattle.gate_core.proofs.gateway.Gateway.restore.Goals as goal
 
 pub returns-in-Err-clause-bad_image : goal.returns-in-Err-clause-bad_image
@@ -17,3 +18,22 @@ returns-in-Ok-over-clause-came g c w stand honest =
 
 pub returns-in-Ok-over-clause-isolated : goal.returns-in-Ok-over-clause-isolated
 returns-in-Ok-over-clause-isolated g c = isolates_first c.in-Ok-over.gateway (ap (λ (s : State). s.connections) c.in-Ok-over.ensures)
+
+pub returns-in-Err-clause-full : goal.returns-in-Err-clause-full
+returns-in-Err-clause-full g c server e =
+    let refused = c.in-Err.ensures in
+    record {
+      after = states g.S.Store.shares g.S.Store.room g.S.Store.held g.S.Store.failures g.S.Store.honest c.in-Err.field-0-1.items;
+      leaves = refused.leaves;
+      rooms = refused.rooms;
+      full = refused.full server (inner_fault c.in-Err.fault _ e);
+    }
+
+pub returns-in-Err-clause-down : goal.returns-in-Err-clause-down
+returns-in-Err-clause-down g c server e =
+    let refused = c.in-Err.ensures in
+    record {
+      after = states g.S.Store.shares g.S.Store.room g.S.Store.held g.S.Store.failures g.S.Store.honest c.in-Err.field-0-1.items;
+      leaves = refused.leaves;
+      failed = (refused.down server).0 (ap Err (inner_fault c.in-Err.fault _ e));
+    }

@@ -1,4 +1,4 @@
-use Rattle.std.proofs.Common.{◌≡◌, ◌++◌, sym, ap, ◌∙◌}
+use Rattle.std.proofs.Common.{◌∙◌}
 use Rattle.http_edge.specs.declared.reply.Reply.{Reply}
 use Rattle.gate_core.proofs.Sending.{joined, head_sent, body_sent}
 use Rattle.gate_core.proofs.output.Output.push_reply.Goals as goal
