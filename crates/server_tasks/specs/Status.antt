@@ -3,7 +3,7 @@ use Rattle.std.specs.Prelude.{ℕ}
 use Rattle.folder_shelf.specs.declared.fault.FolderFault.{FolderFault}
 use Rattle.folder_shelf.specs.declared.fault.FolderFault.TheVariants as folder
 use Rattle.server_tasks.specs.declared.fault.ProgramFault.{ProgramFault}
-use Rattle.server_tasks.specs.declared.fault.ProgramFault.TheVariants.{Serve, Arguments, Shares, Stores, NoAddress, AddressInUse, NotAllowed, NotBound, SecretUnread, SecretTooLong, FewHandles, NoMemory, NotPrinted, NotThere, Folder, DiskFull, NoRoom, NotEmpty, OtherCount, ImageUnread, BadImage, ImageUnwritten, NotWell}
+use Rattle.server_tasks.specs.declared.fault.ProgramFault.TheVariants.{Serve, Arguments, Shares, Stores, NoAddress, AddressInUse, NotAllowed, NotBound, SecretUnread, SecretTooLong, FewHandles, NoMemory, NotPrinted, NotThere, Folder, DiskFull, NoRoom, NotEmpty, OtherCount, ImageUnread, BadImage, ImageUnwritten, NotWell, RedisUnknown, Redis, RedisUnread, PasswordUnread}
 
 -- the status where a folder was refused; 20 is between them, that of a full disk
 abbrev pub folder_status : FolderFault → ℕ
@@ -43,3 +43,7 @@ status_of ImageUnread = 25
 status_of (BadImage place) = 26
 status_of ImageUnwritten = 27
 status_of NotWell = 28
+status_of RedisUnknown = 29
+status_of (Redis fault) = 29
+status_of RedisUnread = 29
+status_of PasswordUnread = 30

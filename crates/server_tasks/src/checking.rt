@@ -35,7 +35,7 @@ pub fn check<R: Files + AllocGlobal + Clone + Drop + Log + Print + Eprint>(
     for folder in folders {
         match check_folder(rt, *folder, &mut seen) {
             Ok(is_well) => are_well = are_well && is_well,
-            Err(fault) if fault.is_of_a_folder() => {
+            Err(fault) if fault.is_of_a_store() => {
                 named(rt, *folder, fault);
                 are_well = false;
             }

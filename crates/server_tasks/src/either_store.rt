@@ -1,5 +1,5 @@
 //! A store of one of two kinds.
-ghost use Rattle.server_tasks.specs.declared.either_store.EitherStore.TheVariants.{Kept, OnDisk};
+ghost use Rattle.server_tasks.specs.declared.either_store.EitherStore.TheVariants.{First, Second};
 
 use share_store::{Share, Store, StoreFault};
 use std::alloc::AllocError;
@@ -9,48 +9,48 @@ use std::rc::RcSlice;
 /// passed on.
 #[derive(Drop)]
 pub enum EitherStore<K: Store, D: Store> {
-    /// One that has its shares in memory.
-    Kept(K),
-    /// One whose shares stand on a disk alone.
-    OnDisk(D),
+    /// One of the first kind.
+    First(K),
+    /// One of the second kind.
+    Second(D),
 }
 
 impl<K: Store, D: Store> Store for EitherStore<K, D> {
-    ghost honest = { elim [ Kept store ↦ K.honest store | OnDisk store ↦ D.honest store ] };
+    ghost honest = { elim [ First store ↦ K.honest store | Second store ↦ D.honest store ] };
 
-    ghost shares = { elim [ Kept store ↦ K.shares store | OnDisk store ↦ D.shares store ] };
+    ghost shares = { elim [ First store ↦ K.shares store | Second store ↦ D.shares store ] };
 
-    ghost room = { elim [ Kept store ↦ K.room store | OnDisk store ↦ D.room store ] };
+    ghost room = { elim [ First store ↦ K.room store | Second store ↦ D.room store ] };
 
-    ghost held = { elim [ Kept store ↦ K.held store | OnDisk store ↦ D.held store ] };
+    ghost held = { elim [ First store ↦ K.held store | Second store ↦ D.held store ] };
 
-    ghost failures = { elim [ Kept store ↦ K.failures store | OnDisk store ↦ D.failures store ] };
+    ghost failures = { elim [ First store ↦ K.failures store | Second store ↦ D.failures store ] };
 
     fn has(&mut self, index: [u8; 16], number: u16) -> Result<bool, AllocError> {
         match self {
-            EitherStore::Kept(store) => store.has(index, number),
-            EitherStore::OnDisk(store) => store.has(index, number),
+            EitherStore::First(store) => store.has(index, number),
+            EitherStore::Second(store) => store.has(index, number),
         }
     }
 
     fn numbers(&mut self, index: [u8; 16]) -> Result<Vec<u16>, AllocError> {
         match self {
-            EitherStore::Kept(store) => store.numbers(index),
-            EitherStore::OnDisk(store) => store.numbers(index),
+            EitherStore::First(store) => store.numbers(index),
+            EitherStore::Second(store) => store.numbers(index),
         }
     }
 
     fn get(&mut self, index: [u8; 16], number: u16) -> Result<Option<RcSlice<u8>>, AllocError> {
         match self {
-            EitherStore::Kept(store) => store.get(index, number),
-            EitherStore::OnDisk(store) => store.get(index, number),
+            EitherStore::First(store) => store.get(index, number),
+            EitherStore::Second(store) => store.get(index, number),
         }
     }
 
     fn nth(&mut self, at: u64) -> Result<Option<Share>, AllocError> {
         match self {
-            EitherStore::Kept(store) => store.nth(at),
-            EitherStore::OnDisk(store) => store.nth(at),
+            EitherStore::First(store) => store.nth(at),
+            EitherStore::Second(store) => store.nth(at),
         }
     }
 
@@ -61,52 +61,52 @@ impl<K: Store, D: Store> Store for EitherStore<K, D> {
         bytes: RcSlice<u8>,
     ) -> Result<bool, StoreFault> {
         match self {
-            EitherStore::Kept(store) => store.put(index, number, bytes),
-            EitherStore::OnDisk(store) => store.put(index, number, bytes),
+            EitherStore::First(store) => store.put(index, number, bytes),
+            EitherStore::Second(store) => store.put(index, number, bytes),
         }
     }
 
     fn lose(&mut self, index: [u8; 16], number: u16) -> Result<bool, StoreFault> {
         match self {
-            EitherStore::Kept(store) => store.lose(index, number),
-            EitherStore::OnDisk(store) => store.lose(index, number),
+            EitherStore::First(store) => store.lose(index, number),
+            EitherStore::Second(store) => store.lose(index, number),
         }
     }
 
     fn toggle(&mut self, index: [u8; 16], number: u16, place: u64) -> Result<bool, StoreFault> {
         match self {
-            EitherStore::Kept(store) => store.toggle(index, number, place),
-            EitherStore::OnDisk(store) => store.toggle(index, number, place),
+            EitherStore::First(store) => store.toggle(index, number, place),
+            EitherStore::Second(store) => store.toggle(index, number, place),
         }
     }
 
     fn room(&self) -> u64 {
         match self {
-            EitherStore::Kept(store) => store.room(),
-            EitherStore::OnDisk(store) => store.room(),
+            EitherStore::First(store) => store.room(),
+            EitherStore::Second(store) => store.room(),
         }
     }
 
     fn held(&self) -> u64 {
         match self {
-            EitherStore::Kept(store) => store.held(),
-            EitherStore::OnDisk(store) => store.held(),
+            EitherStore::First(store) => store.held(),
+            EitherStore::Second(store) => store.held(),
         }
     }
 
     fn failures(&self) -> u64 {
         match self {
-            EitherStore::Kept(store) => store.failures(),
-            EitherStore::OnDisk(store) => store.failures(),
+            EitherStore::First(store) => store.failures(),
+            EitherStore::Second(store) => store.failures(),
         }
     }
 
-    ghost held_is = { elim [ Kept store ↦ K.held_is store | OnDisk store ↦ D.held_is store ] };
+    ghost held_is = { elim [ First store ↦ K.held_is store | Second store ↦ D.held_is store ] };
 
-    ghost fits = { elim [ Kept store ↦ K.fits store | OnDisk store ↦ D.fits store ] };
+    ghost fits = { elim [ First store ↦ K.fits store | Second store ↦ D.fits store ] };
 
     ghost none_empty = { elim [
-      | Kept store ↦ K.none_empty store
-      | OnDisk store ↦ D.none_empty store
+      | First store ↦ K.none_empty store
+      | Second store ↦ D.none_empty store
     ] };
 }

@@ -5,6 +5,7 @@ ghost use Rattle.server_tasks.specs.Status.{status_of, folder_status};
 use folder_shelf::FolderFault;
 use gate_poll::ServeFault;
 use kept_store::OpenFault as KeptFault;
+use redis_shelf::RedisFault;
 use share_shelf::ShelfFault;
 use share_store::StoreFault;
 use shelf_store::OpenFault as DiskFault;
@@ -23,8 +24,8 @@ pub enum ProgramFault {
     /// `--shares` isn't two numbers as they are wanted.
     #[error("--shares wants K,N with 1 <= K <= N <= 256, as in 3,10")]
     Shares,
-    /// `--store` names no store, or stands too often.
-    #[error("--store wants dir:PATH, dir:PATH:BYTES, dir:PATH:BYTES,disk or mem:BYTES, and stands 256 times at most")]
+    /// `--store` names no store, the same names on a Redis server twice, or stands too often.
+    #[error("--store wants dir:PATH, dir:PATH:BYTES, dir:PATH:BYTES,disk, redis:HOST:PORT[/NAME][:BYTES], each NAME once, or mem:BYTES, and stands 256 times at most")]
     Stores,
     /// An address has no such host, or no port.
     #[error("the {0} address is none: HOST:PORT is wanted, and a host that there is")]
@@ -83,11 +84,23 @@ pub enum ProgramFault {
     /// A folder that was looked through isn't as it is to be: it was told already.
     #[error("not all is well")]
     NotWell,
+    /// The host of a Redis server isn't known.
+    #[error("there is no such host")]
+    RedisUnknown,
+    /// A Redis server gave no answer at the start, or refused.
+    #[error("the Redis server can't be used: {0}")]
+    Redis(RedisFault),
+    /// A Redis server that answered failed while its shares were read.
+    #[error("the Redis server failed while its shares were read")]
+    RedisUnread,
+    /// The file of the Redis servers' password could not be read.
+    #[error("the Redis password file can't be read")]
+    PasswordUnread,
 }
 
 impl ProgramFault {
-    /// Whether it is of a folder, by whose name it is told where it comes.
-    pub fn is_of_a_folder(&self) -> bool {
+    /// Whether it is of a folder or a Redis server, by whose name it is told where it comes.
+    pub fn is_of_a_store(&self) -> bool {
         match self {
             ProgramFault::NotThere => true,
             ProgramFault::Folder(_) => true,
@@ -95,13 +108,16 @@ impl ProgramFault {
             ProgramFault::NoRoom => true,
             ProgramFault::NotEmpty => true,
             ProgramFault::OtherCount(_, _) => true,
+            ProgramFault::RedisUnknown => true,
+            ProgramFault::Redis(_) => true,
+            ProgramFault::RedisUnread => true,
             _ => false,
         }
     }
 
     /// Whether it was told already where it came.
     pub fn is_told(&self) -> bool {
-        self.is_of_a_folder() || *self == ProgramFault::Arguments || *self == ProgramFault::NotWell
+        self.is_of_a_store() || *self == ProgramFault::Arguments || *self == ProgramFault::NotWell
     }
 
     /// The status with which the program exits.
@@ -132,6 +148,10 @@ impl ProgramFault {
             ProgramFault::BadImage(_) => 26,
             ProgramFault::ImageUnwritten => 27,
             ProgramFault::NotWell => 28,
+            ProgramFault::RedisUnknown => 29,
+            ProgramFault::Redis(_) => 29,
+            ProgramFault::RedisUnread => 29,
+            ProgramFault::PasswordUnread => 30,
         }
     }
 }

@@ -1,5 +1,4 @@
 //! Folders of servers: what stands in them before they are opened, and opening them.
-use crate::either_store::EitherStore;
 use crate::fault::ProgramFault;
 use crate::server_shelf::ServerShelf;
 use folder_shelf::{FolderFault, FolderLock, FolderShelf, Settings, check_settings, read_settings};
@@ -7,7 +6,7 @@ use kept_store::KeptStore;
 use log::{Log, info, warn};
 use share_store::Store;
 use shelf_store::ShelfStore;
-use std::alloc::{AllocError, Global};
+use std::alloc::AllocError;
 use std::fs::File;
 use std::io::ErrorKind;
 use std::rt::Files;
@@ -21,9 +20,6 @@ pub type FolderStore<R> = KeptStore<ServerShelf<R>>;
 
 /// A store whose shares are in a folder alone.
 pub type DiskStore<R> = ShelfStore<ServerShelf<R>>;
-
-/// A server's store.
-pub type ServerStore<R> = EitherStore<FolderStore<R>, DiskStore<R>>;
 
 /// What stands in a folder before it is opened.
 #[derive(Clone, Copy, Debug, PartialEq, Eq)]
@@ -47,7 +43,7 @@ pub struct Opening {
 
 /// Tells a fault of a folder by the folder's name on standard error.
 pub fn named<R: Eprint>(rt: &R, folder: &str, fault: ProgramFault) -> ProgramFault {
-    if fault.is_of_a_folder() {
+    if fault.is_of_a_store() {
         let _ = eprintln!(rt; "wozhinnam: {folder}: {fault}");
     }
     fault
@@ -315,13 +311,4 @@ fn is_for_want_of_room(answer: &io::Result<()>) -> bool {
             error.kind() == ErrorKind::StorageFull || error.kind() == ErrorKind::QuotaExceeded
         }
     }
-}
-
-/// A store in memory alone.
-pub fn memory_store<R: Files + AllocGlobal + Clone + Drop>(
-    alloc: Global,
-    room: u64,
-) -> Result<ServerStore<R>, ProgramFault> {
-    let store = KeptStore::open(alloc, ServerShelf::nothing(), room)?;
-    Ok(EitherStore::Kept(store))
 }

@@ -5,10 +5,10 @@ use std::rt::Files;
 /// How many handles the program needs besides those of its connections: its streams, listeners and control connections.
 const OTHERS: u64 = 32;
 
-/// How many handles so many connections and so many folders need: a lock is kept of each folder.
-pub fn needed_for(connections: usize, folders: usize) -> u64 {
+/// How many handles so many connections and so many stores need that keep one: the lock of a folder, or a connection.
+pub fn needed_for(connections: usize, stores: usize) -> u64 {
     (connections as u64)
-        .saturating_add(folders as u64)
+        .saturating_add(stores as u64)
         .saturating_add(OTHERS)
 }
 

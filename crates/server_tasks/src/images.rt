@@ -5,13 +5,13 @@ use crate::fault::ProgramFault;
 use crate::folders::{
     FolderStore, Opening, is_full, look_at_new, look_at_old, named, open_folder, settings_in,
 };
-use crate::options::Restoring;
 use crate::server_shelf::ServerShelf;
 use crate::stores::empty_stores;
 use folder_shelf::{FolderFault, Settings};
 use grid::{Grid, GridFault};
 use kept_store::KeptStore;
 use log::{Log, info};
+use server_options::Restoring;
 use share_store::Store;
 use std::alloc::AllocError;
 use std::fs::File;

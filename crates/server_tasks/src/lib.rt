@@ -4,10 +4,6 @@
 
 /// Why the program ended before it was stopped.
 mod fault;
-/// The program's command line.
-mod arguments;
-/// What the program is asked for.
-pub mod options;
 /// How many files and sockets the program may have open.
 pub mod handles;
 /// What a server keeps its shares on beside memory.
@@ -16,37 +12,34 @@ mod server_shelf;
 pub mod either_store;
 /// Folders of servers.
 pub mod folders;
+/// Stores on Redis servers.
+mod redis_stores;
 /// The stores of the gateway.
 mod stores;
 /// Looking through folders.
 mod checking;
 /// Images of a grid in folders.
 mod images;
-/// What is known of the stores.
-pub mod figures;
-/// Figures in the text format of Prometheus.
-pub mod metrics;
-/// What the control listener answers.
-pub mod board;
 
-use board::Board;
 pub use checking::check;
 pub use fault::ProgramFault;
 use folder_shelf::Settings;
-use folders::ServerStore;
 use gate_core::{Gateway, GatewayFault};
 use gate_poll::{Limits, serve_on};
 use images::{restore, write_image};
 use log::{Log, info};
 use mio::net::TcpListener;
-use options::{Options, Refusal, Shares, Task, read_words};
+use server_board::Board;
+use server_options::{Options, Refusal, Shares, Task, read_words};
+use share_store::Store;
+use std::alloc::Global;
 use std::fs::File;
 use std::io::ErrorKind;
 use std::net::{Net, SocketAddr, ToSocketAddrs};
 use std::rt::{Env, Files};
 use std::time::{Clock, CpuClock, Duration};
 use std::{env, fs};
-use stores::open_stores;
+use stores::{ServerStore, open_stores};
 
 /// How many bytes a secret may have.
 const MOST_SECRET: usize = 256;
@@ -119,24 +112,76 @@ fn serve<
         return Err(fault);
     }
     let mut gateway = open_gateway(rt, options)?;
-    let listener = listen(rt, options.listen, "listening")?;
-    let control = match options.control {
-        Some(address) => Some(listen(rt, address, "control")?),
-        None => None,
-    };
-    tell(rt, "listening on", &listener)?;
+    let listeners = listen_for(rt, options)?;
+    serve_with(rt, options, listeners, &mut gateway)
+}
+
+/// Where connections are accepted, and control requests if they are anywhere.
+#[derive(Drop)]
+struct Listeners {
+    connections: TcpListener,
+    control: Option<TcpListener>,
+}
+
+/// Listens where it is asked for, and prints the addresses.
+fn listen_for<R: Print + Net>(rt: &R, options: &Options<'_>) -> Result<Listeners, ProgramFault> {
+    let connections = listen(rt, options.listen, "listening")?;
+    let control = listen_for_control(rt, options)?;
+    tell(rt, "listening on", &connections)?;
     if let Some(listener) = &control {
         tell(rt, "control on", listener)?;
     }
+    Ok(Listeners {
+        connections,
+        control,
+    })
+}
+
+/// Listens for control requests, if that is asked for.
+fn listen_for_control<R: Net>(
+    rt: &R,
+    options: &Options<'_>,
+) -> Result<Option<TcpListener>, ProgramFault> {
+    match options.control {
+        Some(address) => match listen(rt, address, "control") {
+            Ok(listener) => Ok(Some(listener)),
+            Err(fault) => Err(fault),
+        },
+        None => Ok(None),
+    }
+}
+
+/// Serves the connections that come to these listeners.
+fn serve_with<
+    R: Print
+        + Eprint
+        + AllocGlobal
+        + Files<File = File>
+        + Clock
+        + CpuClock
+        + Net
+        + Log
+        + Clone
+        + Drop,
+>(
+    rt: &R,
+    options: &Options<'_>,
+    listeners: Listeners,
+    gateway: &mut Gateway<ServerStore<R>>,
+) -> Result<(), ProgramFault> {
+    let Listeners {
+        connections,
+        control,
+    } = listeners;
     info!(rt; "started: at most {} connections", options.connections);
     let limits = Limits::new(options.connections, Duration::from_secs(options.idle));
-    let counts = serve_on(rt, listener, control, &limits, &mut gateway, &mut Board)?;
+    let counts = serve_on(rt, connections, control, &limits, gateway, &mut Board)?;
     info!(rt; "stopped: {} connections were opened", counts.opened);
     Ok(())
 }
 
 /// A gateway over the stores that are wanted, with the secret that its file has.
-fn open_gateway<R: AllocGlobal + Files<File = File> + Clone + Drop + Log + Eprint>(
+fn open_gateway<R: AllocGlobal + Files<File = File> + Net + Clock + Clone + Drop + Log + Eprint>(
     rt: &R,
     options: &Options<'_>,
 ) -> Result<Gateway<ServerStore<R>>, ProgramFault> {
@@ -147,7 +192,17 @@ fn open_gateway<R: AllocGlobal + Files<File = File> + Clone + Drop + Log + Eprin
     let Shares { needed, made } = options.shares;
     let first = Settings::new(0, servers, needed, made, &secret);
     let stores = open_stores(rt, options, &first)?;
-    match Gateway::resume(rt.alloc(), needed, made, stores, &secret) {
+    gateway_over(rt.alloc(), options.shares, stores, &secret)
+}
+
+/// A gateway over these stores.
+fn gateway_over<S: Store + Drop>(
+    alloc: Global,
+    shares: Shares,
+    stores: Vec<S>,
+    secret: &[u8],
+) -> Result<Gateway<S>, ProgramFault> {
+    match Gateway::resume(alloc, shares.needed, shares.made, stores, secret) {
         Ok(gateway) => Ok(gateway),
         Err(GatewayFault::BadParameters) => Err(ProgramFault::Shares),
         Err(_) => Err(ProgramFault::NoMemory),
@@ -171,9 +226,10 @@ fn read_secret<R: AllocGlobal + Files>(
     Ok(secret)
 }
 
-/// The fault that there are fewer handles than connections and locks of folders need, if the system says so.
+/// The fault that there are fewer handles than connections, locks of folders and connections to Redis servers need, if
+/// the system says so.
 fn few_handles<R: AllocGlobal + Files>(rt: &R, options: &Options<'_>) -> Option<ProgramFault> {
-    let needed = handles::needed_for(options.connections, options.folders());
+    let needed = handles::needed_for(options.connections, options.with_handles());
     let allowed = handles::allowed(rt)?;
     if allowed < needed {
         Some(ProgramFault::FewHandles(allowed, needed))

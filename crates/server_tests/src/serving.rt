@@ -5,11 +5,10 @@ ghost use Rattle.std.specs.Rc.{rc_slice_items};
 use folder_shelf::{FolderFault, Settings};
 use gate_core::Tally;
 use gate_poll::Counts;
-use server_tasks::board::{Asked, Method, asked_by, status_text};
-use server_tasks::figures::StoreFigures;
+use server_board::figures::StoreFigures;
+use server_board::{Asked, Method, asked_by, metrics_text, status_text};
+use server_options::{RedisPlace, Shares, StoreWanted, Task, read_store, read_words};
 use server_tasks::folders::{Found, Opening, look, open_folder, open_on_disk};
-use server_tasks::metrics::metrics_text;
-use server_tasks::options::{Shares, StoreWanted, Task, read_store, read_words};
 use server_tasks::{ProgramFault, check, handles};
 use share_store::Store;
 use std::alloc::Global;
@@ -65,6 +64,7 @@ fn options_have_defaults(rt: HostRuntime) -> Result<(), Fail> {
     );
     assert!(rt; options.synced);
     assert!(rt; options.secret_file.is_none());
+    assert!(rt; options.redis_password_file.is_none());
     assert_eq!(rt; options.connections, 900);
     assert_eq!(rt; options.idle, 60);
     Ok(())
@@ -72,7 +72,7 @@ fn options_have_defaults(rt: HostRuntime) -> Result<(), Fail> {
 
 #[test]
 fn wrong_words_are_refused(rt: HostRuntime) -> Result<(), Fail> {
-    let wrong: [&[&str]; 16] = [
+    let wrong: [&[&str]; 17] = [
         &["serve", "--shares", "4,3"],
         &["serve", "--shares", "0,3"],
         &["serve", "--shares", "3"],
@@ -85,6 +85,13 @@ fn wrong_words_are_refused(rt: HostRuntime) -> Result<(), Fail> {
         &["serve", "--port", "80"],
         &["serve", "--store", "disk:/a"],
         &["serve", "--store", "mem:1", "--servers", "2"],
+        &[
+            "serve",
+            "--store",
+            "redis:h:1/a",
+            "--store",
+            "redis:h:1/a:5",
+        ],
         &["check"],
         &["image"],
         &["restore", "image"],
@@ -95,6 +102,11 @@ fn wrong_words_are_refused(rt: HostRuntime) -> Result<(), Fail> {
         assert!(rt; read_words(rt.alloc(), &words).is_err());
     }
     Ok(())
+}
+
+/// A place on a Redis server.
+fn place<'a>(address: &'a str, name: &'a str) -> RedisPlace<'a> {
+    RedisPlace { address, name }
 }
 
 #[test]
@@ -119,6 +131,35 @@ fn stores_are_named(rt: HostRuntime) {
         ("dir:a:12,disk,disk", None),
         ("mem:12,disk", None),
         ("/a", None),
+        (
+            "redis:h:6379",
+            Some(StoreWanted::Redis(place("h:6379", ""), 7)),
+        ),
+        (
+            "redis:h:6379:12",
+            Some(StoreWanted::Redis(place("h:6379", ""), 12)),
+        ),
+        (
+            "redis:h:6379/a",
+            Some(StoreWanted::Redis(place("h:6379", "a"), 7)),
+        ),
+        (
+            "redis:[::1]:6379/a/b:12",
+            Some(StoreWanted::Redis(place("[::1]:6379", "a/b"), 12)),
+        ),
+        (
+            "redis:[::1]:6379:12",
+            Some(StoreWanted::Redis(place("[::1]:6379", ""), 12)),
+        ),
+        ("redis:h", None),
+        ("redis::6379", None),
+        ("redis:h:65536", None),
+        ("redis:h:6379/", None),
+        ("redis:h:6379/:12", None),
+        ("redis:h:6379/a:b:12", None),
+        ("redis:h:6379/a:12k", None),
+        ("redis:::1:6379", None),
+        ("redis:h/a", None),
     ] {
         assert!(rt; read_store(name, 7) == wanted, "at {name}");
     }

@@ -1,24 +1,38 @@
 //! The web gateway as a program that runs until it is stopped, and the care of the folders in which it keeps shares.
 //!
 //!     wozhinnam serve [--listen ADDR] [--control ADDR] [--shares K,N] [--store STORE].. [--servers COUNT]
-//!                     [--room BYTES] [--no-sync] [--secret-file PATH] [--connections MAX] [--idle SECONDS]
+//!                     [--room BYTES] [--no-sync] [--secret-file PATH] [--redis-password-file PATH]
+//!                     [--connections MAX] [--idle SECONDS]
 //!     wozhinnam check PATH..
 //!     wozhinnam image PATH.. > FILE
 //!     wozhinnam restore [--shares K,N] [--secret-file PATH] [--no-sync] FILE PATH..
 #![tactic(auto)]
 
-use server_tasks::run;
+ghost use Rattle.std.specs.Prelude.{◌≡◌, MatchResult};
+ghost use Rattle.std.specs.Process.{exit_status};
+ghost use Rattle.server_tasks.specs.Status.{status_of};
+
+use server_tasks::{ProgramFault, run};
 use std::process::ExitCode;
 
 /// Does what the words ask for, tells the fault that ended it on standard error, and exits with its status.
 fn main(rt: HostRuntime) -> ExitCode {
-    match run(&rt) {
-        Ok(()) => ExitCode::from(0),
-        Err(fault) => {
-            if !fault.is_told() {
-                let _ = eprintln!(rt; "wozhinnam: {fault}");
-            }
-            ExitCode::from(fault.status())
+    let outcome = run(&rt);
+    if let Err(fault) = &outcome {
+        if !fault.is_told() {
+            let _ = eprintln!(rt; "wozhinnam: {fault}");
         }
+    }
+    code_of(&outcome)
+}
+
+/// The exit code for an outcome: 0, or the status of its fault.
+fn code_of(outcome: &Result<(), ProgramFault>) -> ExitCode
+    ensures { MatchResult outcome.now (λ done. exit_status result ≡ 0)
+        (λ fault. exit_status result ≡ status_of fault) }
+{
+    match outcome {
+        Ok(()) => ExitCode::from(0),
+        Err(fault) => ExitCode::from(fault.status()),
     }
 }

@@ -8,7 +8,7 @@ pub fn program<'a>(alloc: Global) -> Result<Command<'a>, AllocError> {
     Command::new(alloc, "wozhinnam")
         .version("0.1.0")
         .about(
-            "A web gateway for capability-addressed storage, over stores in memory and in folders.",
+            "A web gateway for capability-addressed storage, over stores in memory, in folders and on Redis servers.",
         )
         .subcommand_required(true)
         .subcommand(serving(alloc)?)?
@@ -41,7 +41,7 @@ fn with_stores<'a>(alloc: Global, command: Command<'a>) -> Result<Command<'a>, A
             alloc,
             "store",
             "STORE",
-            "a store: dir:PATH or dir:PATH:BYTES keeps its shares in a folder too, dir:PATH:BYTES,disk there alone, mem:BYTES in memory; one for each server, in their order",
+            "a store: dir:PATH or dir:PATH:BYTES keeps its shares in a folder too, dir:PATH:BYTES,disk there alone, redis:HOST:PORT[/NAME][:BYTES] on a Redis server, mem:BYTES in memory; one for each server, in their order",
         )
         .action(ArgAction::Append))?
         .arg(
@@ -66,7 +66,8 @@ fn with_stores<'a>(alloc: Global, command: Command<'a>) -> Result<Command<'a>, A
             .default_value("1073741824"),
         )?
         .arg(no_sync(alloc))?
-        .arg(secret_file(alloc))
+        .arg(secret_file(alloc))?
+        .arg(redis_password_file(alloc))
 }
 
 /// Adds the options of connections.
@@ -155,6 +156,16 @@ fn secret_file<'a>(alloc: Global) -> Arg<'a> {
         "secret-file",
         "PATH",
         "a file whose bytes, at most 256, go into the key of each stored file",
+    )
+}
+
+/// `--redis-password-file`.
+fn redis_password_file<'a>(alloc: Global) -> Arg<'a> {
+    option(
+        alloc,
+        "redis-password-file",
+        "PATH",
+        "a file whose bytes, without the line's end behind them, are the password of each Redis server",
     )
 }
 

@@ -59,22 +59,41 @@ pub fn metrics_text(
 ) -> Result<String, AllocError> {
     let mut text = String::new(alloc);
     for figure in &figures_of(counts) {
-        put_head(alloc, &mut text, figure.name, figure.kind)?;
-        let value = figure.value;
-        let line = format!(in alloc; "wozhinnam_{} {}\n", figure.name, value)?;
-        text.push_str(line.as_str())?;
+        put_figure(alloc, &mut text, figure)?;
     }
     put_replies(alloc, &mut text, tally)?;
-    put_stores(alloc, &mut text, "store_room_bytes", OfStores::Room, stores)?;
-    put_stores(alloc, &mut text, "store_held_bytes", OfStores::Held, stores)?;
+    put_all_stores(alloc, &mut text, stores)?;
+    Ok(text)
+}
+
+/// Puts a figure of the loop.
+fn put_figure(alloc: Global, text: &mut String, figure: &Figure) -> Result<(), AllocError> {
+    put_head(alloc, text, figure.name, figure.kind)?;
+    let value = figure.value;
+    let line = format!(in alloc; "wozhinnam_{} {}\n", figure.name, value)?;
+    put_line(text, &line)
+}
+
+/// Puts a line behind the text.
+fn put_line(text: &mut String, line: &String) -> Result<(), AllocError> {
+    text.push_str(line.as_str())
+}
+
+/// Puts the figures of each store.
+fn put_all_stores(
+    alloc: Global,
+    text: &mut String,
+    stores: &[StoreFigures],
+) -> Result<(), AllocError> {
+    put_stores(alloc, text, "store_room_bytes", OfStores::Room, stores)?;
+    put_stores(alloc, text, "store_held_bytes", OfStores::Held, stores)?;
     put_stores(
         alloc,
-        &mut text,
+        text,
         "store_failures_total",
         OfStores::Failures,
         stores,
-    )?;
-    Ok(text)
+    )
 }
 
 /// The figures of the loop.
@@ -112,19 +131,18 @@ fn counter(name: &'static str, value: u64) -> Figure {
 /// Puts the line that says what a figure does.
 fn put_head(alloc: Global, text: &mut String, name: &str, kind: Kind) -> Result<(), AllocError> {
     let line = format!(in alloc; "# TYPE wozhinnam_{} {}\n", name, kind.word())?;
-    text.push_str(line.as_str())?;
-    Ok(())
+    put_line(text, &line)
 }
 
 /// Puts the number of replies of each status, by its code.
 fn put_replies(alloc: Global, text: &mut String, tally: &Tally) -> Result<(), AllocError> {
     put_head(alloc, text, "replies_total", Kind::Counter)?;
-    for (code, value) in &reply_figures(tally) {
+    for replies in &reply_figures(tally) {
         let line = format!(in alloc;
             "wozhinnam_replies_total{{status=\"{}\"}} {}\n",
-            *code, *value
+            replies.name, replies.value
         )?;
-        text.push_str(line.as_str())?;
+        put_line(text, &line)?;
     }
     Ok(())
 }
@@ -145,7 +163,7 @@ fn put_stores(
     for (at, store) in stores.iter().enumerate() {
         let value = what.of(store);
         let line = format!(in alloc; "wozhinnam_{}{{store=\"{}\"}} {}\n", name, at, value)?;
-        text.push_str(line.as_str())?;
+        put_line(text, &line)?;
     }
     Ok(())
 }

@@ -1,11 +1,11 @@
 //! What the control listener answers.
-use crate::figures::{StoreFigures, store_figures};
+use crate::figures::store_figures;
 use crate::metrics::metrics_text;
-use gate_core::{Gateway, Tally};
+use crate::status::status_text;
+use gate_core::Gateway;
 use gate_poll::{Answer, Control, Counts, text_reply};
 use http_edge::{Head, Reply, ReplyField, ReplyFields, Status};
 use octets::Bytes;
-use serde_json::{Value, json};
 use share_store::Store;
 use std::alloc::{AllocError, Global};
 
@@ -89,70 +89,21 @@ fn status_reply<S: Store>(
 ) -> Result<Reply, AllocError> {
     let stores = store_figures(alloc, gateway)?;
     let text = status_text(alloc, counts, &gateway.tally(), &stores)?;
+    reply_of(
+        alloc,
+        ReplyField::constant(b"Content-Type", b"application/json"),
+        text,
+    )
+}
+
+/// A reply with this text, whose type the field says.
+fn reply_of(alloc: Global, kind: ReplyField, text: String) -> Result<Reply, AllocError> {
     let mut fields = ReplyFields::new(alloc);
-    fields.push(ReplyField::constant(b"Content-Type", b"application/json"))?;
+    fields.push(kind)?;
     Ok(Reply {
         status: Status::Ok,
         fields,
         body: Bytes::from_vec(text.into_bytes()),
-    })
-}
-
-/// The text of the figures as JSON.
-pub fn status_text(
-    alloc: Global,
-    counts: &Counts,
-    tally: &Tally,
-    stores: &[StoreFigures],
-) -> Result<String, AllocError> {
-    let mut rows = Vec::with_capacity(alloc, stores.len())?;
-    for store in stores {
-        rows.push(json!(in alloc; {
-            "room": store.room,
-            "held": store.held,
-            "failures": store.failures
-        })?)?;
-    }
-    let connections = connections_json(alloc, counts)?;
-    let replies = replies_json(alloc, tally)?;
-    let stores = Value::Array(rows);
-    json!(in alloc; {
-        "connections": &connections,
-        "received": counts.bytes_in,
-        "sent": counts.bytes_out,
-        "replies": &replies,
-        "stores": &stores
-    })?
-    .to_string(alloc)
-}
-
-/// The figures of connections.
-fn connections_json(alloc: Global, counts: &Counts) -> Result<Value, AllocError> {
-    json!(in alloc; {
-        "open": counts.open,
-        "opened": counts.opened,
-        "over": counts.over,
-        "failed": counts.failed,
-        "late": counts.late,
-        "stopped": counts.stopped,
-        "refused": counts.refused,
-        "accept_paused": counts.starved
-    })
-}
-
-/// How many replies there were of each status.
-fn replies_json(alloc: Global, tally: &Tally) -> Result<Value, AllocError> {
-    json!(in alloc; {
-        "200": tally.ok,
-        "206": tally.partial_content,
-        "400": tally.bad_request,
-        "404": tally.not_found,
-        "405": tally.method_not_allowed,
-        "410": tally.gone,
-        "413": tally.content_too_large,
-        "416": tally.range_not_satisfiable,
-        "501": tally.not_implemented,
-        "503": tally.service_unavailable
     })
 }
 
@@ -164,16 +115,11 @@ fn metrics_reply<S: Store>(
 ) -> Result<Reply, AllocError> {
     let stores = store_figures(alloc, gateway)?;
     let text = metrics_text(alloc, counts, &gateway.tally(), &stores)?;
-    let mut fields = ReplyFields::new(alloc);
-    fields.push(ReplyField::constant(
-        b"Content-Type",
-        b"text/plain; version=0.0.4; charset=utf-8",
-    ))?;
-    Ok(Reply {
-        status: Status::Ok,
-        fields,
-        body: Bytes::from_vec(text.into_bytes()),
-    })
+    reply_of(
+        alloc,
+        ReplyField::constant(b"Content-Type", b"text/plain; version=0.0.4; charset=utf-8"),
+        text,
+    )
 }
 
 /// Says which method a target has.

@@ -3,6 +3,7 @@ ghost use Rattle.std.specs.Prelude.{IfOk, IfSome};
 ghost use Rattle.octets.specs.Sharing.{IsSharing};
 
 use crate::arguments::program;
+use crate::store_names::{StoreWanted, read_store};
 use clap::{ArgMatches, Error};
 use octets::is_sharing;
 use std::alloc::{AllocError, AllocFailed, Global};
@@ -38,6 +39,8 @@ pub struct Options<'a> {
     pub synced: bool,
     /// The file whose bytes are the gateway's secret.
     pub secret_file: Option<&'a str>,
+    /// The file whose bytes are the password of each Redis server.
+    pub redis_password_file: Option<&'a str>,
     /// How many connections may be open at once.
     pub connections: usize,
     /// For how many seconds one may be silent.
@@ -45,34 +48,12 @@ pub struct Options<'a> {
 }
 
 impl Options<'_> {
-    /// How many of the stores are in folders.
-    pub fn folders(&self) -> usize {
+    /// How many of the stores keep a file or a socket open.
+    pub fn with_handles(&self) -> usize {
         self.stores
             .iter()
-            .filter(|store| store.folder().is_some())
+            .filter(|store| store.keeps_handle())
             .count()
-    }
-}
-
-/// A store that is wanted, with the bytes for which it has room.
-#[derive(Clone, Copy, Debug, PartialEq, Eq)]
-pub enum StoreWanted<'a> {
-    /// One in memory alone.
-    Memory(u64),
-    /// One that keeps its shares in this folder too.
-    Folder(&'a str, u64),
-    /// One that has its shares in this folder alone.
-    Disk(&'a str, u64),
-}
-
-impl<'a> StoreWanted<'a> {
-    /// The folder in which it keeps its shares, if there is one.
-    pub fn folder(&self) -> Option<&'a str> {
-        match self {
-            StoreWanted::Memory(_) => None,
-            StoreWanted::Folder(folder, _) => Some(*folder),
-            StoreWanted::Disk(folder, _) => Some(*folder),
-        }
     }
 }
 
@@ -105,7 +86,7 @@ pub enum Refusal {
     Words(Error),
     /// `--shares` isn't two numbers as they are wanted.
     Shares,
-    /// `--store` names no store, or stands too often.
+    /// `--store` names no store, the same names on a Redis server twice, or stands too often.
     Stores,
 }
 
@@ -157,6 +138,7 @@ fn read_options<'a>(alloc: Global, given: &ArgMatches<'a>) -> Result<Options<'a>
         stores: read_stores(alloc, given)?,
         synced: !given.get_flag("no-sync"),
         secret_file: given.get_str("secret-file"),
+        redis_password_file: given.get_str("redis-password-file"),
         connections: given.get_one::<usize>("connections").unwrap_or(1),
         idle: given.get_one::<u64>("idle").unwrap_or(60),
     })
@@ -196,16 +178,8 @@ fn texts_of<'a>(
 /// The stores that are wanted: those that are named, and else so many in memory.
 fn read_stores<'a>(alloc: Global, given: &ArgMatches<'a>) -> Result<Vec<StoreWanted<'a>>, Refusal> {
     let room = given.get_one::<u64>("room").unwrap_or(0);
-    let mut stores = Vec::new(alloc);
-    if let Some(names) = given.get_strs("store") {
-        for name in names {
-            let Some(store) = read_store(*name, room) else {
-                return Err(Refusal::Stores);
-            };
-            stores.push(store)?;
-        }
-    }
-    if stores.len() > MOST_STORES {
+    let stores = read_named(alloc, given, room)?;
+    if stores.len() > MOST_STORES || !are_apart(&stores) {
         return Err(Refusal::Stores);
     }
     if stores.is_empty() {
@@ -215,36 +189,38 @@ fn read_stores<'a>(alloc: Global, given: &ArgMatches<'a>) -> Result<Vec<StoreWan
     Ok(stores)
 }
 
-/// A store by its name: `mem:BYTES`, `dir:PATH`, `dir:PATH:BYTES` or `dir:PATH:BYTES,disk`. A path with a colon in it, or
-/// with `,disk` at its end, wants the bytes behind it.
-pub fn read_store(name: &str, room: u64) -> Option<StoreWanted<'_>> {
-    if let Some(bytes) = name.strip_prefix("mem:") {
-        return Some(StoreWanted::Memory(bytes.parse::<u64>().ok()?));
+/// The stores that are named.
+fn read_named<'a>(
+    alloc: Global,
+    given: &ArgMatches<'a>,
+    room: u64,
+) -> Result<Vec<StoreWanted<'a>>, Refusal> {
+    let mut stores = Vec::new(alloc);
+    if let Some(names) = given.get_strs("store") {
+        for name in names {
+            let Some(store) = read_store(*name, room) else {
+                return Err(Refusal::Stores);
+            };
+            stores.push(store)?;
+        }
     }
-    let folder = name.strip_prefix("dir:")?;
-    if let Some(sized) = folder.strip_suffix(",disk") {
-        let (path, room) = read_sized(sized)?;
-        return Some(StoreWanted::Disk(path, room));
-    }
-    if folder.contains(':') {
-        let (path, room) = read_sized(folder)?;
-        return Some(StoreWanted::Folder(path, room));
-    }
-    if folder.is_empty() {
-        None
-    } else {
-        Some(StoreWanted::Folder(folder, room))
-    }
+    Ok(stores)
 }
 
-/// A path and the bytes behind its last colon.
-fn read_sized(text: &str) -> Option<(&str, u64)> {
-    let (path, bytes) = text.rsplit_once(':')?;
-    if path.is_empty() {
-        None
-    } else {
-        Some((path, bytes.parse::<u64>().ok()?))
+/// Whether no two stores are to have the same names on a Redis server.
+fn are_apart(stores: &[StoreWanted<'_>]) -> bool {
+    for store in stores {
+        if let Some(place) = store.redis() {
+            let alike = stores
+                .iter()
+                .filter(|other| other.redis() == Some(place))
+                .count();
+            if alike > 1 {
+                return false;
+            }
+        }
     }
+    true
 }
 
 /// Two numbers with a comma between them, which say how many of a file's shares give it back, and how many are made.

@@ -1,0 +1,14 @@
+//! The server's command line: its words, and what they ask for.
+//!
+//! [`read_words`] reads them by `clap` and gives a [`Task`].
+#![tactic(auto)]
+
+/// The program's command line.
+mod arguments;
+/// Stores and their names.
+mod store_names;
+/// What the program is asked for.
+mod options;
+
+pub use options::{Options, Refusal, Restoring, Shares, Task, read_words};
+pub use store_names::{RedisPlace, StoreWanted, read_store};

@@ -1,0 +1,169 @@
+//! Stores and their names.
+
+/// A store that is wanted, with the bytes for which it has room.
+#[derive(Clone, Copy, Debug, PartialEq, Eq)]
+pub enum StoreWanted<'a> {
+    /// One in memory alone.
+    Memory(u64),
+    /// One that keeps its shares in this folder too.
+    Folder(&'a str, u64),
+    /// One that has its shares in this folder alone.
+    Disk(&'a str, u64),
+    /// One that has its shares on a Redis server alone.
+    Redis(RedisPlace<'a>, u64),
+}
+
+/// Where a store has its shares on a Redis server.
+#[derive(Clone, Copy, Debug, PartialEq, Eq)]
+pub struct RedisPlace<'a> {
+    /// The server: HOST:PORT.
+    pub address: &'a str,
+    /// What tells the names of its shares from those of other stores on that server. It may be empty.
+    pub name: &'a str,
+}
+
+impl<'a> StoreWanted<'a> {
+    /// The folder in which it keeps its shares, if there is one.
+    pub fn folder(&self) -> Option<&'a str> {
+        match self {
+            StoreWanted::Folder(folder, _) => Some(*folder),
+            StoreWanted::Disk(folder, _) => Some(*folder),
+            _ => None,
+        }
+    }
+
+    /// Where on a Redis server it has its shares, if it has them on one.
+    pub fn redis(&self) -> Option<RedisPlace<'a>> {
+        match self {
+            StoreWanted::Redis(place, _) => Some(*place),
+            _ => None,
+        }
+    }
+
+    /// Whether it keeps a file or a socket open: the lock of its folder, or its connection.
+    pub fn keeps_handle(&self) -> bool {
+        match self {
+            StoreWanted::Memory(_) => false,
+            _ => true,
+        }
+    }
+}
+
+/// A store by its name: `mem:BYTES`, `dir:PATH`, `dir:PATH:BYTES`, `dir:PATH:BYTES,disk` or
+/// `redis:HOST:PORT[/NAME][:BYTES]`. A path with a colon in it, or with `,disk` at its end, wants the bytes behind it. A
+/// host with a colon in it stands in brackets, and a NAME has no colon.
+pub fn read_store(name: &str, room: u64) -> Option<StoreWanted<'_>> {
+    if let Some(bytes) = name.strip_prefix("mem:") {
+        return read_memory(bytes);
+    }
+    if let Some(folder) = name.strip_prefix("dir:") {
+        return read_folder(folder, room);
+    }
+    match name.strip_prefix("redis:") {
+        Some(place) => read_redis(place, room),
+        None => None,
+    }
+}
+
+/// A store in memory, by its bytes.
+fn read_memory<'a>(bytes: &str) -> Option<StoreWanted<'a>> {
+    match bytes.parse::<u64>() {
+        Ok(room) => Some(StoreWanted::Memory(room)),
+        Err(_) => None,
+    }
+}
+
+/// A store in a folder, by what follows `dir:`.
+fn read_folder(folder: &str, room: u64) -> Option<StoreWanted<'_>> {
+    if let Some(sized) = folder.strip_suffix(",disk") {
+        return match read_sized(sized) {
+            Some((path, room)) => Some(StoreWanted::Disk(path, room)),
+            None => None,
+        };
+    }
+    if folder.contains(':') {
+        return match read_sized(folder) {
+            Some((path, room)) => Some(StoreWanted::Folder(path, room)),
+            None => None,
+        };
+    }
+    if folder.is_empty() {
+        None
+    } else {
+        Some(StoreWanted::Folder(folder, room))
+    }
+}
+
+/// A store on a Redis server, by what follows `redis:`.
+fn read_redis(text: &str, room: u64) -> Option<StoreWanted<'_>> {
+    match text.split_once('/') {
+        Some((address, behind)) => read_named_place(address, behind, room),
+        None => read_unnamed_place(text, room),
+    }
+}
+
+/// A store under a name on the server at this address: NAME or NAME:BYTES.
+fn read_named_place<'a>(address: &'a str, behind: &'a str, room: u64) -> Option<StoreWanted<'a>> {
+    if behind.contains(':') {
+        return match read_sized(behind) {
+            Some((name, room)) => on_redis(address, name, room),
+            None => None,
+        };
+    }
+    if behind.is_empty() {
+        None
+    } else {
+        on_redis(address, behind, room)
+    }
+}
+
+/// A store under no name: HOST:PORT or HOST:PORT:BYTES.
+fn read_unnamed_place(text: &str, room: u64) -> Option<StoreWanted<'_>> {
+    if is_address(text) {
+        return on_redis(text, "", room);
+    }
+    match read_sized(text) {
+        Some((address, room)) => on_redis(address, "", room),
+        None => None,
+    }
+}
+
+/// A store on the Redis server at this address, if it is one.
+fn on_redis<'a>(address: &'a str, name: &'a str, room: u64) -> Option<StoreWanted<'a>> {
+    if is_address(address) && !name.contains(':') {
+        Some(StoreWanted::Redis(RedisPlace { address, name }, room))
+    } else {
+        None
+    }
+}
+
+/// Whether a text is HOST:PORT.
+fn is_address(text: &str) -> bool {
+    match text.rsplit_once(':') {
+        Some((host, port)) => is_host(host) && port.parse::<u16>().is_ok(),
+        None => false,
+    }
+}
+
+/// Whether a text may be a host: one with a colon in it stands in brackets.
+fn is_host(text: &str) -> bool {
+    if text.contains(':') {
+        text.starts_with('[') && text.ends_with(']')
+    } else {
+        !text.is_empty()
+    }
+}
+
+/// A text and the bytes behind its last colon.
+fn read_sized(text: &str) -> Option<(&str, u64)> {
+    let Some((path, bytes)) = text.rsplit_once(':') else {
+        return None;
+    };
+    if path.is_empty() {
+        return None;
+    }
+    match bytes.parse::<u64>() {
+        Ok(bytes) => Some((path, bytes)),
+        Err(_) => None,
+    }
+}
