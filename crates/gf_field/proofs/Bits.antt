@@ -1,29 +1,26 @@
 -- Sums bit by bit, and functions that are additive for them.
-use Rattle.std.proofs.Common.{◌≡◌, ℕ, zero, suc, ◌+◌, ◌*◌, ◌/◌, ◌%◌, ◌^◌, ◌<◌, ◌==◌, Bool, true, ◌&&◌, refl, sym, ap, ◌∙◌, arith}
+use Rattle.std.proofs.Common.{◌≡◌, ℕ, zero, suc, ◌+◌, ◌*◌, ◌/◌, ◌%◌, ◌^◌, ◌<◌, ◌==◌, Bool, true, ◌&&◌, refl, sym, ap, subst, ◌∙◌, arith}
 use Rattle.std.proofs.Math.Nat.{zero-mul, one-mul, div-add-mod'}
 use Rattle.std.specs.Int.{bit_at}
 use Rattle.std.specs.Int.Bits.{bit_xor, xor_self, xor_zero_r, xor_assoc}
 use Rattle.std.proofs.lemmas.Nat.{xor_comm}
 use Rattle.std.proofs.lemmas.Nat.Bits.{bit_at_xor, bit_at-lt, bit_at_cat_low}
-use Rattle.std.proofs.lemmas.Bool.{and_parts, eqb-true, cases_lt}
+use Rattle.std.proofs.lemmas.Bool.{and_parts, eqb-true, cases_eq}
 use Rattle.std.proofs.Common.{inl, inr}
 use Rattle.gf_field.specs.Field.{xor_below}
 
 -- a test holds of each number below n
-abbrev pub all_below : (ℕ → Bool) → ℕ → Bool
-all_below p zero = true
-all_below p (suc n) = p n && all_below p n
+abbrev pub holds_below : (ℕ → Bool) → ℕ → Bool
+holds_below test zero = true
+holds_below test (suc n) = holds_below test n && test n
 
-pub all_below_at : (p : ℕ → Bool) (n k : ℕ) → all_below p n ≡ true → k < n → p k ≡ true
-all_below_at p zero k h lt = absurd (omega arith)
-all_below_at p (suc n) k h lt =
-    let parts = and_parts (p n) (all_below p n) h in
-    elim (cases_lt k n) [
-      | inl below ↦ all_below_at p n k parts.1 below
-      | inr top ↦
-          let e : k ≡ n = omega arith in
-          rw e parts.0
-    ]
+-- so it holds of each of them
+pub holds_at : (test : ℕ → Bool) (n k : ℕ) → holds_below test n ≡ true → k < n → test k ≡ true
+holds_at test zero k all less = absurd (omega arith)
+holds_at test (suc n) k all less = elim (cases_eq k n) [
+  | inl last ↦ subst (λ m. test m ≡ true) (sym last) (and_parts (holds_below test n) (test n) all).1
+  | inr other ↦ holds_at test n k (and_parts (holds_below test n) (test n) all).0 (omega (arith, less, other))
+]
 
 -- the middle two of four change places
 pub xor_middle : (a b c d : ℕ) → bit_xor (bit_xor a b) (bit_xor c d) ≡ bit_xor (bit_xor a c) (bit_xor b d)
@@ -84,11 +81,11 @@ bit_scales f h (suc zero) m hu = simp one-mul
 bit_scales f h (suc (suc u)) m hu = absurd (omega arith)
 
 -- ---- a byte is the sum of its bits
-byte_sums : all_below (λ a. xor_below 8 (λ i. bit_at a i * 2 ^ i) == a) 256 ≡ true
+byte_sums : holds_below (λ a. xor_below 8 (λ i. bit_at a i * 2 ^ i) == a) 256 ≡ true
 byte_sums = refl
 
 byte_sum : (a : ℕ) → a < 256 → xor_below 8 (λ i. bit_at a i * 2 ^ i) ≡ a
-byte_sum a lt = eqb-true (xor_below 8 (λ i. bit_at a i * 2 ^ i)) a (all_below_at (λ a. xor_below 8 (λ i. bit_at a i * 2 ^ i) == a) 256 a byte_sums lt)
+byte_sum a lt = eqb-true (xor_below 8 (λ i. bit_at a i * 2 ^ i)) a (holds_at (λ a. xor_below 8 (λ i. bit_at a i * 2 ^ i) == a) 256 a byte_sums lt)
 
 pub bit_at_low : (a i : ℕ) → i < 8 → bit_at (a % 256) i ≡ bit_at a i
 bit_at_low a i lt = sym (ap (λ (x : ℕ). bit_at x i) (sym (div-add-mod' a 256)) ∙ bit_at_cat_low (a / 256) 8 (a % 256) i lt)

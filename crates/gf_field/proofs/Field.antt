@@ -6,7 +6,7 @@ use Rattle.std.specs.Int.Bits.{bit_xor}
 use Rattle.std.proofs.lemmas.Nat.Bits.{bit_at-lt}
 use Rattle.std.proofs.lemmas.Bool.{eqb-true}
 use Rattle.gf_field.specs.Field.{xor_below, product_of, modulus, remainder_of, mul_of}
-use Rattle.gf_field.proofs.Bits.{all_below, all_below_at, xor_middle, bit_at_xor-times, xor_below-same, xor_below-xor, bit_splits, bit_at_low, IsAdditive, additive_same, additive_zero}
+use Rattle.gf_field.proofs.Bits.{holds_below, holds_at, xor_middle, bit_at_xor-times, xor_below-same, xor_below-xor, bit_splits, bit_at_low, IsAdditive, additive_same, additive_zero}
 
 -- ---- products are additive
 product-xor_left : (a c b : ℕ) → product_of (bit_xor a c) b ≡ bit_xor (product_of a b) (product_of c b)
@@ -88,7 +88,7 @@ then_right f h c = record {
 abbrev commutes_at : ℕ → ℕ → Bool
 commutes_at i j = mul_of (2 ^ i) (2 ^ j) == mul_of (2 ^ j) (2 ^ i)
 
-commutes : all_below (λ i. all_below (λ j. commutes_at i j) 8) 8 ≡ true
+commutes : holds_below (λ i. holds_below (λ j. commutes_at i j) 8) 8 ≡ true
 unfolding mul_of
 commutes = refl
 
@@ -97,21 +97,21 @@ mul_of-comm a b =
     additive_same (λ a. mul_of a b) (λ a. mul_of b a) (left_factor b) (right_factor b)
     (λ i lt. additive_same (λ b. mul_of (2 ^ i) b) (λ b. mul_of b (2 ^ i)) (right_factor (2 ^ i)) (left_factor (2 ^ i))
     (λ j less. eqb-true (mul_of (2 ^ i) (2 ^ j)) (mul_of (2 ^ j) (2 ^ i))
-    (all_below_at (λ j. commutes_at i j) 8 j (all_below_at (λ i. all_below (λ j. commutes_at i j) 8) 8 i commutes lt) less)) b) a
+    (holds_at (λ j. commutes_at i j) 8 j (holds_at (λ i. holds_below (λ j. commutes_at i j) 8) 8 i commutes lt) less)) b) a
 
 abbrev associates_at : ℕ → ℕ → ℕ → Bool
 associates_at i j l = mul_of (mul_of (2 ^ i) (2 ^ j)) (2 ^ l) == mul_of (2 ^ i) (mul_of (2 ^ j) (2 ^ l))
 
-associates : all_below (λ i. all_below (λ j. all_below (λ l. associates_at i j l) 8) 8) 8 ≡ true
+associates : holds_below (λ i. holds_below (λ j. holds_below (λ l. associates_at i j l) 8) 8) 8 ≡ true
 unfolding mul_of
 associates = refl
 
 associates_each : (i j l : ℕ) → i < 8 → j < 8 → l < 8 → mul_of (mul_of (2 ^ i) (2 ^ j)) (2 ^ l) ≡ mul_of (2 ^ i) (mul_of (2 ^ j) (2 ^ l))
 associates_each i j l hi hj hl =
     eqb-true (mul_of (mul_of (2 ^ i) (2 ^ j)) (2 ^ l)) (mul_of (2 ^ i) (mul_of (2 ^ j) (2 ^ l)))
-    (all_below_at (λ l. associates_at i j l) 8 l
-    (all_below_at (λ j. all_below (λ l. associates_at i j l) 8) 8 j
-    (all_below_at (λ i. all_below (λ j. all_below (λ l. associates_at i j l) 8) 8) 8 i associates hi) hj) hl)
+    (holds_at (λ l. associates_at i j l) 8 l
+    (holds_at (λ j. holds_below (λ l. associates_at i j l) 8) 8 j
+    (holds_at (λ i. holds_below (λ j. holds_below (λ l. associates_at i j l) 8) 8) 8 i associates hi) hj) hl)
 
 pub mul_of-assoc : (a b c : ℕ) → mul_of (mul_of a b) c ≡ mul_of a (mul_of b c)
 mul_of-assoc a b c =
@@ -129,12 +129,12 @@ mul_of-zero_left b = additive_zero (λ a. mul_of a b) (left_factor b)
 pub mul_of-zero_right : (a : ℕ) → mul_of a 0 ≡ 0
 mul_of-zero_right a = additive_zero (λ b. mul_of a b) (right_factor a)
 
-ones : all_below (λ a. mul_of 1 a == a) 256 ≡ true
+ones : holds_below (λ a. mul_of 1 a == a) 256 ≡ true
 unfolding mul_of
 ones = refl
 
 pub mul_of-one_left : (a : ℕ) → a < 256 → mul_of 1 a ≡ a
-mul_of-one_left a lt = eqb-true (mul_of 1 a) a (all_below_at (λ a. mul_of 1 a == a) 256 a ones lt)
+mul_of-one_left a lt = eqb-true (mul_of 1 a) a (holds_at (λ a. mul_of 1 a == a) 256 a ones lt)
 
 pub mul_of-one_right : (a : ℕ) → a < 256 → mul_of a 1 ≡ a
 mul_of-one_right a lt = mul_of-comm a 1 ∙ mul_of-one_left a lt

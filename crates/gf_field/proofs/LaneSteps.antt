@@ -10,7 +10,7 @@ use Rattle.std.proofs.lemmas.Nat.Bits.{bit_at-lt, shr_and_one}
 use Rattle.std.proofs.lemmas.Bool.{eqb-true}
 use Rattle.std.specs.Prelude.{nat_le}
 use Rattle.gf_field.specs.Field.{mul_of, power_of}
-use Rattle.gf_field.proofs.Bits.{all_below, all_below_at}
+use Rattle.gf_field.proofs.Bits.{holds_below, holds_at}
 use Rattle.gf_field.proofs.Field.{mul_of-lt, mul_of-one_left}
 use Rattle.gf_field.proofs.Powers.{power-zero}
 use Rattle.gf_field.proofs.Steps.{terms_of, next_term, all_terms}
@@ -19,12 +19,12 @@ use Rattle.gf_field.proofs.Steps.{terms_of, next_term, all_terms}
 abbrev doubles_at : ℕ → ℕ
 doubles_at x = bit_xor ((x + x) % 2 ^ 8) (cond (top 7 (cond (nat_le 128 x) 255 0)) 29 0)
 
-doubles : all_below (λ x. doubles_at x == mul_of 2 x) 256 ≡ true
+doubles : holds_below (λ x. doubles_at x == mul_of 2 x) 256 ≡ true
 unfolding mul_of
 doubles = refl
 
 double_at : (x : ℕ) → x < 256 → doubles_at x ≡ mul_of 2 x
-double_at x lt = eqb-true (doubles_at x) (mul_of 2 x) (all_below_at (λ x. doubles_at x == mul_of 2 x) 256 x doubles lt)
+double_at x lt = eqb-true (doubles_at x) (mul_of 2 x) (holds_at (λ x. doubles_at x == mul_of 2 x) 256 x doubles lt)
 
 pub doubled_lanes : (xs : List ℕ) → Each1 (Fits w8) xs
     → zip2 bit_xor (zip2 (λ x y. (x + y) % 2 ^ 8) xs xs)

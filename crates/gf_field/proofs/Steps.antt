@@ -7,27 +7,27 @@ use Rattle.std.specs.Int.Bits.{bit_and, bit_xor, xor_zero_r}
 use Rattle.std.proofs.lemmas.Nat.Bits.{bit_at-lt, shr_and_one}
 use Rattle.std.proofs.lemmas.Bool.{eqb-true}
 use Rattle.gf_field.specs.Field.{xor_below, mul_of, power_of, inverse_of}
-use Rattle.gf_field.proofs.Bits.{all_below, all_below_at, bit_at_low, xor_below-same, additive_spread}
+use Rattle.gf_field.proofs.Bits.{holds_below, holds_at, bit_at_low, xor_below-same, additive_spread}
 use Rattle.gf_field.proofs.Field.{mul_of-comm, mul_of-assoc, left_factor}
 use Rattle.gf_field.proofs.Powers.{power-suc, power-add}
 
 -- ---- doubling
-low_doubles : all_below (λ a. a * 2 % 256 == mul_of 2 a) 128 ≡ true
+low_doubles : holds_below (λ a. a * 2 % 256 == mul_of 2 a) 128 ≡ true
 unfolding mul_of
 low_doubles = refl
 
-high_doubles : all_below (λ a. bit_xor ((128 + a) * 2 % 256) 29 == mul_of 2 (128 + a)) 128 ≡ true
+high_doubles : holds_below (λ a. bit_xor ((128 + a) * 2 % 256) 29 == mul_of 2 (128 + a)) 128 ≡ true
 unfolding mul_of
 high_doubles = refl
 
 pub low_double : (a : ℕ) → a < 128 → a * 2 % 256 ≡ mul_of 2 a
-low_double a lt = eqb-true (a * 2 % 256) (mul_of 2 a) (all_below_at (λ a. a * 2 % 256 == mul_of 2 a) 128 a low_doubles lt)
+low_double a lt = eqb-true (a * 2 % 256) (mul_of 2 a) (holds_at (λ a. a * 2 % 256 == mul_of 2 a) 128 a low_doubles lt)
 
 pub high_double : (a : ℕ) → 128 ≤ a → a < 256 → bit_xor (a * 2 % 256) 29 ≡ mul_of 2 a
 high_double a ge lt =
     let e : 128 + (a - 128) ≡ a = omega arith in
     let at = eqb-true (bit_xor ((128 + (a - 128)) * 2 % 256) 29) (mul_of 2 (128 + (a - 128)))
-    (all_below_at (λ a. bit_xor ((128 + a) * 2 % 256) 29 == mul_of 2 (128 + a)) 128 (a - 128) high_doubles (omega arith)) in
+    (holds_at (λ a. bit_xor ((128 + a) * 2 % 256) 29 == mul_of 2 (128 + a)) 128 (a - 128) high_doubles (omega arith)) in
     subst (λ (x : ℕ). bit_xor (x * 2 % 256) 29 ≡ mul_of 2 x) e at
 
 -- 2 to the i, after one more doubling
@@ -60,7 +60,7 @@ term_absent a b i product hp h =
 pub next_term : (a i term : ℕ) → term ≡ mul_of (power_of 2 i) a → mul_of 2 term ≡ mul_of (power_of 2 (i + 1)) a
 next_term a i term h = ap (mul_of 2) h ∙ sym (mul_of-assoc 2 (power_of 2 i) a) ∙ ap (λ (x : ℕ). mul_of x a) (power_step i)
 
-first_powers : all_below (λ i. power_of 2 i == 2 ^ i) 8 ≡ true
+first_powers : holds_below (λ i. power_of 2 i == 2 ^ i) 8 ≡ true
 unfolding mul_of power_of
 first_powers = refl
 
@@ -69,7 +69,7 @@ all_terms a b =
     xor_below-same 8 (λ j. bit_at b j * mul_of (power_of 2 j) a) (λ j. bit_at (b % 256) j * mul_of (2 ^ j) a)
     (λ j lt.
     ap (λ (x : ℕ). x * mul_of (power_of 2 j) a) (sym (bit_at_low b j lt))
-    ∙ ap (λ (x : ℕ). bit_at (b % 256) j * mul_of x a) (eqb-true (power_of 2 j) (2 ^ j) (all_below_at (λ i. power_of 2 i == 2 ^ i) 8 j first_powers lt)))
+    ∙ ap (λ (x : ℕ). bit_at (b % 256) j * mul_of x a) (eqb-true (power_of 2 j) (2 ^ j) (holds_at (λ i. power_of 2 i == 2 ^ i) 8 j first_powers lt)))
     ∙ sym (additive_spread (λ b. mul_of b a) (left_factor a) b)
     ∙ mul_of-comm b a
 

@@ -20,33 +20,39 @@ fn is_same(a: &[u8], b: &[u8]) -> bool
     a.eq_ignore_ascii_case(b)
 }
 
-fn trim_start(mut s: &[u8]) -> &[u8]
-    ensures { result.now ≡ skip_ows s.now }
+/// What stands behind the spaces and tabs in front.
+fn without_blanks_before(value: &[u8]) -> &[u8]
+    ensures { result.now ≡ skip_ows value.now }
 {
-    while let [first, rest @ ..] = s
-        && is_space_or_tab(*first)
-    {
-        s = rest;
+    let mut rest = value;
+    while let Some((byte, behind)) = rest.split_first() {
+        if !is_space_or_tab(*byte) {
+            break;
+        }
+        rest = behind;
     }
-    s
+    rest
 }
 
-fn trim_end(mut s: &[u8]) -> &[u8]
-    ensures { result.now ≡ reverse (skip_ows (reverse s.now)) }
+/// What stands in front of the spaces and tabs at the end.
+fn without_blanks_behind(value: &[u8]) -> &[u8]
+    ensures { result.now ≡ reverse (skip_ows (reverse value.now)) }
 {
-    while let [rest @ .., last] = s
-        && is_space_or_tab(*last)
-    {
-        s = rest;
+    let mut rest = value;
+    while let Some((byte, before)) = rest.split_last() {
+        if !is_space_or_tab(*byte) {
+            break;
+        }
+        rest = before;
     }
-    s
+    rest
 }
 
-/// The bytes without the spaces and tabs at both ends.
-fn trim(s: &[u8]) -> &[u8]
-    ensures { result.now ≡ trim_ows s.now }
+/// A field line's value, or a piece of it, without the optional whitespace around it (RFC 9110, section 5.6.3).
+fn without_blanks(value: &[u8]) -> &[u8]
+    ensures { result.now ≡ trim_ows value.now }
 {
-    trim_end(trim_start(s))
+    without_blanks_behind(without_blanks_before(value))
 }
 
 /// How many fields have the name, in any case.
@@ -67,7 +73,7 @@ fn lists_token(token: &[u8], value: &[u8]) -> bool
 {
     value
         .split(|b| *b == b',')
-        .any(|piece| is_same(trim(piece), token))
+        .any(|piece| is_same(without_blanks(piece), token))
 }
 
 /// Whether the field is a Connection field that lists `close` (RFC 9112, section 9.6).
