@@ -28,12 +28,3 @@ returns-in-Err-clause-full g c server e =
       rooms = refused.rooms;
       full = refused.full server (inner_fault c.in-Err.fault _ e);
     }
-
-pub returns-in-Err-clause-down : goal.returns-in-Err-clause-down
-returns-in-Err-clause-down g c server e =
-    let refused = c.in-Err.ensures in
-    record {
-      after = states g.S.Store.shares g.S.Store.room g.S.Store.held g.S.Store.failures g.S.Store.honest c.in-Err.field-0-1.items;
-      leaves = refused.leaves;
-      failed = (refused.down server).0 (ap Err (inner_fault c.in-Err.fault _ e));
-    }
