@@ -12,6 +12,9 @@ use std::io::ErrorKind;
 use std::rc::RcSlice;
 use std::rt::Files;
 
+/// How many rotten files are noted: a server that is read for years asks for one that it can't use again and again.
+const MOST_NOTED: usize = 4_096;
+
 /// A shelf in a folder of files. It isn't honest, since no contract says what files give.
 #[derive(Drop)]
 pub struct FolderShelf<R: Files + AllocGlobal + Clone + Drop> {
@@ -49,9 +52,25 @@ impl<R: Files + AllocGlobal + Clone + Drop> FolderShelf<R> {
     }
 
     /// The paths of the files that were read so far and are not what was written: cut off, changed, or none. They were
-    /// left out and left alone.
+    /// left out and left alone. Each stands once, and the first 4,096 do.
     pub fn rotten(&self) -> &[String] {
         &self.rotten
+    }
+
+    /// Notes the path of a rotten file, once.
+    fn note_rotten(&mut self, path: String) -> Result<(), AllocError>
+        ensures { self.new.failures ≡ self.old.failures }
+    {
+        if self.rotten.len() >= MOST_NOTED {
+            return Ok(());
+        }
+        for noted in &self.rotten {
+            if noted.as_str() == path.as_str() {
+                return Ok(());
+            }
+        }
+        self.rotten.push(path)?;
+        Ok(())
     }
 
     /// The paths among the shares that are no share's, as the last [`Shelf::list`] found them. They were left alone.
@@ -117,14 +136,14 @@ impl<R: Files + AllocGlobal + Clone + Drop> Shelf for FolderShelf<R> {
                         return Ok(Some(RcSlice::from_vec(bytes)?));
                     }
                 }
-                self.rotten.push(paths.name)?;
+                self.note_rotten(paths.name)?;
                 Ok(None)
             }
             Err(error) => match error.kind() {
                 ErrorKind::NotFound => Ok(None),
                 ErrorKind::OutOfMemory => Err(ShelfFault::NoMemory),
                 ErrorKind::IsADirectory => {
-                    self.rotten.push(paths.name)?;
+                    self.note_rotten(paths.name)?;
                     Ok(None)
                 }
                 _ => Err(self.fail()),

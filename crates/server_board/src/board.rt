@@ -1,4 +1,7 @@
 //! What the control listener answers.
+ghost use Rattle.std.specs.Prelude.{◌≡◌, ◌≢◌, ◌↔◌, codes};
+ghost use Rattle.server_board.specs.declared.board.Asked.TheVariants as asked;
+
 use crate::figures::store_figures;
 use crate::metrics::metrics_text;
 use crate::status::status_text;
@@ -54,30 +57,35 @@ impl<S: Store> Control<S> for Board {
     }
 }
 
-/// What a method and a target ask for.
-pub fn asked_by(method: &[u8], target: &[u8]) -> Asked {
-    let (wanted, asked) = if target == b"/status".as_slice() {
-        (Method::Get, Asked::Status)
+/// What a method and a target ask for. Only `POST /stop` asks for the stop.
+pub fn asked_by(method: &[u8], target: &[u8]) -> Asked
+    ensures stop { (result ≡ asked.Stop)
+        ↔ ((method.now ≡ codes "POST") × (target.now ≡ codes "/stop")) }
+{
+    if target == b"/stop".as_slice() {
+        if method == b"POST".as_slice() {
+            Asked::Stop
+        } else {
+            Asked::NotWith(Method::Post)
+        }
+    } else if target == b"/status".as_slice() {
+        with_get(method, Asked::Status)
     } else if target == b"/metrics".as_slice() {
-        (Method::Get, Asked::Metrics)
-    } else if target == b"/stop".as_slice() {
-        (Method::Post, Asked::Stop)
+        with_get(method, Asked::Metrics)
     } else {
-        return Asked::Nothing;
-    };
-    if method == wanted.word() {
-        asked
-    } else {
-        Asked::NotWith(wanted)
+        Asked::Nothing
     }
 }
 
-impl Method {
-    fn word(self) -> &'static [u8] {
-        match self {
-            Method::Get => b"GET",
-            Method::Post => b"POST",
-        }
+/// What is asked for with GET, and with no other method.
+fn with_get(method: &[u8], wanted: Asked) -> Asked
+    requires { wanted ≢ asked.Stop }
+    ensures { result ≢ asked.Stop }
+{
+    if method == b"GET".as_slice() {
+        wanted
+    } else {
+        Asked::NotWith(Method::Get)
     }
 }
 
