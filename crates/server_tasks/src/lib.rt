@@ -1,36 +1,17 @@
-//! What `wozhinnam` does: it serves connections until it is told to stop, and takes care of the folders in which its
+//! What `wozhinnam` does: it serves connections until it is told to stop, or takes care of the folders in which its
 //! servers keep shares.
 #![tactic(auto)]
 
-/// Why the program ended before it was stopped.
-mod fault;
-/// How many files and sockets the program may have open.
-pub mod handles;
-/// What a server keeps its shares on beside memory.
-mod server_shelf;
-/// A store of one of two kinds.
-pub mod either_store;
-/// Folders of servers.
-pub mod folders;
-/// Stores on Redis servers.
-mod redis_stores;
-/// The stores of the gateway.
-mod stores;
-/// Looking through folders.
-mod checking;
-/// Images of a grid in folders.
-mod images;
-
-pub use checking::check;
-pub use fault::ProgramFault;
 use folder_shelf::Settings;
 use gate_core::{Gateway, GatewayFault};
-use gate_poll::{Limits, serve_on};
-use images::{restore, write_image};
+use gate_poll::{Limits, ServeFault, serve_on};
 use log::{Log, info};
 use mio::net::TcpListener;
 use server_board::Board;
 use server_options::{Options, Refusal, Shares, Task, read_words};
+use server_stores::{
+    ProgramFault, ServerStore, check, handles, open_stores, restore, write_image,
+};
 use share_store::Store;
 use std::alloc::Global;
 use std::fs::File;
@@ -39,7 +20,6 @@ use std::net::{Net, SocketAddr, ToSocketAddrs};
 use std::rt::{Env, Files};
 use std::time::{Clock, CpuClock, Duration};
 use std::{env, fs};
-use stores::{ServerStore, open_stores};
 
 /// How many bytes a secret may have.
 const MOST_SECRET: usize = 256;
@@ -175,9 +155,14 @@ fn serve_with<
     } = listeners;
     info!(rt; "started: at most {} connections", options.connections);
     let limits = Limits::new(options.connections, Duration::from_secs(options.idle));
-    let counts = serve_on(rt, connections, control, &limits, gateway, &mut Board)?;
-    info!(rt; "stopped: {} connections were opened", counts.opened);
-    Ok(())
+    match serve_on(rt, connections, control, &limits, gateway, &mut Board) {
+        Ok(counts) => {
+            info!(rt; "stopped: {} connections were opened", counts.opened);
+            Ok(())
+        }
+        Err(ServeFault::NoMemory) => Err(ProgramFault::NoMemory),
+        Err(ServeFault::PollFailed) => Err(ProgramFault::PollFailed),
+    }
 }
 
 /// A gateway over the stores that are wanted, with the secret that its file has.

@@ -1,5 +1,5 @@
 //! Tests of the server's words, control requests and figures, over the public calls of `server_options`, `server_board`
-//! and `server_tasks`. The gate proves a crate with tests twice, with them and without, so they stand in a crate of their
+//! and `server_stores`. The gate proves a crate with tests twice, with them and without, so they stand in a crate of their
 //! own. The program itself does nothing.
 #![tactic(auto)]
 

@@ -10,9 +10,10 @@
 
 ghost use Rattle.std.specs.Prelude.{◌≡◌, MatchResult};
 ghost use Rattle.std.specs.Process.{exit_status};
-ghost use Rattle.server_tasks.specs.Status.{status_of};
+ghost use Rattle.server_stores.specs.Status.{status_of};
 
-use server_tasks::{ProgramFault, run};
+use server_stores::ProgramFault;
+use server_tasks::run;
 use std::process::ExitCode;
 
 /// Does what the words ask for, tells the fault that ended it on standard error, and exits with its status.

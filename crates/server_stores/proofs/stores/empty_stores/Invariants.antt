@@ -1,6 +1,6 @@
 use Rattle.std.proofs.Common.{◌≡◌, All, vec_len}
 use Rattle.share_store.specs.declared.mem_store.MemStore.{MemStore}
-use Rattle.server_tasks.proofs.stores.empty_stores.Given as goal
+use Rattle.server_stores.proofs.stores.empty_stores.Given as goal
 
 -- so many stores were made, which hold nothing
 abbrev pub invariant-loop-server : goal.invariant-loop-server

@@ -2,7 +2,7 @@ use Rattle.std.proofs.Common.{◌≡◌, ◌<◌, ◌+◌, ℕ, List, length, ge
 use Rattle.std.specs.List.{AllWithin}
 use Rattle.std.proofs.lemmas.List.{get_or_default}
 use Rattle.std.proofs.lemmas.List.Elements.{AllWithin-more}
-use Rattle.server_tasks.proofs.images.hold_nothing.Goals as goal
+use Rattle.server_stores.proofs.images.hold_nothing.Goals as goal
 
 -- one more that counts nothing
 one_more : {X : Type 0} (count : X → ℕ) (xs : List X) (i : ℕ) (x : X) → AllWithin (λ y. count y ≡ 0) xs 0 i → x ≡ get_or xs i x → i < length xs

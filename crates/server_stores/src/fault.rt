@@ -1,9 +1,8 @@
 //! Why the program ended before it was stopped.
 ghost use Rattle.std.specs.Prelude.{◌≡◌};
-ghost use Rattle.server_tasks.specs.Status.{status_of, folder_status};
+ghost use Rattle.server_stores.specs.Status.{status_of, folder_status};
 
 use folder_shelf::FolderFault;
-use gate_poll::ServeFault;
 use kept_store::OpenFault as KeptFault;
 use redis_shelf::RedisFault;
 use share_shelf::ShelfFault;
@@ -15,9 +14,9 @@ use thiserror::Error;
 /// Why the program ended before it was stopped. Each has an exit status of its own.
 #[derive(Clone, Copy, Debug, PartialEq, Eq, Error)]
 pub enum ProgramFault {
-    /// No more connections could be served.
-    #[error("{0}")]
-    Serve(ServeFault),
+    /// The system gives no readiness of sockets, or no clock.
+    #[error("the system can't wait for connections")]
+    PollFailed,
     /// A word of the command line, that is none of the program's: it was told already.
     #[error("bad arguments")]
     Arguments,
@@ -125,7 +124,7 @@ impl ProgramFault {
         ensures { result ≡ status_of self.now }
     {
         match self {
-            ProgramFault::Serve(_) => 1,
+            ProgramFault::PollFailed => 1,
             ProgramFault::Arguments => 2,
             ProgramFault::Shares => 2,
             ProgramFault::Stores => 2,
@@ -183,15 +182,6 @@ impl From<AllocError> for ProgramFault {
 impl<T: Drop> From<AllocFailed<T>> for ProgramFault {
     fn from(_error: AllocFailed<T>) -> ProgramFault {
         ProgramFault::NoMemory
-    }
-}
-
-impl From<ServeFault> for ProgramFault {
-    fn from(fault: ServeFault) -> ProgramFault {
-        match fault {
-            ServeFault::NoMemory => ProgramFault::NoMemory,
-            ServeFault::PollFailed => ProgramFault::Serve(ServeFault::PollFailed),
-        }
     }
 }
 

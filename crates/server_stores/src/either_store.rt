@@ -1,5 +1,5 @@
 //! A store of one of two kinds.
-ghost use Rattle.server_tasks.specs.declared.either_store.EitherStore.TheVariants.{First, Second};
+ghost use Rattle.server_stores.specs.declared.either_store.EitherStore.TheVariants.{First, Second};
 
 use share_store::{Share, Store, StoreFault};
 use std::alloc::AllocError;

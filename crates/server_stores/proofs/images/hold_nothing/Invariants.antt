@@ -1,6 +1,6 @@
 use Rattle.std.proofs.Common.{◌≡◌}
 use Rattle.std.specs.List.{AllWithin}
-use Rattle.server_tasks.proofs.images.hold_nothing.Given as goal
+use Rattle.server_stores.proofs.images.hold_nothing.Given as goal
 
 -- the stores that were looked at hold nothing
 abbrev pub invariant-loop-store : goal.invariant-loop-store

@@ -1,5 +1,5 @@
 use Rattle.std.proofs.Common.{◌≡◌, vec_len}
-use Rattle.server_tasks.proofs.images.open_all.Given as goal
+use Rattle.server_stores.proofs.images.open_all.Given as goal
 
 -- a store was opened for each place before this one
 abbrev pub invariant-loop-place : goal.invariant-loop-place

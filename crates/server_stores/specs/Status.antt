@@ -2,8 +2,8 @@
 use Rattle.std.specs.Prelude.{ℕ}
 use Rattle.folder_shelf.specs.declared.fault.FolderFault.{FolderFault}
 use Rattle.folder_shelf.specs.declared.fault.FolderFault.TheVariants as folder
-use Rattle.server_tasks.specs.declared.fault.ProgramFault.{ProgramFault}
-use Rattle.server_tasks.specs.declared.fault.ProgramFault.TheVariants.{Serve, Arguments, Shares, Stores, NoAddress, AddressInUse, NotAllowed, NotBound, SecretUnread, SecretTooLong, FewHandles, NoMemory, NotPrinted, NotThere, Folder, DiskFull, NoRoom, NotEmpty, OtherCount, ImageUnread, BadImage, ImageUnwritten, NotWell, RedisUnknown, Redis, RedisUnread, PasswordUnread}
+use Rattle.server_stores.specs.declared.fault.ProgramFault.{ProgramFault}
+use Rattle.server_stores.specs.declared.fault.ProgramFault.TheVariants.{PollFailed, Arguments, Shares, Stores, NoAddress, AddressInUse, NotAllowed, NotBound, SecretUnread, SecretTooLong, FewHandles, NoMemory, NotPrinted, NotThere, Folder, DiskFull, NoRoom, NotEmpty, OtherCount, ImageUnread, BadImage, ImageUnwritten, NotWell, RedisUnknown, Redis, RedisUnread, PasswordUnread}
 
 -- the status where a folder was refused; 20 is between them, that of a full disk
 abbrev pub folder_status : FolderFault → ℕ
@@ -20,7 +20,7 @@ folder_status folder.NoMemory = 10
 
 -- the status of a fault; 0 is that of a run that was stopped, or that did what it was asked
 abbrev pub status_of : ProgramFault → ℕ
-status_of (Serve fault) = 1
+status_of PollFailed = 1
 status_of Arguments = 2
 status_of Shares = 2
 status_of Stores = 2

@@ -1,0 +1,26 @@
+//! The stores of a server: in memory, in folders, on disks and on Redis servers; looking through folders, and moving images.
+#![tactic(auto)]
+
+/// Why the program ended before it was stopped.
+mod fault;
+/// How many files and sockets the program may have open.
+pub mod handles;
+/// What a server keeps its shares on beside memory.
+mod server_shelf;
+/// A store of one of two kinds.
+pub mod either_store;
+/// Folders of servers.
+pub mod folders;
+/// Stores on Redis servers.
+mod redis_stores;
+/// The stores of the gateway.
+mod stores;
+/// Looking through folders.
+mod checking;
+/// Images of a grid in folders.
+mod images;
+
+pub use checking::check;
+pub use fault::ProgramFault;
+pub use images::{restore, write_image};
+pub use stores::{ServerStore, open_stores};
