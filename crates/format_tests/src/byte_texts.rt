@@ -10,18 +10,24 @@ use std::io::{self, Read};
 /// `read`.
 pub fn answer(alloc: Global, case: &Case<'_>) -> Result<String, NoAnswer> {
     match case.word(1)? {
-        "held" => held(alloc, &Bytes::from_slice(alloc, &case.bytes(alloc, 2)?)?),
+        "held" => held_word(alloc, case),
         "none" => held(alloc, &Bytes::new(alloc)),
-        "roomy" => roomy(alloc, count(case, 2)?, &case.bytes(alloc, 3)?),
+        "roomy" => roomy(alloc, case),
         "text" => text(alloc, case.word(2)?),
-        "number" => number(alloc, &case.bytes(alloc, 2)?, case.number(3)?),
-        "cut" => cut(alloc, &case.bytes(alloc, 2)?, &case.bytes(alloc, 3)?),
-        "sharing" => sharing(alloc, small_number(case, 2)?, small_number(case, 3)?),
+        "number" => number(alloc, case),
+        "cut" => cut(alloc, case),
+        "sharing" => sharing(alloc, case),
         "write" => written(alloc, case),
         "calls" => calls_left(alloc, case),
         "read" => slowly_read(alloc, &case.bytes(alloc, 2)?),
         _ => Err(NoAnswer::Question),
     }
+}
+
+/// What is held of the third word.
+fn held_word(alloc: Global, case: &Case<'_>) -> Result<String, NoAnswer> {
+    let bytes = case.bytes(alloc, 2)?;
+    held(alloc, &Bytes::from_slice(alloc, &bytes)?)
 }
 
 /// The bytes, how many they are, and whether there is none.
@@ -32,9 +38,10 @@ fn held(alloc: Global, bytes: &Bytes) -> Result<String, NoAnswer> {
 }
 
 /// The bytes as a vector with room for more gives them back, and whether it still has that room.
-fn roomy(alloc: Global, room: usize, bytes: &[u8]) -> Result<String, NoAnswer> {
+fn roomy(alloc: Global, case: &Case<'_>) -> Result<String, NoAnswer> {
+    let (room, bytes) = (count(case, 2)?, case.bytes(alloc, 3)?);
     let mut roomy = Vec::with_capacity(alloc, room)?;
-    roomy.extend_from_slice(bytes)?;
+    roomy.extend_from_slice(&bytes)?;
     let vector = Bytes::from_vec(roomy).into_vec();
     let word = shown(alloc, &vector)?;
     joined(alloc, &[&word, truth(vector.capacity() >= room)])
@@ -46,28 +53,31 @@ fn text(alloc: Global, word: &str) -> Result<String, NoAnswer> {
     Ok(format!(in alloc; "\"{}\"", text.as_str())?)
 }
 
-fn number(alloc: Global, text: &[u8], most: u64) -> Result<String, NoAnswer> {
+fn number(alloc: Global, case: &Case<'_>) -> Result<String, NoAnswer> {
     laws::numbers_have_one_text();
-    match read_number(text, most) {
+    let text = case.bytes(alloc, 2)?;
+    match read_number(&text, case.number(3)?) {
         Some(number) => Ok(digits(alloc, number)?),
         None => said(alloc, "none"),
     }
 }
 
 /// What stands in front of a byte and behind it.
-fn cut(alloc: Global, bytes: &[u8], at: &[u8]) -> Result<String, NoAnswer> {
+fn cut(alloc: Global, case: &Case<'_>) -> Result<String, NoAnswer> {
+    let (bytes, at) = (case.bytes(alloc, 2)?, case.bytes(alloc, 3)?);
     let Some(byte) = at.first() else {
         return Err(NoAnswer::Word(3));
     };
-    let Some((front, back)) = split_at_byte(bytes, *byte) else {
+    let Some((front, back)) = split_at_byte(&bytes, *byte) else {
         return said(alloc, "none");
     };
     let (front, back) = (shown(alloc, front)?, shown(alloc, back)?);
     joined(alloc, &[&front, &back])
 }
 
-fn sharing(alloc: Global, k: u16, n: u16) -> Result<String, NoAnswer> {
-    said(alloc, truth(is_sharing(k, n)))
+fn sharing(alloc: Global, case: &Case<'_>) -> Result<String, NoAnswer> {
+    let is_sharing = is_sharing(small_number(case, 2)?, small_number(case, 3)?);
+    said(alloc, truth(is_sharing))
 }
 
 /// What a writer with so much room holds after so many calls at most, and the outcome.

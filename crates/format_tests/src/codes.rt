@@ -12,10 +12,10 @@ use std::alloc::{AllocError, Global};
 /// `code add DST SRC C`, `code sums COUNT BYTE` and `code sum COUNT C`.
 pub fn answer(alloc: Global, case: &Case<'_>) -> Result<String, NoAnswer> {
     match case.word(1)? {
-        "new" => fresh(alloc, small_number(case, 2)?, small_number(case, 3)?),
+        "new" => fresh(alloc, case),
         "add" => added(alloc, case),
-        "sums" => sums(alloc, count(case, 2)?, &case.bytes(alloc, 3)?),
-        "sum" => sum(alloc, count(case, 2)?, constant(case, 3)?),
+        "sums" => sums(alloc, case),
+        "sum" => sum(alloc, case),
         "decode" => from_numbered(alloc, case),
         _ => of_primary(alloc, case),
     }
@@ -29,8 +29,8 @@ fn constant(case: &Case<'_>, at: usize) -> Result<u8, NoAnswer> {
 }
 
 /// Whether there is a code of these numbers.
-fn fresh(alloc: Global, k: u16, n: u16) -> Result<String, NoAnswer> {
-    match Code::new(k, n) {
+fn fresh(alloc: Global, case: &Case<'_>) -> Result<String, NoAnswer> {
+    match Code::new(small_number(case, 2)?, small_number(case, 3)?) {
         Ok(_) => said(alloc, "a code"),
         Err(fault) => Ok(format!(in alloc; "{fault}")?),
     }
@@ -38,20 +38,42 @@ fn fresh(alloc: Global, k: u16, n: u16) -> Result<String, NoAnswer> {
 
 /// What is asked of the primary blocks that are the words from the fifth on.
 fn of_primary(alloc: Global, case: &Case<'_>) -> Result<String, NoAnswer> {
-    let (k, n) = (small_number(case, 2)?, small_number(case, 3)?);
+    let numbers = (small_number(case, 2)?, small_number(case, 3)?);
+    let blocks = blocks_of(alloc, case)?;
+    let primary = slices_of(alloc, &blocks)?;
+    of_blocks(alloc, case.word(1)?, numbers, &primary)
+}
+
+/// What is asked of primary blocks.
+fn of_blocks(
+    alloc: Global,
+    asked: &str,
+    numbers: (u16, u16),
+    primary: &[&[u8]],
+) -> Result<String, NoAnswer> {
+    match asked {
+        "rest" => rest(alloc, numbers, primary),
+        "choices" => choices(alloc, numbers, primary),
+        _ => Err(NoAnswer::Question),
+    }
+}
+
+/// The blocks that are the words from the fifth on.
+fn blocks_of(alloc: Global, case: &Case<'_>) -> Result<Vec<Vec<u8>>, NoAnswer> {
     let mut blocks = Vec::new(alloc);
     for at in 4..case.len() {
         blocks.push(case.bytes(alloc, at)?)?;
     }
-    let mut primary = Vec::new(alloc);
-    for block in &blocks {
-        primary.push(block.as_slice())?;
+    Ok(blocks)
+}
+
+/// The same blocks, lent.
+fn slices_of(alloc: Global, blocks: &[Vec<u8>]) -> Result<Vec<&[u8]>, AllocError> {
+    let mut slices = Vec::new(alloc);
+    for block in blocks {
+        slices.push(block.as_slice())?;
     }
-    match case.word(1)? {
-        "rest" => rest(alloc, (k, n), &primary),
-        "choices" => choices(alloc, (k, n), &primary),
-        _ => Err(NoAnswer::Question),
-    }
+    Ok(slices)
 }
 
 fn have_one_length(blocks: &[&[u8]]) -> bool
@@ -278,9 +300,9 @@ fn is_plain(alloc: Global, start: &[u8], src: &[u8], c: u8) -> Result<bool, Allo
     Ok(fast == plain)
 }
 
-/// At how many constants and lengths up to `count` products are added to bytes of one value as byte by byte.
-fn sums(alloc: Global, count: usize, start: &[u8]) -> Result<String, NoAnswer> {
-    let src = spread(alloc, count)?;
+/// At how many constants and lengths up to the third word products are added to bytes of one value as byte by byte.
+fn sums(alloc: Global, case: &Case<'_>) -> Result<String, NoAnswer> {
+    let (src, start) = (spread(alloc, count(case, 2)?)?, case.bytes(alloc, 3)?);
     let mut plain = 0_u32;
     for c in 0..=255_u8 {
         for size in 0..=src.len() {
@@ -294,7 +316,7 @@ fn sums(alloc: Global, count: usize, start: &[u8]) -> Result<String, NoAnswer> {
 }
 
 /// Whether the products of so many bytes and a constant are added to these bytes as byte by byte.
-fn sum(alloc: Global, count: usize, c: u8) -> Result<String, NoAnswer> {
-    let src = spread(alloc, count)?;
+fn sum(alloc: Global, case: &Case<'_>) -> Result<String, NoAnswer> {
+    let (src, c) = (spread(alloc, count(case, 2)?)?, constant(case, 3)?);
     Ok(format!(in alloc; "{}", is_plain(alloc, &src, &src, c)?)?)
 }

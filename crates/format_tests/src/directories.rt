@@ -10,15 +10,25 @@ use tag_hash::push_netstring;
 /// `entry`, `second` or `cuts`.
 pub fn answer(alloc: Global, case: &Case<'_>) -> Result<String, NoAnswer> {
     match case.word(1)? {
-        "made" => made(alloc, &case.bytes(alloc, 2)?),
-        "children" => told(alloc, children_fault(alloc, &case.bytes(alloc, 2)?)),
-        "cut_children" => cut_children(alloc, &case.bytes(alloc, 2)?),
-        "found" => found(alloc, case.word(2)?, &case.bytes(alloc, 3)?),
-        "name" => name(alloc, case.word(2)?, case.word(3)?),
-        "value" => value(alloc, case.word(2)?, count(case, 3)?),
-        "find" => find(alloc, case.word(2)?, case.word(3)?),
-        "text" => told(alloc, text_fault(alloc, &case.bytes(alloc, 2)?)),
-        _ => of_entry(alloc, case),
+        "found" => found(alloc, case),
+        "name" => name(alloc, case),
+        "value" => value(alloc, case),
+        "find" => find(alloc, case),
+        "entry" => of_entry(alloc, case),
+        "second" => of_entry(alloc, case),
+        "cuts" => of_entry(alloc, case),
+        asked => of_bytes(alloc, asked, &case.bytes(alloc, 2)?),
+    }
+}
+
+/// What is asked of bytes.
+fn of_bytes(alloc: Global, asked: &str, bytes: &[u8]) -> Result<String, NoAnswer> {
+    match asked {
+        "made" => made(alloc, bytes),
+        "children" => told(alloc, children_fault(alloc, bytes)),
+        "cut_children" => cut_children(alloc, bytes),
+        "text" => told(alloc, text_fault(alloc, bytes)),
+        _ => Err(NoAnswer::Question),
     }
 }
 
@@ -56,11 +66,15 @@ fn of_entry(alloc: Global, case: &Case<'_>) -> Result<String, NoAnswer> {
     let (name, cap) = (case.bytes(alloc, 2)?, case.bytes(alloc, 3)?);
     let (write_cap, metadata) = (case.bytes(alloc, 4)?, case.bytes(alloc, 5)?);
     let text = entry(alloc, [&name, &cap, &write_cap, &metadata])?;
-    match case.word(1)? {
-        "entry" => told(alloc, text_fault(alloc, &text)),
-        "second" => second(alloc, &text),
-        "cuts" => cuts(alloc, &text),
-        _ => Err(NoAnswer::Question),
+    of_entry_text(alloc, case.word(1)?, &text)
+}
+
+/// What is asked of an entry's text.
+fn of_entry_text(alloc: Global, asked: &str, text: &[u8]) -> Result<String, NoAnswer> {
+    match asked {
+        "entry" => told(alloc, text_fault(alloc, text)),
+        "second" => second(alloc, text),
+        _ => cuts(alloc, text),
     }
 }
 
@@ -121,9 +135,10 @@ fn made(alloc: Global, json: &[u8]) -> Result<String, NoAnswer> {
     }
 }
 
-/// The cap and the metadata of the child of this name.
-fn found(alloc: Global, name: &str, json: &[u8]) -> Result<String, NoAnswer> {
-    let Ok(directory) = from_children_json(alloc, json) else {
+/// The cap and the metadata of the child of a name, which is the third word.
+fn found(alloc: Global, case: &Case<'_>) -> Result<String, NoAnswer> {
+    let (name, json) = (case.word(2)?, case.bytes(alloc, 3)?);
+    let Ok(directory) = from_children_json(alloc, &json) else {
         return said(alloc, "no children");
     };
     let Some(entry) = directory.into_found(name) else {
@@ -150,7 +165,8 @@ fn is_found(alloc: Global, json: &[u8], name: &str) -> bool {
 }
 
 /// Whether a child of the first name is found by the second, and the fault of an entry of the first name.
-fn name(alloc: Global, key: &str, name: &str) -> Result<String, NoAnswer> {
+fn name(alloc: Global, case: &Case<'_>) -> Result<String, NoAnswer> {
+    let (key, name) = (case.word(2)?, case.word(3)?);
     let json = child_json(alloc, key)?;
     let is_found = truth(is_found(alloc, json.as_bytes(), name));
     let text = entry(alloc, [key.as_bytes(), b"URI:LIT:", b"", b"{}"])?;
@@ -169,8 +185,8 @@ fn metadata(alloc: Global, value: &str, depth: usize) -> Result<String, AllocErr
 }
 
 /// The faults of children and of an entry whose metadata have a value in so many arrays.
-fn value(alloc: Global, value: &str, depth: usize) -> Result<String, NoAnswer> {
-    let metadata = metadata(alloc, value, depth)?;
+fn value(alloc: Global, case: &Case<'_>) -> Result<String, NoAnswer> {
+    let metadata = metadata(alloc, case.word(2)?, count(case, 3)?)?;
     let mut json = String::from_str(alloc, "{\"b\":[\"\",{\"metadata\":")?;
     json.push_str(&metadata)?;
     json.push_str(",\"ro_uri\":\"URI:LIT:\"}]}")?;
@@ -181,14 +197,9 @@ fn value(alloc: Global, value: &str, depth: usize) -> Result<String, NoAnswer> {
 }
 
 /// How many entries a directory of these names has, which commas part, and the name that is found by the first.
-fn find(alloc: Global, name: &str, names: &str) -> Result<String, NoAnswer> {
-    let mut text = Vec::new(alloc);
-    for name in names.split(',') {
-        if !name.is_empty() {
-            let parts = [name.as_bytes(), b"URI:DIR2-LIT:", b"", b"{}"];
-            text.extend_from_slice(&entry(alloc, parts)?)?;
-        }
-    }
+fn find(alloc: Global, case: &Case<'_>) -> Result<String, NoAnswer> {
+    let (name, names) = (case.word(2)?, case.word(3)?);
+    let text = empty_directories(alloc, names)?;
     let Ok(directory) = decode(alloc, &text) else {
         return said(alloc, "no directory");
     };
@@ -197,4 +208,16 @@ fn find(alloc: Global, name: &str, names: &str) -> Result<String, NoAnswer> {
         Some(entry) => joined(alloc, &[&count, entry.name.as_str()]),
         None => joined(alloc, &[&count, "none"]),
     }
+}
+
+/// The text of a directory of empty directories of these names, which commas part.
+fn empty_directories(alloc: Global, names: &str) -> Result<Vec<u8>, AllocError> {
+    let mut text = Vec::new(alloc);
+    for name in names.split(',') {
+        if !name.is_empty() {
+            let parts = [name.as_bytes(), b"URI:DIR2-LIT:", b"", b"{}"];
+            text.extend_from_slice(&entry(alloc, parts)?)?;
+        }
+    }
+    Ok(text)
 }

@@ -32,17 +32,34 @@ impl Shares {
             "hold" => self.hold(alloc, case.bytes(alloc, 2)?),
             "read" => read(alloc, &self.held, case),
             "changed" => self.read_changed(alloc, case),
-            "make" => self.make(alloc, case, &case.bytes(alloc, 4)?),
-            "counted" => self.make(alloc, case, &counted_bytes(alloc, count(case, 4)?)?),
+            "make" => self.make_of_word(alloc, case),
+            "counted" => self.make_of_count(alloc, case),
             "row" => self.hash_of_row(alloc),
-            "cut" => cut(alloc, &params(case, case.number(4)?)?),
-            "segments" => segments(alloc, &params(case, case.number(4)?)?),
-            "root" => root(alloc, case, &case.bytes(alloc, 4)?),
-            asked => match self.made.get(count(case, 2)?) {
-                Some(share) => of_share(alloc, asked, share),
-                None => said(alloc, "no such share"),
-            },
+            "cut" => of_numbers(alloc, case),
+            "segments" => of_numbers(alloc, case),
+            "root" => root(alloc, case),
+            asked => self.of_made(alloc, asked, count(case, 2)?),
         }
+    }
+
+    /// What is asked of a share that was made.
+    fn of_made(&self, alloc: Global, asked: &str, number: usize) -> Result<String, NoAnswer> {
+        match self.made.get(number) {
+            Some(share) => of_share(alloc, asked, share),
+            None => said(alloc, "no such share"),
+        }
+    }
+
+    /// Makes the shares of the crypttext that is the fifth word.
+    fn make_of_word(&mut self, alloc: Global, case: &Case<'_>) -> Result<String, NoAnswer> {
+        let crypttext = case.bytes(alloc, 4)?;
+        self.make(alloc, case, &crypttext)
+    }
+
+    /// Makes the shares of as many counted bytes as the fifth word says.
+    fn make_of_count(&mut self, alloc: Global, case: &Case<'_>) -> Result<String, NoAnswer> {
+        let crypttext = counted_bytes(alloc, count(case, 4)?)?;
+        self.make(alloc, case, &crypttext)
     }
 
     /// Keeps the bytes for the next cases, and tells how many they are.
@@ -131,7 +148,16 @@ fn parts(alloc: Global, share: &Share) -> Result<String, NoAnswer> {
     joined(alloc, &[&number, &count, &block, &root])
 }
 
-/// What is asked of a share that was made.
+/// What is asked of the numbers of an encoding.
+fn of_numbers(alloc: Global, case: &Case<'_>) -> Result<String, NoAnswer> {
+    let params = params(case, case.number(4)?)?;
+    match case.word(1)? {
+        "cut" => cut(alloc, &params),
+        _ => segments(alloc, &params),
+    }
+}
+
+/// What is asked of a share.
 fn of_share(alloc: Global, asked: &str, share: &Vec<u8>) -> Result<String, NoAnswer> {
     match asked {
         "sha256" => Ok(in_hex(alloc, &Sha256::digest(share.as_slice()))?),
@@ -180,11 +206,12 @@ fn segments(alloc: Global, params: &Params) -> Result<String, NoAnswer> {
     Ok(lengths)
 }
 
-/// The root of a crypttext's segments.
-fn root(alloc: Global, case: &Case<'_>, crypttext: &[u8]) -> Result<String, NoAnswer> {
+/// The root of the segments of the crypttext that is the fifth word.
+fn root(alloc: Global, case: &Case<'_>) -> Result<String, NoAnswer> {
+    let crypttext = case.bytes(alloc, 4)?;
     let params = params(case, crypttext.len() as u64)?;
     if params.size == 0 || params.size != crypttext.len() as u64 {
         return Err(NoAnswer::Word(4));
     }
-    Ok(in_hex(alloc, &crypttext_root(alloc, &params, crypttext)?)?)
+    Ok(in_hex(alloc, &crypttext_root(alloc, &params, &crypttext)?)?)
 }

@@ -12,52 +12,69 @@ use tag_hash::{
 pub fn answer(alloc: Global, case: &Case<'_>) -> Result<String, NoAnswer> {
     match case.word(1)? {
         "decimal" => Ok(shown(alloc, Decimal::new(case.number(2)?).as_bytes())?),
-        "netstring" => Ok(shown(alloc, &netstring(alloc, &case.bytes(alloc, 2)?)?)?),
-        "netstrings" => netstrings(alloc, &case.bytes(alloc, 2)?, &case.bytes(alloc, 3)?),
-        "read" => read(alloc, &case.bytes(alloc, 2)?, count(case, 3)?),
-        _ => hashed(alloc, case),
+        "netstring" => one_netstring(alloc, case),
+        "netstrings" => netstrings(alloc, case),
+        "read" => read(alloc, case),
+        "counted" => of_count(alloc, case),
+        "pieces" => in_pieces(alloc, case),
+        "pair" => of_two(alloc, case),
+        "mixed" => of_two(alloc, case),
+        asked => hashed(alloc, asked, &case.bytes(alloc, 2)?, &case.bytes(alloc, 3)?),
     }
 }
 
+/// A netstring.
+fn one_netstring(alloc: Global, case: &Case<'_>) -> Result<String, NoAnswer> {
+    let text = netstring(alloc, &case.bytes(alloc, 2)?)?;
+    Ok(shown(alloc, &text)?)
+}
+
 /// Two netstrings, one behind the other.
-fn netstrings(alloc: Global, first: &[u8], second: &[u8]) -> Result<String, NoAnswer> {
-    let mut text = netstring(alloc, first)?;
-    push_netstring(&mut text, second)?;
+fn netstrings(alloc: Global, case: &Case<'_>) -> Result<String, NoAnswer> {
+    let mut text = netstring(alloc, &case.bytes(alloc, 2)?)?;
+    push_netstring(&mut text, &case.bytes(alloc, 3)?)?;
     Ok(shown(alloc, &text)?)
 }
 
 /// Where the bytes of the netstring at a place begin, how many they are, and where it ends.
-fn read(alloc: Global, bytes: &[u8], at: usize) -> Result<String, NoAnswer> {
-    match read_netstring(bytes, at) {
+fn read(alloc: Global, case: &Case<'_>) -> Result<String, NoAnswer> {
+    let bytes = case.bytes(alloc, 2)?;
+    match read_netstring(&bytes, count(case, 3)?) {
         Ok((span, end)) => Ok(format!(in alloc; "{} {} {end}", span.start, span.len)?),
         Err(fault) => Ok(format!(in alloc; "{fault:?}")?),
     }
 }
 
-/// A hash under the tag that is the third word.
-fn hashed(alloc: Global, case: &Case<'_>) -> Result<String, NoAnswer> {
-    let tag = case.bytes(alloc, 2)?;
-    match case.word(1)? {
-        "tagged" => Ok(in_hex(alloc, &tagged(&tag, &case.bytes(alloc, 3)?))?),
-        "tagged16" => Ok(in_hex(alloc, &tagged16(&tag, &case.bytes(alloc, 3)?))?),
-        "counted" => Ok(in_hex(
-            alloc,
-            &tagged(&tag, &counted_bytes(alloc, count(case, 3)?)?),
-        )?),
-        "pieces" => in_pieces(alloc, &tag, count(case, 3)?, count(case, 4)?),
-        "pair" => Ok(in_hex(
-            alloc,
-            &pair(&tag, &case.bytes(alloc, 3)?, &case.bytes(alloc, 4)?),
-        )?),
-        "mixed" => mixed(alloc, &tag, &case.bytes(alloc, 3)?, &case.bytes(alloc, 4)?),
+/// A hash of bytes under a tag.
+fn hashed(alloc: Global, asked: &str, tag: &[u8], bytes: &[u8]) -> Result<String, NoAnswer> {
+    match asked {
+        "tagged" => Ok(in_hex(alloc, &tagged(tag, bytes))?),
+        "tagged16" => Ok(in_hex(alloc, &tagged16(tag, bytes))?),
         _ => Err(NoAnswer::Question),
     }
 }
 
+/// The hash of so many counted bytes.
+fn of_count(alloc: Global, case: &Case<'_>) -> Result<String, NoAnswer> {
+    let (tag, bytes) = (case.bytes(alloc, 2)?, counted_bytes(alloc, count(case, 3)?)?);
+    Ok(in_hex(alloc, &tagged(&tag, &bytes))?)
+}
+
+/// A hash of two texts of bytes.
+fn of_two(alloc: Global, case: &Case<'_>) -> Result<String, NoAnswer> {
+    let tag = case.bytes(alloc, 2)?;
+    let (first, second) = (case.bytes(alloc, 3)?, case.bytes(alloc, 4)?);
+    match case.word(1)? {
+        "pair" => Ok(in_hex(alloc, &pair(&tag, &first, &second))?),
+        _ => mixed(alloc, &tag, &first, &second),
+    }
+}
+
 /// The hash of so many counted bytes that are given in pieces of such a size.
-fn in_pieces(alloc: Global, tag: &[u8], bytes: usize, size: usize) -> Result<String, NoAnswer> {
-    let mut hasher = TagHasher::new(tag);
-    for piece in counted_bytes(alloc, bytes)?.chunks(size.max(1)) {
+fn in_pieces(alloc: Global, case: &Case<'_>) -> Result<String, NoAnswer> {
+    let (tag, bytes) = (case.bytes(alloc, 2)?, counted_bytes(alloc, count(case, 3)?)?);
+    let mut hasher = TagHasher::new(&tag);
+    for piece in bytes.chunks(count(case, 4)?.max(1)) {
         hasher.update(piece);
     }
     Ok(in_hex(alloc, &hasher.finish())?)

@@ -1,10 +1,19 @@
-//! Tests of the gateway, over its public calls. The gate proves a crate with tests twice, with them and without,
-//! so they stand in a crate of their own. The program itself does nothing.
+//! Tests of the gateway over its public calls, of what no script shows. The gate proves a crate with tests twice, with them
+//! and without, so they stand in a crate of their own. The program itself does nothing.
 #![tactic(auto)]
 
-/// Gateways.
+/// What callers ask and are told.
 #[cfg(test)]
-mod gateways;
+mod rows;
+/// Stores that fail or lie.
+#[cfg(test)]
+mod hostile;
+/// Connections that are forgotten.
+#[cfg(test)]
+mod forgetting;
+/// A body of the longest length.
+#[cfg(test)]
+mod longest;
 /// Crashes, and gateways that are resumed after them.
 #[cfg(test)]
 mod restarting;

@@ -1,5 +1,6 @@
 //! A crash at each moment of an upload, over shelves in memory, and a gateway that is resumed over what it left.
 
+use super::rows::holds;
 use gate_core::Gateway;
 use kept_store::KeptStore;
 use share_shelf::MemShelf;
@@ -68,50 +69,49 @@ fn is_given(gateway: &mut Kept, cap: &[u8], letter: u8) -> Result<bool, Fail> {
     let reply = gateway.take(1, 1_000)?;
     let is_whole = reply.starts_with(b"HTTP/1.1 200 ") && reply.ends_with(&[letter; 56]);
     let is_gone = reply.starts_with(b"HTTP/1.1 410 ");
-    let answer = if is_whole || is_gone {
-        Some(is_whole)
-    } else {
-        None
-    };
-    Ok(answer.ok_or("neither whole nor gone")?)
+    holds(is_whole || is_gone, "neither whole nor gone")?;
+    Ok(is_whole)
 }
 
-/// Whether after a crash at these moments the first file is whole, and so is the second where three shares of it stand.
-fn is_as_left(
+/// The first file is whole, and so is the second or not.
+fn are_given(gateway: &mut Kept, caps: (&[u8], &[u8]), has_second: bool) -> Result<(), Fail> {
+    let is_first = is_given(gateway, caps.0, b'b')?;
+    let is_second = is_given(gateway, caps.1, b'a')?;
+    holds(is_first && is_second == has_second, "another file")
+}
+
+/// After a crash at these moments the first file is whole, and so is the second where three shares of it stand.
+fn are_as_left(
     alloc: Global,
     gateway: &Kept,
     caps: (&[u8], &[u8]),
     here: usize,
     there: usize,
-) -> Result<bool, Fail> {
-    let mut again = resumed(
-        alloc,
-        left(alloc, gateway, 0, here)?,
-        left(alloc, gateway, 1, there)?,
-    )?;
-    let is_first = is_given(&mut again, caps.0, b'b')?;
-    let is_second = is_given(&mut again, caps.1, b'a')?;
-    Ok(is_first && is_second == (here.saturating_add(there) >= 13))
+) -> Result<(), Fail> {
+    let first = left(alloc, gateway, 0, here)?;
+    let second = left(alloc, gateway, 1, there)?;
+    let mut again = resumed(alloc, first, second)?;
+    are_given(&mut again, caps, here.saturating_add(there) >= 13)
+}
+
+/// Two files are put, and a crash comes at each moment of the second.
+fn are_whole_or_gone(alloc: Global, gateway: &mut Kept) -> Result<(), Fail> {
+    let first = put(alloc, gateway, b'b')?;
+    let second = put(alloc, gateway, b'a')?;
+    holds(second.as_slice() == LETTERS_CAP, "another cap")?;
+    for at in 0..36usize {
+        let here = 5 + at / 6;
+        let there = 5 + at % 6;
+        are_as_left(alloc, gateway, (&first, &second), here, there)?;
+    }
+    Ok(())
 }
 
 #[test]
 fn after_a_crash_a_file_is_whole_or_gone(rt: HostRuntime) -> Result<(), Fail> {
     let alloc = rt.alloc();
-    let mut gateway = resumed(
-        alloc,
-        opened(alloc, MemShelf::new(alloc))?,
-        opened(alloc, MemShelf::new(alloc))?,
-    )?;
-    let first = put(alloc, &mut gateway, b'b')?;
-    let second = put(alloc, &mut gateway, b'a')?;
-    assert_eq!(rt; second.as_slice(), LETTERS_CAP);
-    for at in 0..36usize {
-        let here = 5 + at / 6;
-        let there = 5 + at % 6;
-        assert!(rt;
-            is_as_left(alloc, &gateway, (&first, &second), here, there)?,
-            "at {here} and {there}"
-        );
-    }
-    Ok(())
+    let first = opened(alloc, MemShelf::new(alloc))?;
+    let second = opened(alloc, MemShelf::new(alloc))?;
+    let mut gateway = resumed(alloc, first, second)?;
+    are_whole_or_gone(alloc, &mut gateway)
 }

@@ -1,10 +1,16 @@
-//! Tests of scripts, arguments and connections, over the public calls of `gate_tasks`. The gate proves a crate with
-//! tests twice, with them and without, so they stand in a crate of their own. The program itself does nothing.
+//! Tests of all layers as scripts of the gateway: the program runs those on its standard input (README.md says how they are
+//! parted and what their marks stand for).
 #![tactic(auto)]
 
-/// Scripts, connections and arguments, by their answers.
-#[cfg(test)]
-mod tasks;
+/// Why a run ended before its end.
+mod fault;
+/// Runs of scripts.
+mod runs;
 
-/// Nothing: the tests are all that this crate has.
-fn main() {}
+use fault::RunFault;
+use runs::run_scripts;
+
+/// Runs the scripts on standard input.
+fn main(rt: HostRuntime) -> Result<(), RunFault> {
+    run_scripts(&rt)
+}

@@ -1,17 +1,27 @@
-//! Names and texts of another program, and a shelf over a file system that fails and crashes.
-ghost use Rattle.std.specs.Prelude.{◌<◌, length, IfOk};
-ghost use Rattle.std.specs.Rc.{rc_slice_items};
-
-use folder_shelf::*;
+//! A shelf in a folder of a file system that fails and crashes, and names and texts of another program.
+use crate::shelf_calls::calls;
+use crate::texts::{debug, done, fixed};
+use case_lines::{Case, NoAnswer};
+use failures::{opens, puts};
+use folder_shelf::{
+    FolderShelf, Settings, name_of, read_name, read_settings, seal_of, settings_text,
+};
 use mem_files::MemFiles;
-use share_shelf::Shelf;
 use std::alloc::Global;
+use std::fs;
 use std::io::Write;
-use std::rc::RcSlice;
-use std::test::Fail;
-use std::{fs, io};
 
+/// Places of failure, one after the other.
+mod failures;
+/// A file system in memory.
 mod mem_files;
+
+/// A file system in memory, and the shelf that was opened last in a folder of it.
+#[derive(Drop)]
+pub struct Folder {
+    files: MemFiles,
+    shelf: Option<FolderShelf<MemFiles>>,
+}
 
 /// The storage index of bytes from this one on.
 fn index_from(first: u8) -> [u8; 16] {
@@ -22,231 +32,140 @@ fn index_from(first: u8) -> [u8; 16] {
     index
 }
 
-fn settings() -> Settings {
-    Settings::new(3, 10, 3, 10, b"swordfish")
+/// The settings that stand from a place on: the server's place, three numbers of the grid, and the secret.
+fn settings_at(alloc: Global, case: &Case<'_>, at: usize) -> Result<Settings, NoAnswer> {
+    let place = case.small(at)?;
+    let servers = case.small(at.saturating_add(1))?;
+    let needed = case.small(at.saturating_add(2))?;
+    let made = case.small(at.saturating_add(3))?;
+    let secret = case.bytes(alloc, at.saturating_add(4))?;
+    Ok(Settings::new(place, servers, needed, made, &secret))
 }
 
-/// A share's bytes.
-fn share(alloc: Global, bytes: &[u8]) -> Result<RcSlice<u8>, Fail>
-    requires { 0 < length bytes.now }
-    ensures { IfOk result (λ share. 0 < length (rc_slice_items share)) }
-{
-    Ok(RcSlice::from_vec(bytes.to_vec(alloc)?)?)
+/// The answer to a case of a folder, or of what stands in one.
+pub fn answer(
+    alloc: Global,
+    held: &mut Option<Folder>,
+    case: &Case<'_>,
+) -> Result<String, NoAnswer> {
+    match case.word(1)? {
+        "name" => name(alloc, case),
+        "read-name" => names_share(alloc, case),
+        "seal" => seal(alloc, case),
+        "settings" => settings(alloc, case),
+        "reads-settings" => reads_settings(alloc, case),
+        "puts-that-fail" => puts(alloc, case),
+        "opens-that-fail" => opens(alloc, case.number(2)?),
+        _ => on_files(alloc, held, case),
+    }
 }
 
-/// The shelf in the folder `/d`.
-fn open(files: &MemFiles) -> Result<FolderShelf<MemFiles>, Fail> {
-    Ok(FolderShelf::open(files.clone()?, "/d", &settings(), true)?)
+/// The name of a share: the first byte of its index and its number.
+fn name(alloc: Global, case: &Case<'_>) -> Result<String, NoAnswer> {
+    let index = index_from(case.byte(2)?);
+    let number = case.small(3)?;
+    Ok(name_of(alloc, &index, number)?)
 }
 
-/// Whether these bytes stand, and no others.
-fn stands(shelf: &mut FolderShelf<MemFiles>, index: [u8; 16], bytes: &[u8]) -> Result<bool, Fail> {
-    match shelf.read(index, 7)? {
-        Some(found) => Ok(found.as_slice() == bytes),
-        None => Ok(false),
+/// The bytes of the storage index and the number that a name says, `none` where it is none.
+fn names_share(alloc: Global, case: &Case<'_>) -> Result<String, NoAnswer> {
+    let Ok(name) = String::from_utf8(case.bytes(alloc, 2)?) else {
+        return Err(NoAnswer::Word(2));
+    };
+    let Some(share) = read_name(alloc, &name)? else {
+        return fixed(alloc, "none");
+    };
+    let index = hex::encode(alloc, share.0.as_slice())?;
+    let number = share.1;
+    Ok(format!(in alloc; "{index} {number}")?)
+}
+
+/// The seal of bytes in hexadecimal digits.
+fn seal(alloc: Global, case: &Case<'_>) -> Result<String, NoAnswer> {
+    let bytes = case.bytes(alloc, 2)?;
+    let seal = seal_of(&bytes);
+    Ok(hex::encode(alloc, seal.as_slice())?)
+}
+
+/// The text of settings in hexadecimal digits.
+fn settings(alloc: Global, case: &Case<'_>) -> Result<String, NoAnswer> {
+    let settings = settings_at(alloc, case, 2)?;
+    let text = settings_text(alloc, &settings)?;
+    Ok(hex::encode(alloc, text.as_slice())?)
+}
+
+/// Whether settings are read of a text.
+fn reads_settings(alloc: Global, case: &Case<'_>) -> Result<String, NoAnswer> {
+    let text = case.bytes(alloc, 2)?;
+    let settings = settings_at(alloc, case, 3)?;
+    let read = read_settings(alloc, &text)?;
+    debug(alloc, &(read == Some(settings)))
+}
+
+/// The answer to a case of the file system.
+fn on_files(alloc: Global, held: &mut Option<Folder>, case: &Case<'_>) -> Result<String, NoAnswer> {
+    if case.word(1)? == "new" {
+        let files = MemFiles::new(alloc)?;
+        *held = Some(Folder { files, shelf: None });
+        return fixed(alloc, "ok");
+    }
+    match held {
+        Some(folder) => asked(alloc, folder, case),
+        None => Err(NoAnswer::Question),
+    }
+}
+
+/// The answer of a file system or of the shelf.
+fn asked(alloc: Global, folder: &mut Folder, case: &Case<'_>) -> Result<String, NoAnswer> {
+    match case.word(1)? {
+        "crash" => done(alloc, folder.files.crash()),
+        "write" => write(alloc, &folder.files, case),
+        "stands" => {
+            let found = fs::metadata(&folder.files, case.word(2)?);
+            debug(alloc, &found.is_ok())
+        }
+        "open" => open(alloc, folder, case),
+        _ => match &mut folder.shelf {
+            Some(shelf) => of_shelf(alloc, shelf, case),
+            None => Err(NoAnswer::Question),
+        },
     }
 }
 
 /// Writes a file that is none of the shelf's.
-fn write(files: &MemFiles, path: &str, bytes: &[u8]) -> io::Result<()> {
-    fs::write(files, path, bytes)
+fn write(alloc: Global, files: &MemFiles, case: &Case<'_>) -> Result<String, NoAnswer> {
+    let path = case.word(2)?;
+    let bytes = case.bytes(alloc, 3)?;
+    done(alloc, fs::write(files, path, &bytes))
 }
 
-#[test]
-fn names_of_another_program(rt: HostRuntime) -> Result<(), Fail> {
-    // Python's base64, in lower case and without padding
-    for (first, number, name) in [
-        (0, 10, "aaaqeayeaudaocajbifqydiob4.10"),
-        (200, 0, "zde4vs6mzxhm7ugr2lj5jvow24.0"),
-        (240, 65535, "6dy7f47u6x3pp6hz7l57z7p674.65535"),
-    ] {
-        let index = index_from(first);
-        assert_eq!(rt; name_of(rt.alloc(), &index, number)?.as_str(), name);
-        let Some(read) = read_name(rt.alloc(), name)? else {
-            return Err(Fail::from("the name is not read"));
-        };
-        assert_eq!(rt; read.0.as_slice(), index.as_slice());
-        assert_eq!(rt; read.1, number);
-    }
-    for name in [
-        "",
-        ".5",
-        "grid",
-        "aaaqeayeaudaocajbifqydiob4",
-        "aaaqeayeaudaocajbifqydiob4.",
-        "aaaqeayeaudaocajbifqydiob4.05",
-        "aaaqeayeaudaocajbifqydiob4.+5",
-        "aaaqeayeaudaocajbifqydiob4.65536",
-        "aaaqeayeaudaocajbifqydiob4.5.5",
-        "AAAQEAYEAUDAOCAJBIFQYDIOB4.5",
-        "aaaqeayeaudaocajbifqydio.5",
-    ] {
-        assert!(rt; read_name(rt.alloc(), name)?.is_none(), "at {name}");
-    }
-    Ok(())
-}
-
-#[test]
-fn texts_of_another_program(rt: HostRuntime) -> Result<(), Fail> {
-    // Python's hashlib and struct
-    assert_eq!(rt;
-        seal_of(b"a share").as_slice(),
-        [0x2d, 0xf2, 0x15, 0x8d, 0x77, 0x6c, 0x94, 0x55].as_slice()
-    );
-    let text = hex::decode(
-        rt.alloc(),
-        "776f7a68696e6e616d207368656c66310003000a0003000ac0c32dbfbb52c7b216395aa537ecfa83b70b1ffcf448a3a7a3dae22cc96ec4af3c06d00691624e29",
-    )?;
-    assert!(rt; settings_text(rt.alloc(), &settings())? == text);
-    assert!(rt; read_settings(rt.alloc(), &text)? == Some(settings()));
-    Ok(())
-}
-
-#[test]
-fn shares_outlive_a_crash(rt: HostRuntime) -> Result<(), Fail> {
-    let alloc = rt.alloc();
-    let files = MemFiles::new(alloc)?;
-    let (first, second) = (index_from(0), index_from(200));
-    let mut shelf = open(&files)?;
-    shelf.put(first, 7, share(alloc, b"one")?)?;
-    shelf.put(second, 7, share(alloc, b"two")?)?;
-    shelf.put(first, 7, share(alloc, &[5; 100])?)?;
-    shelf.remove(second, 7)?;
-    shelf.remove(second, 7)?;
-    shelf.put(second, 65535, share(alloc, b"three")?)?;
-    files.crash()?;
-    let mut shelf = open(&files)?;
-    let names = shelf.list(alloc)?;
-    assert_eq!(rt; names.len(), 2);
-    assert!(rt; stands(&mut shelf, first, &[5; 100])?);
-    assert!(rt; shelf.read(second, 7)?.is_none());
-    assert!(rt; shelf.rotten().is_empty());
-    assert!(rt; shelf.strangers().is_empty());
-    Ok(())
-}
-
-#[test]
-fn rotten_files_and_strangers_are_told(rt: HostRuntime) -> Result<(), Fail> {
-    let alloc = rt.alloc();
-    let files = MemFiles::new(alloc)?;
-    let index = index_from(0);
-    let mut shelf = open(&files)?;
-    shelf.put(index, 7, share(alloc, b"one")?)?;
-    write(&files, "/d/0/aaaqeayeaudaocajbifqydiob4.7", b"ane.........")?;
-    write(&files, "/d/0/notes", b"mine")?;
-    // the name of a share of another folder
-    write(&files, "/d/1/aaaqeayeaudaocajbifqydiob4.8", b"mine")?;
-    write(&files, "/d/new/unfinished", b"on")?;
-    let mut shelf = open(&files)?;
-    assert_eq!(rt; shelf.list(alloc)?.len(), 1);
-    assert_eq!(rt; shelf.strangers().len(), 2);
-    assert!(rt; shelf.read(index, 7)?.is_none());
-    assert_eq!(rt; shelf.rotten().len(), 1);
-    assert!(rt; fs::metadata(&files, "/d/new/unfinished").is_err());
-    Ok(())
-}
-
-/// Puts a share in the place of another while a call fails, and crashes. Whether the call was answered, and whether
-/// what stands after it is as it has to be.
-fn put_with_failure(alloc: Global, calls: u64) -> Result<(bool, bool), Fail> {
-    let files = MemFiles::new(alloc)?;
-    let index = index_from(0);
-    let mut shelf = open(&files)?;
-    shelf.put(index, 7, share(alloc, b"before")?)?;
-    files.fail_after(calls)?;
-    let done = shelf.put(index, 7, share(alloc, b"after")?).is_ok();
-    files.fail_after(u64::MAX)?;
-    files.crash()?;
-    let mut shelf = open(&files)?;
-    let after = stands(&mut shelf, index, b"after")?;
-    let before = stands(&mut shelf, index, b"before")?;
-    Ok((done, after || !done && before))
-}
-
-#[test]
-fn a_put_is_done_or_not(rt: HostRuntime) -> Result<(), Fail> {
-    let mut refused = 0u64;
-    for calls in 0..12 {
-        let (done, right) = put_with_failure(rt.alloc(), calls)?;
-        assert!(rt; right, "after {calls} calls");
-        if !done {
-            refused = calls;
+/// Opens the shelf in the folder at place 2, with the settings behind it.
+fn open(alloc: Global, folder: &mut Folder, case: &Case<'_>) -> Result<String, NoAnswer> {
+    let path = case.word(2)?;
+    let settings = settings_at(alloc, case, 3)?;
+    let files = folder.files.clone()?;
+    match FolderShelf::open(files, path, &settings, true) {
+        Ok(shelf) => {
+            folder.shelf = Some(shelf);
+            fixed(alloc, "ok")
         }
+        Err(fault) => debug(alloc, &fault),
     }
-    assert!(rt; refused >= 4 && refused < 11);
-    Ok(())
 }
 
-#[test]
-fn an_open_that_fails_can_be_tried_again(rt: HostRuntime) -> Result<(), Fail> {
-    for calls in 0..100 {
-        let files = MemFiles::new(rt.alloc())?;
-        files.fail_after(calls)?;
-        let _opened = FolderShelf::open(files.clone()?, "/d", &settings(), true).is_ok();
-        files.fail_after(u64::MAX)?;
-        files.crash()?;
-        assert!(rt;
-            FolderShelf::open(files.clone()?, "/d", &settings(), true).is_ok(),
-            "after {calls} calls"
-        );
+/// The answer of the shelf. `of` makes calls of shares under the index from the byte at place 2 on.
+fn of_shelf(
+    alloc: Global,
+    shelf: &mut FolderShelf<MemFiles>,
+    case: &Case<'_>,
+) -> Result<String, NoAnswer> {
+    match case.word(1)? {
+        "of" => {
+            let index = index_from(case.byte(2)?);
+            calls(alloc, shelf, index, case, 3)
+        }
+        "rotten" => debug(alloc, &shelf.rotten().len()),
+        "strangers" => debug(alloc, &shelf.strangers().len()),
+        _ => Err(NoAnswer::Question),
     }
-    Ok(())
-}
-
-/// Why a folder is refused.
-fn refusal(
-    files: &MemFiles,
-    folder: &str,
-    settings: &Settings,
-) -> Result<Option<FolderFault>, Fail> {
-    Ok(FolderShelf::open(files.clone()?, folder, settings, true).err())
-}
-
-#[test]
-fn folders_of_others_are_refused(rt: HostRuntime) -> Result<(), Fail> {
-    let files = MemFiles::new(rt.alloc())?;
-    write(&files, "/d/file", b"mine")?;
-    assert_eq!(rt;
-        refusal(&files, "/d", &settings())?,
-        Some(FolderFault::NoSettings)
-    );
-    assert_eq!(rt;
-        refusal(&files, "/d/file", &settings())?,
-        Some(FolderFault::NotAFolder)
-    );
-    assert_eq!(rt;
-        refusal(&files, "/d/e/f", &settings())?,
-        Some(FolderFault::NotThere)
-    );
-    assert_eq!(rt; refusal(&files, "/d/e", &settings())?, None);
-    for (other, fault) in [
-        (
-            Settings::new(4, 10, 3, 10, b"swordfish"),
-            FolderFault::OtherPlace(3),
-        ),
-        (
-            Settings::new(3, 11, 3, 10, b"swordfish"),
-            FolderFault::OtherGrid,
-        ),
-        (
-            Settings::new(3, 10, 4, 10, b"swordfish"),
-            FolderFault::OtherGrid,
-        ),
-        (
-            Settings::new(3, 10, 3, 11, b"swordfish"),
-            FolderFault::OtherGrid,
-        ),
-        (
-            Settings::new(3, 10, 3, 10, b"other"),
-            FolderFault::OtherGrid,
-        ),
-    ] {
-        assert_eq!(rt; refusal(&files, "/d/e", &other)?, Some(fault));
-    }
-    write(&files, "/d/e/grid", b"cut off")?;
-    assert_eq!(rt;
-        refusal(&files, "/d/e", &settings())?,
-        Some(FolderFault::SettingsRotten)
-    );
-    Ok(())
 }

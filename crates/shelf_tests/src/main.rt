@@ -1,22 +1,30 @@
-//! Tests of shelves, and of stores that stand on them, over the public calls of their crates. The gate proves a crate
-//! with tests twice, with them and without, so they stand in a crate of their own. The program itself does nothing.
+//! Tests of shelves, and of stores that stand on them, over the public calls of their crates: the program answers the cases
+//! on its standard input (README.md says which there are).
 #![tactic(auto)]
 
+/// What the cases are about.
+mod bench;
 /// Folders of files as shelves.
-#[cfg(test)]
 mod folders;
 /// Stores in memory with a shelf beside them.
-#[cfg(test)]
 mod kept_stores;
 /// Shelves on a Redis server.
-#[cfg(test)]
 mod redis_shelves;
+/// Calls of shelves.
+mod shelf_calls;
 /// Stores whose bytes are on a shelf.
-#[cfg(test)]
 mod shelf_stores;
-/// Shelves.
-#[cfg(test)]
+/// Shelves in memory.
 mod shelves;
+/// Calls of stores.
+mod store_calls;
+/// Answers as text.
+mod texts;
 
-/// Nothing: the tests are all that this crate has.
-fn main() {}
+use bench::Bench;
+use case_lines::{CaseFault, run_cases};
+
+/// Answers the cases on standard input.
+fn main(rt: HostRuntime) -> Result<(), CaseFault> {
+    run_cases(&rt, &mut Bench::new())
+}

@@ -1,77 +1,92 @@
-//! What no clause says: that each call succeeds, and what a call that fails leaves.
-ghost use Rattle.std.specs.Prelude.{◌<◌, IfOk, length as length_of};
-ghost use Rattle.std.specs.Rc.{rc_slice_items};
-
-use share_shelf::{FailShelf, MemShelf, Shelf, ShelfFault};
+//! A shelf in memory that may fail: what each call gives, and what a call that fails or a crash leaves.
+use crate::shelf_calls::{calls, count};
+use crate::texts::{debug, fixed};
+use case_lines::{Case, NoAnswer};
+use share_shelf::{FailShelf, MemShelf};
 use std::alloc::Global;
-use std::rc::RcSlice;
-use std::test::Fail;
 
-const INDEX: [u8; 16] = [7; 16];
+/// The storage index of all shares of shelves in memory and of stores.
+pub const INDEX: [u8; 16] = [7; 16];
 
-fn share(alloc: Global, byte: u8) -> Result<RcSlice<u8>, Fail>
-    ensures { IfOk result (λ share. 0 < length_of (rc_slice_items share)) }
-{
-    Ok(RcSlice::from_vec(vec![in alloc; byte; 3usize]?)?)
+/// At which call a shelf fails, from 1 (none where it is 0), whether for good, and whether a change that fails is done.
+pub fn failure_at(case: &Case<'_>, at: usize) -> Result<(u64, bool, bool), NoAnswer> {
+    let call = case.number(at)?;
+    let for_good = case.word(at.saturating_add(1))? == "for-good";
+    let is_done = case.word(at.saturating_add(2))? == "done";
+    Ok((call, for_good, is_done))
 }
 
-#[test]
-fn a_shelf_gives_what_it_was_told_and_what_each_crash_left(rt: HostRuntime) -> Result<(), Fail> {
-    let alloc = rt.alloc();
-    let mut shelf = MemShelf::new(alloc);
-    for (number, byte) in [(3u16, 1u8), (2, 2), (3, 4)] {
-        assert!(rt; shelf.put(INDEX, number, share(alloc, byte)?).is_ok());
+/// What a crash after a moment leaves of a shelf, the moment at a place.
+pub fn left_at(
+    alloc: Global,
+    shelf: &FailShelf,
+    case: &Case<'_>,
+    at: usize,
+) -> Result<MemShelf, NoAnswer> {
+    let moment = case.number(at)? as usize;
+    let inner = shelf.inner();
+    if moment <= inner.moment() {
+        return Ok(inner.left_at(alloc, moment)?);
     }
-    assert!(rt; shelf.remove(INDEX, 2).is_ok());
-    assert!(rt; shelf.remove(INDEX, 9).is_ok());
-    assert!(rt; shelf.read(INDEX, 2).ok().ok_or("not read")?.is_none());
-    let bytes = shelf
-        .read(INDEX, 3)
-        .ok()
-        .ok_or("not read")?
-        .ok_or("nothing stands")?;
-    assert_eq!(rt; bytes.as_slice(), [4, 4, 4].as_slice());
-    assert_eq!(rt; shelf.moment(), 5);
-    for (moment, wanted) in [(0usize, 0usize), (1, 1), (2, 2), (3, 2), (4, 1), (5, 1)] {
-        if moment <= shelf.moment() {
-            let mut left = shelf.left_at(alloc, moment)?;
-            let names = left.list(alloc).ok().ok_or("not listed")?;
-            assert_eq!(rt; names.len(), wanted, "at {moment}");
+    Err(NoAnswer::Word(at))
+}
+
+/// What a crash now leaves of a shelf.
+pub fn left_now(alloc: Global, shelf: &Option<FailShelf>) -> Result<MemShelf, NoAnswer> {
+    match shelf {
+        Some(shelf) => {
+            let inner = shelf.inner();
+            Ok(inner.left_at(alloc, inner.moment())?)
         }
+        None => Err(NoAnswer::Question),
     }
-    Ok(())
 }
 
-#[test]
-fn a_shelf_that_fails_has_done_a_change_or_not(rt: HostRuntime) -> Result<(), Fail> {
-    let alloc = rt.alloc();
-    for (for_good, is_done) in [(false, false), (false, true), (true, false), (true, true)] {
-        let mut shelf = FailShelf::new(MemShelf::new(alloc), 2, for_good, is_done);
-        assert!(rt; shelf.put(INDEX, 0, share(alloc, 1)?).is_ok());
-        assert!(rt; shelf.put(INDEX, 1, share(alloc, 1)?) == Err(ShelfFault::Failed));
-        let again = shelf.list(alloc);
-        assert_eq!(rt; again.is_err(), for_good);
-        let mut left = shelf.into_inner();
-        let names = left.list(alloc).ok().ok_or("not listed")?;
-        assert_eq!(rt; names.len(), if is_done { 2 } else { 1 });
-    }
-    Ok(())
+/// A shelf in memory that holds nothing and fails as is said from place 2 on.
+fn made(alloc: Global, case: &Case<'_>) -> Result<FailShelf, NoAnswer> {
+    let (at, for_good, is_done) = failure_at(case, 2)?;
+    Ok(FailShelf::new(MemShelf::new(alloc), at, for_good, is_done))
 }
 
-#[test]
-fn each_call_of_a_shelf_may_fail(rt: HostRuntime) -> Result<(), Fail> {
-    let alloc = rt.alloc();
-    for call in 0..4u8 {
-        let mut shelf = FailShelf::new(MemShelf::new(alloc), 1, false, false);
-        for failed in [true, false] {
-            let refused = match call {
-                0 => shelf.list(alloc).is_err(),
-                1 => shelf.read(INDEX, 0).is_err(),
-                2 => shelf.put(INDEX, 0, share(alloc, 1)?).is_err(),
-                _ => shelf.remove(INDEX, 0).is_err(),
-            };
-            assert_eq!(rt; refused, failed, "call {call}");
+/// The answer to a case of the shelf in memory.
+pub fn answer(
+    alloc: Global,
+    held: &mut Option<FailShelf>,
+    case: &Case<'_>,
+) -> Result<String, NoAnswer> {
+    match case.word(1)? {
+        "new" => {
+            *held = Some(made(alloc, case)?);
+            fixed(alloc, "ok")
         }
+        "inner" => inner(alloc, held.take()),
+        _ => match held {
+            Some(shelf) => asked(alloc, shelf, case),
+            None => Err(NoAnswer::Question),
+        },
     }
-    Ok(())
+}
+
+/// How many shares a shelf holds under the failures, which is taken from the bench.
+fn inner(alloc: Global, held: Option<FailShelf>) -> Result<String, NoAnswer> {
+    let Some(shelf) = held else {
+        return Err(NoAnswer::Question);
+    };
+    let mut inner = shelf.into_inner();
+    count(alloc, &mut inner)
+}
+
+/// The answer of the shelf.
+fn asked(alloc: Global, shelf: &mut FailShelf, case: &Case<'_>) -> Result<String, NoAnswer> {
+    match case.word(1)? {
+        "moment" => debug(alloc, &shelf.inner().moment()),
+        "left" => left(alloc, shelf, case),
+        _ => calls(alloc, shelf, INDEX, case, 1),
+    }
+}
+
+/// How many shares a crash after the moment at place 2 leaves.
+fn left(alloc: Global, shelf: &FailShelf, case: &Case<'_>) -> Result<String, NoAnswer> {
+    let mut left = left_at(alloc, shelf, case, 2)?;
+    count(alloc, &mut left)
 }

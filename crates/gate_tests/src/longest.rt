@@ -1,0 +1,51 @@
+//! A body of the longest length.
+
+use super::rows::{are_told, with_counted};
+use gate_core::Gateway;
+use share_store::MemStore;
+use std::test::Fail;
+
+/// The longest length of a body.
+const LONGEST: usize = 16_777_216;
+
+/// The request that puts so many bytes, up to its body, and the one that gets them by their cap.
+const PUT: &[u8] = b"PUT /uri HTTP/1.1\r\nHost: g\r\nContent-Length: 16777216\r\n\r\n";
+
+const GET: &[u8] =
+    b"GET /uri/URI:CHK:fvgi73cmksn74kqnzhwwxvi2qe:fneiwbdgii64e5vjqzro3d54mf7lxiz7pz47hcuper3ojjzpw2zq:3:10:16777216 HTTP/1.1\r\nHost: g\r\n\r\n";
+
+/// The cap as it is told, and the head of the file's reply.
+const STORED: &[u8] =
+    b"HTTP/1.1 200 OK\r\nContent-Type: text/plain; charset=utf-8\r\nContent-Length: 101\r\n\r\nURI:CHK:fvgi73cmksn74kqnzhwwxvi2qe:fneiwbdgii64e5vjqzro3d54mf7lxiz7pz47hcuper3ojjzpw2zq:3:10:16777216";
+
+const FOUND: &[u8] =
+    b"HTTP/1.1 200 OK\r\nContent-Type: application/octet-stream\r\nContent-Length: 16777216\r\n\r\n";
+
+/// The request that puts a byte more, and its reply.
+const PUT_MORE: &[u8] = b"PUT /uri HTTP/1.1\r\nHost: g\r\nContent-Length: 16777217\r\n\r\n";
+
+const TOO_LONG: &[u8] =
+    b"HTTP/1.1 413 Content Too Large\r\nContent-Type: text/plain; charset=utf-8\r\nContent-Length: 14\r\nConnection: close\r\n\r\nbody too long\n";
+
+#[test]
+fn a_body_of_the_limit_is_stored(rt: HostRuntime) -> Result<(), Fail> {
+    let alloc = rt.alloc();
+    let request = with_counted(alloc, PUT, LONGEST)?;
+    let found = with_counted(alloc, FOUND, LONGEST)?;
+    let mut stores = Vec::new(alloc);
+    stores.push(MemStore::new(alloc, 60_000_000))?;
+    let mut gateway = Gateway::new(alloc, 3, 10, stores, b"")?;
+    is_kept(&mut gateway, &request, &found)
+}
+
+/// A body of the longest length comes in pieces of 65,536 bytes, and its file is found; one byte more is refused.
+fn is_kept(gateway: &mut Gateway<MemStore>, request: &[u8], found: &[u8]) -> Result<(), Fail> {
+    gateway.open(1, None)?;
+    for piece in request.chunks(65_536) {
+        gateway.bytes(1, piece)?;
+    }
+    are_told(
+        gateway,
+        &[(1, b"", STORED), (1, GET, found), (1, PUT_MORE, TOO_LONG)],
+    )
+}
