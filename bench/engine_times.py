@@ -1,0 +1,122 @@
+#!/usr/bin/env python3
+"""Times `wozhinnam serve` over Redis servers of this machine, beside redis-benchmark in the same minute: it is no test. It needs Linux, the built program,
+redis-server and redis-benchmark (apt-get install redis-server redis-tools).
+
+share   a put and a get of a file of 500,000 bytes at 1 of 1 over one server, less what they take over a store in memory, beside
+        `SET` and `GET` of as many bytes by redis-benchmark, one connection
+file    a put and a get of 4 MiB at 3 of 10 over five servers, and over stores in memory
+grid    files of 4 MiB, ten times as many bytes of shares as the program may have memory (ulimit -v), put, read and checked
+
+Servers keep their data in memory alone (no append-only file), so that the disk isn't timed.
+
+usage: bench/engine_times.py PROGRAM [share|file|grid ..]
+"""
+
+import os
+import re
+import resource
+import statistics
+import subprocess
+import sys
+import tempfile
+import time
+
+from engines import Engine
+from folders import Server
+
+TURNS = 40
+SHARE, FILE = 500_000, 4_194_304
+MEMORY = 256 << 20
+
+
+def median_of(turns, call):
+    times = []
+    for at in range(turns):
+        began = time.monotonic()
+        call(at)
+        times.append(time.monotonic() - began)
+    return statistics.median(times)
+
+
+def body(at, size):
+    return os.urandom(16) + bytes([at % 256]) * (size - 16)
+
+
+def timed(program, words, size, turns):
+    """The median seconds of a put and of a get."""
+    server = Server(program, words)
+    caps = []
+    put = median_of(turns, lambda at: caps.append(server.ask("PUT", "/uri", body(at, size)).decode()))
+    got = median_of(turns, lambda at: server.ask("GET", "/uri/" + caps[at]))
+    server.end()
+    return put, got
+
+
+def store(engine, at):
+    return ["--store", "redis:127.0.0.1:%d/%d" % (engine.port, at)]
+
+
+def benchmark(engine):
+    """The median seconds of SET and of GET of as many bytes as a share."""
+    text = subprocess.run(["redis-benchmark", "-p", str(engine.port), "-t", "set,get", "-d", str(SHARE), "-n", "400", "-c", "1", "--csv"],
+                          capture_output=True, text=True, check=True).stdout
+    rows = dict(re.findall(r'"(SET|GET)","([0-9.]+)"', text))
+    return 1 / float(rows["SET"]), 1 / float(rows["GET"])
+
+
+def share(program, engines):
+    one = ["--shares", "1,1"]
+    memory = timed(program, one + ["--store", "mem:1000000000"], SHARE, TURNS)
+    redis = timed(program, one + store(engines[0], 0), SHARE, TURNS)
+    plain = benchmark(engines[0])
+    for name, at in (("put", 0), ("get", 1)):
+        part = redis[at] - memory[at]
+        print("a %s of a share of %d bytes: %.2f ms beside %.2f ms by redis-benchmark: %.2f times (%.2f ms whole, %.2f in memory)" % (
+            name, SHARE, part * 1e3, plain[at] * 1e3, part / plain[at], redis[at] * 1e3, memory[at] * 1e3))
+
+
+def file(program, engines):
+    words = ["--shares", "3,10"]
+    memory = timed(program, words + ["--store", "mem:2000000000"] * 5, FILE, TURNS)
+    redis = timed(program, words + sum([store(engine, 10 + at) for at, engine in enumerate(engines)], []), FILE, TURNS)
+    for name, at in (("put", 0), ("get", 1)):
+        print("a %s of 4 MiB at 3 of 10 over five servers: %.1f ms, in memory %.1f ms: %.2f times" % (
+            name, redis[at] * 1e3, memory[at] * 1e3, redis[at] / memory[at]))
+
+
+def grid(program, engines):
+    limit = lambda: resource.setrlimit(resource.RLIMIT_AS, (MEMORY, MEMORY))
+    words = ["--shares", "3,10"] + sum([store(engine, 20 + at) for at, engine in enumerate(engines)], [])
+    was = subprocess.Popen
+    subprocess.Popen = lambda *given, **named: was(*given, preexec_fn=limit, **named)
+    server = Server(program, words)
+    subprocess.Popen = was
+    count = 10 * MEMORY // (FILE * 10 // 3)
+    caps = [server.ask("PUT", "/uri", body(at, FILE)).decode() for at in range(count)]
+    most = server.memory("VmPeak")
+    for at in range(0, count, 7):
+        if len(server.ask("GET", "/uri/" + caps[at])) != FILE:
+            sys.exit("engine_times.py: other bytes")
+        if b'"healthy":true' not in server.ask("POST", "/uri/%s?t=check&output=JSON&verify=true" % caps[at], b""):
+            sys.exit("engine_times.py: not healthy")
+    print("%d files of 4 MiB, %d bytes of shares, under a limit of %d bytes: %d bytes of address space at most, %d resident" % (
+        count, count * FILE * 10 // 3, MEMORY, most, server.memory("VmHWM")))
+    server.end()
+
+
+def main():
+    program, *parts = sys.argv[1:]
+    with tempfile.TemporaryDirectory() as folder:
+        engines = [Engine(os.path.join(folder, "r%d" % at), durable=False) for at in range(5)]
+        for engine in engines:
+            engine.start()
+        try:
+            for part in parts or ("share", "file", "grid"):
+                {"share": share, "file": file, "grid": grid}[part](program, engines)
+        finally:
+            for engine in engines:
+                engine.kill()
+
+
+if __name__ == "__main__":
+    main()
