@@ -20,7 +20,7 @@ mod peer;
 mod table;
 /// The connections of a control listener.
 mod control;
-/// Telling of stores that failed.
+/// Telling of stores that fail, and of those that no longer do.
 mod watch;
 /// The loop.
 mod serving;
