@@ -1,14 +1,16 @@
 #!/usr/bin/env python3
 """Runs `wozhinnam serve` over five Redis servers that are killed, stopped and filled under four clients. bench/engines.sh runs it.
 
-A round: five servers run (append-only files, synced with each change), and the program is started over them, 3 of 10, two shares a server. Four clients
-upload files of random bytes, 60 to 200,000 of them, and read files of this round and of earlier ones. Meanwhile two servers are killed by kill -9 and started
-again at random moments, and a third is stopped (SIGSTOP) for some seconds; in the last rounds a fourth has no memory left
-(`maxmemory`). Two servers or more are left at any time, which hold four shares of each file. Then all run again, the program is started anew, and each file that
-was acknowledged in this round is read.
+A round: five servers run (append-only files, synced with each change), and the program is started over them, 3 of 10, two
+shares a server. Four clients upload files of random bytes, 60 to 200,000 of them, and read files of this round and of
+earlier ones. Meanwhile two servers are killed by kill -9 and started again at random moments, and a third is stopped
+(SIGSTOP) for some seconds; in the last rounds a fourth has no memory left
+(`maxmemory`). Two servers or more are left at any time, which hold four shares of each file. Once all run again an upload
+is to be taken within fifteen seconds, by the same program, unless one is full. Then the program is started anew, and each
+file that was acknowledged in this round is read.
 
-A read is to be answered 200 with the file's bytes. An upload is to be answered 200 or one of the two 503. All bytes that are compared were made here.
-The program takes uploads again after a server's fault only once it was started anew, so each round has some that are taken before its first kill, and refusals after it.
+A read is to be answered 200 with the file's bytes. An upload is to be answered 200 or one of the two 503. All bytes that
+are compared were made here.
 
 usage: bench/engines.py PROGRAM [--rounds N] [--seed SEED] [--time SECONDS]
 """
@@ -30,6 +32,7 @@ from kills import Client, Program, body_of
 
 CLIENTS = 4
 SERVERS = 5
+BACK = 15  # seconds
 REFUSALS = (b"store full\n", b"store down\n")
 SAID = {text.decode().strip() for text in REFUSALS}
 
@@ -103,7 +106,7 @@ class Trial:
         self.kept = []  # (cap, seed) of each upload that was answered
         self.lock = threading.Lock()
         self.count = {"uploads taken": 0, "refused: store down": 0, "refused: store full": 0, "reads": 0, "reads in trouble": 0,
-                      "kills": 0, "pauses": 0, "lost": 0, "other bytes": 0, "other faults": 0}
+                      "kills": 0, "pauses": 0, "came back": 0, "lost": 0, "other bytes": 0, "other faults": 0}
         self.running = None
 
     def words(self):
@@ -179,10 +182,27 @@ class Trial:
         third.resume()
         second.start()
 
+    def comes_back(self, number):
+        """Uploads until one is taken."""
+        client = Client(self.running.address)
+        until = time.monotonic() + BACK
+        while True:
+            before = len(self.kept)
+            self.upload(client, "%s back %d %f" % (self.options.seed, number, time.monotonic()))
+            if len(self.kept) > before:
+                self.add("came back")
+                break
+            if time.monotonic() > until:
+                self.add("other faults", "no upload is taken %d seconds after all servers run again" % BACK)
+                break
+            time.sleep(0.5)
+        client.close()
+
     def round(self, number):
         began = len(self.kept)
         self.start()
-        if number >= self.options.rounds - 2:
+        is_full = number >= self.options.rounds - 2
+        if is_full:
             self.engines[0].limit(1_000_000)
         trouble = threading.Event()
         until = time.monotonic() + self.options.time
@@ -192,6 +212,8 @@ class Trial:
         self.torment(self.random.sample(self.engines[1:], 3), trouble)
         for thread in threads:
             thread.join()
+        if not is_full:
+            self.comes_back(number)
         self.running.kill()
         self.start()
         client = Client(self.running.address)

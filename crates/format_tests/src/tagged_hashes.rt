@@ -56,7 +56,10 @@ fn hashed(alloc: Global, asked: &str, tag: &[u8], bytes: &[u8]) -> Result<String
 
 /// The hash of so many counted bytes.
 fn of_count(alloc: Global, case: &Case<'_>) -> Result<String, NoAnswer> {
-    let (tag, bytes) = (case.bytes(alloc, 2)?, counted_bytes(alloc, count(case, 3)?)?);
+    let (tag, bytes) = (
+        case.bytes(alloc, 2)?,
+        counted_bytes(alloc, count(case, 3)?)?,
+    );
     Ok(in_hex(alloc, &tagged(&tag, &bytes))?)
 }
 
@@ -72,7 +75,10 @@ fn of_two(alloc: Global, case: &Case<'_>) -> Result<String, NoAnswer> {
 
 /// The hash of so many counted bytes that are given in pieces of such a size.
 fn in_pieces(alloc: Global, case: &Case<'_>) -> Result<String, NoAnswer> {
-    let (tag, bytes) = (case.bytes(alloc, 2)?, counted_bytes(alloc, count(case, 3)?)?);
+    let (tag, bytes) = (
+        case.bytes(alloc, 2)?,
+        counted_bytes(alloc, count(case, 3)?)?,
+    );
     let mut hasher = TagHasher::new(&tag);
     for piece in bytes.chunks(count(case, 4)?.max(1)) {
         hasher.update(piece);

@@ -9,9 +9,7 @@ use log::{Log, info};
 use mio::net::TcpListener;
 use server_board::Board;
 use server_options::{Options, Refusal, Shares, Task, read_words};
-use server_stores::{
-    ProgramFault, ServerStore, check, handles, open_stores, restore, write_image,
-};
+use server_stores::{ProgramFault, ServerStore, check, handles, open_stores, restore, write_image};
 use share_store::Store;
 use std::alloc::Global;
 use std::fs::File;
