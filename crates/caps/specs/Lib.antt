@@ -1,4 +1,5 @@
 pub mod Fields
+pub mod Kinds
 pub mod CapTexts
 pub mod Beginnings
 pub mod Refusals

@@ -1,4 +1,6 @@
 //! Caps.
+ghost use Rattle.std.specs.Prelude.{◌≡◌};
+ghost use Rattle.caps.specs.Kinds.{is_verify_cap};
 
 use crate::fields::{ReadFields, VerifyFields};
 use octets::Bytes;
@@ -41,5 +43,15 @@ impl From<VerifyCap> for Cap {
         } else {
             Cap::ChkVerify(verify.fields)
         }
+    }
+}
+
+/// Whether a cap tells good shares from bad and reads nothing.
+pub fn is_verify_cap(cap: &Cap) -> bool
+    ensures { result ≡ is_verify_cap cap.now }
+{
+    match cap {
+        Cap::ChkVerify(_) | Cap::DirChkVerify(_) => true,
+        Cap::Chk(_) | Cap::Lit(_) | Cap::DirChk(_) | Cap::DirLit(_) => false,
     }
 }

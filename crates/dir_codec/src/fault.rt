@@ -1,5 +1,5 @@
 //! Why there is no directory.
-ghost use Rattle.std.specs.Prelude.{◌≡◌};
+ghost use Rattle.std.specs.Prelude.{◌≡◌, ◌↔◌, IsTrue};
 ghost use Rattle.dir_codec.specs.declared.fault.DirFault.TheVariants.{NoMemory};
 
 use caps::CapFault;
@@ -78,5 +78,18 @@ impl From<CapFault> for DirFault {
             CapFault::BadNumber => DirFault::BadCap,
             CapFault::NoMemory => DirFault::NoMemory,
         }
+    }
+}
+
+/// Whether a text was not read because memory was refused, and not for what it says.
+pub fn is_memory(fault: &DirFault) -> bool
+    ensures { IsTrue result ↔ (fault.now ≡ NoMemory) }
+{
+    match fault {
+        DirFault::NoMemory => true,
+        DirFault::Torn | DirFault::NotSorted | DirFault::BadName | DirFault::BadCap => false,
+        DirFault::NotImmutable | DirFault::WriteCap | DirFault::BadMetadata => false,
+        DirFault::NotJson | DirFault::BadShape | DirFault::SameName => false,
+        DirFault::FractionalNumber => false,
     }
 }

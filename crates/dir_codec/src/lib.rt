@@ -27,4 +27,4 @@ pub use decoder::decode;
 pub use directory::Directory;
 pub use encoder::encode;
 pub use entry::Entry;
-pub use fault::DirFault;
+pub use fault::{DirFault, is_memory};

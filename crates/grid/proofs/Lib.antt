@@ -16,6 +16,7 @@ pub mod ReadExact
 pub mod RowFacts
 pub mod RowLists
 pub mod RowPuts
+pub mod RowsWritten
 pub mod Raising
 pub mod StampLemmas
 pub mod Standing

@@ -19,6 +19,7 @@ pub mod Refusals
 pub mod RowOrder
 pub mod Rows
 pub mod RowsKept
+pub mod RowsWritten
 pub mod Stamped
 pub mod Stamps
 pub mod Standing

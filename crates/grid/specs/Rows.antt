@@ -7,6 +7,10 @@ use Rattle.grid.specs.Found.{entries_at}
 abbrev pub Row : Type 0
 Row = ℕ × Entry
 
+-- the rows of one of these maps
+abbrev pub rows_at : List Shares → ℕ → List Row
+rows_at maps n = map (λ e. (n, e)) (entries_at maps n)
+
 -- the rows of the first maps
 abbrev pub rows_below : List Shares → ℕ → List Row
 rows_below maps zero = []

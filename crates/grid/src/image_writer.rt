@@ -1,20 +1,22 @@
 //! Writing a grid's image.
-ghost use Rattle.std.specs.Prelude.{◌≡◌, ◌<◌, ◌≤◌, ◌^◌, ◌++◌, ◌∷◌, ℕ, List, map, All, IfOk, IfErr, IfSome, OnOk, OnErr, IsErrOf, slice_get, vec_len, Some, None};
+ghost use Rattle.std.specs.Prelude.{◌≡◌, ◌<◌, ◌^◌, ◌++◌, ◌∷◌, [], ℕ, List, IfOk, IfErr, OnOk, OnErr, IsErrOf, slice_get, Some};
 ghost use Rattle.std.specs.Prelude.{length as length_of};
+ghost use Rattle.std.specs.List.{flat_map};
 ghost use Rattle.std.specs.Option.{option_map};
 ghost use Rattle.std.specs.Rc.{rc_slice_items};
-ghost use Rattle.std.specs.Io.KnownBytes.{Appends, Keeps};
+ghost use Rattle.std.specs.Io.KnownBytes.{Appends};
 ghost use Rattle.share_store.specs.Stored.{entry_of};
 ghost use Rattle.grid.specs.Found.{entries_at};
 ghost use Rattle.grid.specs.Refusals.{IsWriteRefusal, IsLookRefusal};
-ghost use Rattle.grid.specs.GridState.{states, maps_of, room_at, failures_at, IsHonest, NoneFailed};
+ghost use Rattle.grid.specs.GridState.{maps_of, IsHonest};
 ghost use Rattle.grid.specs.Leaves.{Leaves, TellsDown, IsUnchanged};
-ghost use Rattle.grid.specs.Rows.{Row, rows_of};
+ghost use Rattle.grid.specs.Rows.{Row, rows_at, rows_of};
 ghost use Rattle.grid.specs.RowsKept.{row_of};
 ghost use Rattle.grid.specs.Layout.{be32, be64};
 ghost use Rattle.grid.specs.Image.{image, image_head, row_head, row_bytes, refused_field, refused_place};
 ghost use Rattle.grid.specs.ImageLaws.{CanBeWritten};
 ghost use Rattle.grid.specs.Written.{WritesBeginning};
+ghost use Rattle.grid.specs.RowsWritten.{AreWritten, WritesImage};
 ghost use Rattle.grid.specs.declared.image_layout.Layout.TheVariants.{VersionTwo};
 
 use crate::{Grid, GridFault};
@@ -26,25 +28,41 @@ use std::io::Write;
 /// How many calls of a writer or of a reader one image takes at most.
 pub const CALL_LIMIT: u64 = 1_099_511_627_776;
 
+/// How far an image was written.
+#[derive(Clone, Copy)]
+pub struct Progress {
+    /// How many calls of the writer are left.
+    pub calls: u64,
+    /// Where the next row is to stand, in bytes from 0.
+    pub place: u64,
+    /// How many rows are left of those that the image's front says.
+    pub left: u64,
+}
+
 impl<S: Store> Grid<S> {
     /// Writes the grid's image, in version 2: `TGRIDIM2`, the number of servers and of shares, and then each share with
     /// its server, its storage index, its number, its length and its bytes, server by server and in the order of each
     /// store. The number of shares and lengths have eight bytes and other numbers four, the highest first. Over honest
-    /// stores what was written is the image of what stands, and nothing changes.
+    /// stores what was written is the image of what stands, and nothing changes. Over any stores what was written is
+    /// the image of some shares, of as many as its number says.
     ///
-    /// Refused, where a beginning of the image may have been written:
-    /// - [`GridFault::Down`] exactly when that server's store failed; nothing is written then;
-    /// - [`GridFault::BadImage`] for a share's number above 255, with the place of that field, in bytes from 0;
+    /// The stores are gone over twice, first to count the shares and then to write them, and no more than one share's
+    /// bytes are held at a time. Refused, where nothing is written while shares are counted, and afterwards a beginning
+    /// of the image may have been written:
+    /// - [`GridFault::Down`] exactly when that server's store failed, the first or the second time;
+    /// - [`GridFault::BadImage`] for a share's number above 255, with the place of that field, in bytes from 0, or with
+    ///   the place 12, and nothing written, for more shares than 64 bits count;
     /// - [`GridFault::WriteFailed`] where the writer failed or took no byte, or after 2^40 calls of it, or where the image
-    ///   has more bytes than 64 bits count;
+    ///   has more bytes than 64 bits count, or where a store, which isn't honest then, gave another number of shares
+    ///   than were counted;
     /// - [`GridFault::NoMemory`].
     pub fn write_image<W: Write>(&mut self, writer: &mut W) -> Result<(), GridFault>
         ensures leaves { Leaves self.old self.new }
         ensures stamps { self.new.stamps ≡ self.old.stamps }
         ensures down { TellsDown self.old self.new result }
         ensures refusals { IfErr result IsWriteRefusal }
-        ensures unwritten { (s : ℕ) → IsErrOf result (GridFault.Down s) →
-            Keeps (W.contents writer.old) (W.contents writer.new) }
+        ensures counted { OnOk result (WritesImage (length_of self.old.stores)
+            (W.contents writer.old) (W.contents writer.new)) }
 
         ensures unchanged { IsHonest self.old → IsUnchanged self.old self.new }
         ensures ok { IsHonest self.old →
@@ -59,47 +77,124 @@ impl<S: Store> Grid<S> {
             OnErr result (WritesBeginning (image (length_of self.old.stores) (rows_of (maps_of self.old)))
             (W.contents writer.old) (W.contents writer.new)) }
     {
-        let rows = self.rows()?;
         let mut head = Vec::new(*self.stores.allocator());
-        write_rows(writer, &mut head, self.servers() as u32, &rows)
+        let shares = self.count_shares()?;
+        put_image_head(&mut head, self.servers() as u32, shares)?;
+        let mut progress = Progress {
+            calls: CALL_LIMIT,
+            place: 20,
+            left: shares,
+        };
+        write_whole(writer, &head, &mut progress.calls)?;
+        self.write_rows(writer, &mut head, &mut progress)?;
+        if progress.left > 0 {
+            return Err(GridFault::WriteFailed);
+        }
+        Ok(())
     }
 
-    /// Every share with its server: server by server, in the order of each store. Bytes are lent without a copy.
-    fn rows(&mut self) -> Result<Vec<(u32, Share)>, GridFault>
+    /// How many shares the stores have, together. No share is held once it was counted. Refused with
+    /// [`GridFault::BadImage`] where 64 bits don't count them.
+    fn count_shares(&mut self) -> Result<u64, GridFault>
+        ensures leaves { Leaves self.old self.new }
+        ensures stamps { self.new.stamps ≡ self.old.stamps }
+        ensures down { TellsDown self.old self.new result }
+        ensures refusals { IfErr result IsWriteRefusal }
+        ensures unchanged { IsHonest self.old → IsUnchanged self.old self.new }
+        ensures bad_image { IsHonest self.old → (place : ℕ) →
+            IsErrOf result (GridFault.BadImage place) →
+            refused_place (rows_of (maps_of self.old)) ≡ Some place }
+        ensures found { IsHonest self.old →
+            IfOk result (λ count. count ≡ length_of (rows_of (maps_of self.old))) }
+    {
+        let mut count: u64 = 0;
+        for server in 0..self.servers() {
+            let here = self.count_at(server)?;
+            let Some(more) = count.checked_add(here) else {
+                return Err(GridFault::BadImage(12));
+            };
+            count = more;
+        }
+        Ok(count)
+    }
+
+    /// How many shares one server's store has.
+    fn count_at(&mut self, server: usize) -> Result<u64, GridFault>
+        requires { server < length_of self.old.stores }
         ensures leaves { Leaves self.old self.new }
         ensures stamps { self.new.stamps ≡ self.old.stamps }
         ensures down { TellsDown self.old self.new result }
         ensures refusals { IfErr result IsLookRefusal }
         ensures unchanged { IsHonest self.old → IsUnchanged self.old self.new }
-        ensures some { IsHonest self.old → (s : ℕ) →
-            All (λ e. 0 < length_of e.1) (entries_at (maps_of self.old) s) }
         ensures found { IsHonest self.old →
-            IfOk result (λ rows. map row_of rows.items ≡ rows_of (maps_of self.old)) }
+            IfOk result (λ count. count ≡ length_of (entries_at (maps_of self.old) server)) }
     {
-        let mut rows = Vec::new(*self.stores.allocator());
-        for server in 0..self.servers() {
-            self.add_rows(server, &mut rows)?;
+        for at in 0..u64::MAX {
+            match self.share_at(server, at)? {
+                None => return Ok(at),
+                Some(_counted) => {}
+            }
         }
-        Ok(rows)
+        Ok(u64::MAX)
     }
 
-    /// Adds the shares of one server.
-    fn add_rows(&mut self, server: usize, rows: &mut Vec<(u32, Share)>) -> Result<(), GridFault>
+    /// Writes each share's row: server by server, in the order of each store, each as soon as it was read.
+    fn write_rows<W: Write>(
+        &mut self,
+        writer: &mut W,
+        head: &mut Vec<u8>,
+        progress: &mut Progress,
+    ) -> Result<(), GridFault>
+        ensures leaves { Leaves self.old self.new }
+        ensures stamps { self.new.stamps ≡ self.old.stamps }
+        ensures down { TellsDown self.old self.new result }
+        ensures refusals { IfErr result IsWriteRefusal }
+        ensures unchanged { IsHonest self.old → IsUnchanged self.old self.new }
+        ensures ok { OnOk result ((rows : List Row)
+            × AreWritten progress.old progress.new (W.contents writer.old) (W.contents writer.new) rows
+            × (IsHonest self.old → rows ≡ rows_of (maps_of self.old))) }
+        ensures bad_image { IsHonest self.old → (place : ℕ) →
+            IsErrOf result (GridFault.BadImage place) →
+            refused_field progress.old.place (rows_of (maps_of self.old)) ≡ Some place }
+        ensures err { IsHonest self.old → OnErr result (WritesBeginning
+            (flat_map (row_bytes VersionTwo) (rows_of (maps_of self.old)))
+            (W.contents writer.old) (W.contents writer.new)) }
+    {
+        for server in 0..self.servers() {
+            self.write_server(writer, head, progress, server)?;
+        }
+        Ok(())
+    }
+
+    /// Writes the rows of one server's shares.
+    fn write_server<W: Write>(
+        &mut self,
+        writer: &mut W,
+        head: &mut Vec<u8>,
+        progress: &mut Progress,
+        server: usize,
+    ) -> Result<(), GridFault>
         requires some { server < length_of self.old.stores }
         requires small { server < 256 }
         ensures leaves { Leaves self.old self.new }
         ensures stamps { self.new.stamps ≡ self.old.stamps }
         ensures down { TellsDown self.old self.new result }
-        ensures refusals { IfErr result IsLookRefusal }
+        ensures refusals { IfErr result IsWriteRefusal }
         ensures unchanged { IsHonest self.old → IsUnchanged self.old self.new }
-        ensures found { IsHonest self.old →
-            OnOk result (map row_of rows.new.items ≡ map row_of rows.old.items
-            ++ map (λ e. (server, e)) (entries_at (maps_of self.old) server)) }
+        ensures ok { OnOk result ((rows : List Row)
+            × AreWritten progress.old progress.new (W.contents writer.old) (W.contents writer.new) rows
+            × (IsHonest self.old → rows ≡ rows_at (maps_of self.old) server)) }
+        ensures bad_image { IsHonest self.old → (place : ℕ) →
+            IsErrOf result (GridFault.BadImage place) → (more : List Row) →
+            refused_field progress.old.place (rows_at (maps_of self.old) server ++ more) ≡ Some place }
+        ensures err { IsHonest self.old → OnErr result (WritesBeginning
+            (flat_map (row_bytes VersionTwo) (rows_at (maps_of self.old) server))
+            (W.contents writer.old) (W.contents writer.new)) }
     {
         for at in 0..u64::MAX {
             match self.share_at(server, at)? {
                 None => return Ok(()),
-                Some(share) => rows.push((server as u32, share))?,
+                Some(share) => write_row(writer, head, progress, server as u32, &share)?,
             }
         }
         Ok(())
@@ -128,71 +223,43 @@ impl<S: Store> Grid<S> {
     }
 }
 
-/// Writes the image of these rows.
-fn write_rows<W: Write>(
+/// Writes one share's row, where one is left to be written.
+fn write_row<W: Write>(
     writer: &mut W,
     head: &mut Vec<u8>,
-    servers: u32,
-    rows: &[(u32, Share)],
+    progress: &mut Progress,
+    server: u32,
+    share: &Share,
 ) -> Result<(), GridFault>
     ensures refusals { IfErr result IsWriteRefusal }
     ensures not_down { (s : ℕ) → IsErrOf result (GridFault.Down s) → ⊥ }
-    ensures ok { OnOk result (Appends (W.contents writer.old) (W.contents writer.new)
-        (image servers (map row_of rows.now))) }
-    ensures fits { OnOk result (refused_place (map row_of rows.now) ≡ None) }
-    ensures sized { OnOk result (All (λ row. length_of row.1.0.0 ≡ 16) (map row_of rows.now)) }
-    ensures short { OnOk result (All (λ row. length_of row.1.1 < 2 ^ 64) (map row_of rows.now)) }
+    ensures ok { OnOk result (AreWritten progress.old progress.new
+        (W.contents writer.old) (W.contents writer.new) (row_of (server, share.now) ∷ [])) }
     ensures bad_image { (place : ℕ) → IsErrOf result (GridFault.BadImage place) →
-        refused_place (map row_of rows.now) ≡ Some place }
-    ensures err { OnErr result (WritesBeginning (image servers (map row_of rows.now))
-        (W.contents writer.old) (W.contents writer.new)) }
-{
-    let mut calls = CALL_LIMIT;
-    put_image_head(head, servers, rows.len() as u64)?;
-    write_whole(writer, head, &mut calls)?;
-    let mut place = 20;
-    for (server, share) in rows {
-        place = write_row(writer, &mut calls, head, *server, share, place)?;
-    }
-    Ok(())
-}
-
-/// Writes one share's row, which stands at this place, and says where the next one would.
-fn write_row<W: Write>(
-    writer: &mut W,
-    calls: &mut u64,
-    head: &mut Vec<u8>,
-    server: u32,
-    share: &Share,
-    place: u64,
-) -> Result<u64, GridFault>
-    ensures refusals { IfErr result IsWriteRefusal }
-    ensures not_down { (s : ℕ) → IsErrOf result (GridFault.Down s) → ⊥ }
-    ensures ok { OnOk result (Appends (W.contents writer.old) (W.contents writer.new)
-        (row_bytes VersionTwo (row_of (server, share.now)))) }
-    ensures sized { OnOk result (length_of share.now.index ≡ 16) }
-    ensures short { length_of (rc_slice_items share.now.bytes) < 2 ^ 64 }
-    ensures next { IfOk result (λ next. (rows : List Row) →
-        refused_field place (row_of (server, share.now) ∷ rows) ≡ refused_field next rows) }
-    ensures bad_image { (p : ℕ) → IsErrOf result (GridFault.BadImage p) →
-        (rows : List Row) → refused_field place (row_of (server, share.now) ∷ rows) ≡ Some p }
+        (more : List Row) →
+        refused_field progress.old.place (row_of (server, share.now) ∷ more) ≡ Some place }
     ensures err { OnErr result (WritesBeginning (row_bytes VersionTwo (row_of (server, share.now)))
         (W.contents writer.old) (W.contents writer.new)) }
 {
     let length = share.bytes.len() as u64;
-    let Some(bytes_place) = place.checked_add(32) else {
+    if progress.left == 0 {
+        return Err(GridFault::WriteFailed);
+    }
+    let Some(bytes_place) = progress.place.checked_add(32) else {
         return Err(GridFault::WriteFailed);
     };
     if share.number > 255 {
-        return Err(GridFault::BadImage(place + 20));
+        return Err(GridFault::BadImage(progress.place + 20));
     }
     let Some(next) = bytes_place.checked_add(length) else {
         return Err(GridFault::WriteFailed);
     };
     put_row_head(head, server, share, length)?;
-    write_whole(writer, head, calls)?;
-    write_whole(writer, share.bytes.as_slice(), calls)?;
-    Ok(next)
+    write_whole(writer, head, &mut progress.calls)?;
+    write_whole(writer, share.bytes.as_slice(), &mut progress.calls)?;
+    progress.place = next;
+    progress.left -= 1;
+    Ok(())
 }
 
 /// Makes the bytes at the front of an image.

@@ -19,7 +19,8 @@ use Rattle.http_edge.specs.declared.verdict.Verdict.{Verdict}
 use Rattle.http_edge.specs.declared.verdict.Verdict.TheVariants.{Taken, InChunks, Refused}
 use Rattle.http_edge.specs.declared.verdict.Chunked.{Chunked}
 use Rattle.http_edge.specs.Block.{head_of}
-use Rattle.http_edge.specs.Judge.{field_of, head_parts, eq_ignore_case, has_good_hosts, count_named, is_head_only, is_length, is_coding, most_body_bytes, length_of, length_by, body_length, Framing, counted, chunked, counted_by, framing_one, framing_by, body_framing, with_framing, checked, verdict_of, within_limit, judged, request, request_of}
+use Rattle.octets.specs.Case.{eq_ignore_case}
+use Rattle.http_edge.specs.Judge.{field_of, head_parts, has_good_hosts, count_named, is_head_only, is_length, is_coding, most_body_bytes, length_of, length_by, body_length, Framing, counted, chunked, counted_by, framing_one, framing_by, body_framing, with_framing, checked, verdict_of, within_limit, judged, request, request_of}
 use Rattle.http_edge.specs.Read.{IsRead}
 use Rattle.http_edge.proofs.BlockLemmas.{head_of_reads}
 

@@ -1,11 +1,12 @@
 -- What a head block comes to: a request that its body completes, or a framing fault (RFC 9112, sections 3.2, 6.1, 6.2 and 9.3).
 use Rattle.std.specs.Prelude.{ℕ, Bool, true, false, ◌&&◌, ◌||◌, not, List, [], ◌∷◌, length, map, filter, count_by, if◌then◌else◌, ◌==◌, nat_lt, nat_le, Option, Some, None, Result, Ok, Err, bytes_eq, codes}
 use Rattle.std.specs.List.{list_any, list_all, slice_split}
-use Rattle.std.specs.Char.{to_ascii_lowercase, is_ascii_digit}
+use Rattle.std.specs.Char.{is_ascii_digit}
 use Rattle.std.specs.Str.Parse.{digits_value}
 use Rattle.httparse.specs.Ascii.{comma}
 use Rattle.httparse.specs.Grammar.{RequestHead, field_value, trim_ows}
 use Rattle.httparse.specs.Grammar as grammar
+use Rattle.octets.specs.Case.{eq_ignore_case}
 use Rattle.http_edge.specs.Block.{head_of}
 use Rattle.http_edge.specs.declared.field.Field.{Field}
 use Rattle.http_edge.specs.declared.item.Head.{Head}
@@ -45,10 +46,6 @@ field_of f = field_from (f.name, field_value f)
 
 abbrev pub head_parts : RequestHead → Head
 head_parts h = record { method = h.method; target = h.target; fields = map field_of h.fields }
-
--- equal but for the case of ASCII letters
-abbrev pub eq_ignore_case : List ℕ → List ℕ → Bool
-eq_ignore_case a b = bytes_eq (map to_ascii_lowercase a) (map to_ascii_lowercase b)
 
 -- how many fields have the name, in any case
 unfoldable pub count_named : List ℕ → List Field → ℕ

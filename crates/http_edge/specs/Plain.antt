@@ -2,7 +2,7 @@
 use Rattle.std.specs.Prelude.{ℕ, Bool, ◌&&◌, not, ◌==◌, codes, IsTrue}
 use Rattle.std.specs.List.{list_all}
 use Rattle.httparse.specs.Ascii.{line_feed, carriage_return}
-use Rattle.http_edge.specs.Judge.{eq_ignore_case}
+use Rattle.octets.specs.Case.{eq_ignore_case}
 use Rattle.http_edge.specs.declared.field.Field.{Field}
 
 -- neither CR nor LF

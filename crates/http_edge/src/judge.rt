@@ -1,58 +1,24 @@
 //! The checks of a head block.
-ghost use Rattle.std.specs.Prelude.{◌≡◌, ◌&&◌, ◌||◌, ◌==◌, true, length, reverse, count_by, nat_lt, nat_le, if◌then◌else◌, IfOk};
+ghost use Rattle.std.specs.Prelude.{◌≡◌, ◌&&◌, ◌||◌, ◌==◌, true, length, count_by, nat_lt, nat_le, if◌then◌else◌, IfOk};
 ghost use Rattle.std.specs.List.{list_any, list_all, find};
 ghost use Rattle.std.specs.Option.{option_copied};
 ghost use Rattle.std.specs.Char.{is_ascii_digit};
 ghost use Rattle.std.specs.Str.Parse.{digits_value};
-ghost use Rattle.httparse.specs.Grammar.{skip_ows, trim_ows};
-ghost use Rattle.http_edge.specs.Judge.{eq_ignore_case, count_named, lists_token, asks_close, asks_continue, is_length, is_coding, length_of, most_body_bytes, body_length, counted_by, framing_one, body_framing, framing_of, with_framing, awaited_so, checked, judged};
+ghost use Rattle.httparse.specs.Grammar.{trim_ows};
+ghost use Rattle.octets.specs.Case.{eq_ignore_case};
+ghost use Rattle.http_edge.specs.Judge.{count_named, lists_token, asks_close, asks_continue, is_length, is_coding, length_of, most_body_bytes, body_length, counted_by, framing_one, body_framing, framing_of, with_framing, awaited_so, checked, judged};
 
 use crate::field::Field;
 use crate::head::read_head;
 use crate::item::{FramingFault, Head};
 use crate::verdict::{Awaited, Chunked, Verdict};
-use httparse::is_space_or_tab;
+use octets::{is_all_digits, without_blanks};
 use std::alloc::{AllocError, Global};
 
 fn is_same(a: &[u8], b: &[u8]) -> bool
     ensures { result ≡ eq_ignore_case a.now b.now }
 {
     a.eq_ignore_ascii_case(b)
-}
-
-/// What stands behind the spaces and tabs in front.
-fn without_blanks_before(value: &[u8]) -> &[u8]
-    ensures { result.now ≡ skip_ows value.now }
-{
-    let mut rest = value;
-    while let Some((byte, behind)) = rest.split_first() {
-        if !is_space_or_tab(*byte) {
-            break;
-        }
-        rest = behind;
-    }
-    rest
-}
-
-/// What stands in front of the spaces and tabs at the end.
-fn without_blanks_behind(value: &[u8]) -> &[u8]
-    ensures { result.now ≡ reverse (skip_ows (reverse value.now)) }
-{
-    let mut rest = value;
-    while let Some((byte, before)) = rest.split_last() {
-        if !is_space_or_tab(*byte) {
-            break;
-        }
-        rest = before;
-    }
-    rest
-}
-
-/// A field line's value, or a piece of it, without the optional whitespace around it (RFC 9110, section 5.6.3).
-fn without_blanks(value: &[u8]) -> &[u8]
-    ensures { result.now ≡ trim_ows value.now }
-{
-    without_blanks_behind(without_blanks_before(value))
 }
 
 /// How many fields have the name, in any case.
@@ -114,7 +80,7 @@ fn first_length(fields: &[Field]) -> Option<&Field>
 fn is_number(value: &[u8]) -> bool
     ensures { result ≡ (nat_lt 0 (length value.now) && list_all is_ascii_digit value.now) }
 {
-    !value.is_empty() && value.iter().all(|b| b.is_ascii_digit())
+    !value.is_empty() && is_all_digits(value)
 }
 
 /// The number that the digits write, unless it is more than a body may have.

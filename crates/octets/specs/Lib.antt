@@ -3,3 +3,4 @@ pub mod Decimal
 pub mod Cut
 pub mod Written
 pub mod Counted
+pub mod Case

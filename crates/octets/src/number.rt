@@ -29,8 +29,8 @@ fn is_decimal_text(text: &[u8]) -> bool
     is_all_digits(text) && !text.is_empty() && (text.len() == 1 || text[0] != b'0')
 }
 
-/// Whether each byte is a digit.
-fn is_all_digits(text: &[u8]) -> bool
+/// Whether each byte is a decimal digit in ASCII, as of no bytes each is.
+pub fn is_all_digits(text: &[u8]) -> bool
     ensures { result ≡ list_all is_ascii_digit text.now }
 {
     text.iter().all(|byte| byte.is_ascii_digit())

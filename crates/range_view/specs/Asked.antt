@@ -1,31 +1,16 @@
 -- What the value of a Range field asks for (RFC 9110, sections 14.1.2 and 14.2).
-use Rattle.std.specs.Prelude.{ℕ, ◌+◌, ◌^◌, Bool, ◌&&◌, ◌||◌, not, ◌==◌, List, [], ◌∷◌, length, take, drop, map, reverse, min, if◌then◌else◌, Option, Some, None, option_map, option_and_then, position, bytes_eq, codes}
+use Rattle.std.specs.Prelude.{ℕ, ◌+◌, ◌^◌, Bool, ◌&&◌, ◌||◌, not, ◌==◌, List, [], ◌∷◌, length, take, drop, map, reverse, min, if◌then◌else◌, Option, Some, None, option_map, option_and_then, position, codes}
 use Rattle.std.specs.List.{list_all}
-use Rattle.std.specs.Char.{is_ascii_digit, to_ascii_lowercase}
+use Rattle.std.specs.Char.{is_ascii_digit}
 use Rattle.std.specs.Str.Parse.{digits_value}
+use Rattle.httparse.specs.Grammar.{trim_ows}
+use Rattle.octets.specs.Case.{eq_ignore_case}
 
 -- the places from `first` to `last`, those from `first` on, or the last `count`
 pub data Asked : Type 0 where
   FromTo : ℕ → ℕ → Asked
   From : ℕ → Asked
   Last : ℕ → Asked
-
--- a space or a tab
-abbrev pub is_blank : ℕ → Bool
-is_blank b = (b == 32) || (b == 9)
-
--- without the spaces and tabs at its beginning
-abbrev pub skip_blanks : List ℕ → List ℕ
-skip_blanks [] = []
-skip_blanks (b ∷ rest) = if is_blank b then skip_blanks rest else b ∷ rest
-
--- without the spaces and tabs at both ends
-abbrev pub trimmed : List ℕ → List ℕ
-trimmed text = reverse (skip_blanks (reverse (skip_blanks text)))
-
--- equal but for the case of ASCII letters
-abbrev pub eq_ignore_case : List ℕ → List ℕ → Bool
-eq_ignore_case a b = bytes_eq (map to_ascii_lowercase a) (map to_ascii_lowercase b)
 
 -- the one number that stands for each of 2^64 and more; it is greater than every size
 abbrev pub past : ℕ
@@ -62,4 +47,4 @@ set_of value = if eq_ignore_case (take 6 value) (codes "bytes=") then Some (drop
 
 -- what a value asks for: one range of bytes, or none that is known
 unfoldable pub asked : List ℕ → Option Asked
-asked text = option_and_then asked_of_set (set_of (trimmed text))
+asked text = option_and_then asked_of_set (set_of (trim_ows text))

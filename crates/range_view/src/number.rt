@@ -5,6 +5,7 @@ ghost use Rattle.std.specs.List.{list_all};
 ghost use Rattle.std.specs.Str.Parse.{digits_value};
 ghost use Rattle.range_view.specs.Asked.{number_of, past};
 
+use octets::is_all_digits;
 use std::marker::Model;
 
 /// A number, where all that fit no u64 count as one that is greater than those that do.
@@ -76,13 +77,6 @@ fn is_number(text: &[u8]) -> bool
     ensures { result ≡ (not (length text.now == 0) && list_all is_ascii_digit text.now) }
 {
     !text.is_empty() && is_all_digits(text)
-}
-
-/// Whether each byte is a digit.
-fn is_all_digits(text: &[u8]) -> bool
-    ensures { result ≡ list_all is_ascii_digit text.now }
-{
-    text.iter().all(|byte| byte.is_ascii_digit())
 }
 
 /// The number that digits write, unless it is past u64.

@@ -4,7 +4,8 @@ ghost use Rattle.range_view.specs.Asked.{asked_by, asked_of_set, FromTo, From, L
 ghost use Rattle.range_view.specs.Resolved.{answered, resolved};
 
 use crate::number::{Number, number_of};
-use crate::value::{cut_at_dash, set_of, trim};
+use crate::value::{cut_at_dash, set_of};
+use octets::without_blanks;
 
 /// What a Range field's value comes to for a file.
 #[derive(Clone, Copy, Debug, PartialEq, Eq)]
@@ -29,7 +30,7 @@ pub enum Resolved {
 pub fn resolve(text: &[u8], size: u64) -> Resolved
     ensures { result ≡ resolved text.now size }
 {
-    match set_of(trim(text)) {
+    match set_of(without_blanks(text)) {
         Some(set) => resolve_set(set, size),
         None => Resolved::Whole,
     }

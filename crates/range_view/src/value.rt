@@ -1,45 +1,7 @@
 //! The parts of a Range field's value.
-ghost use Rattle.std.specs.Prelude.{◌≡◌, ◌==◌, ◌+◌, take, drop, reverse, position, MatchOption, ℕ, Some, None};
+ghost use Rattle.std.specs.Prelude.{◌≡◌, ◌==◌, ◌+◌, take, drop, position, MatchOption, ℕ, Some, None};
 ghost use Rattle.std.specs.Option.{option_copied};
-ghost use Rattle.range_view.specs.Asked.{is_blank, skip_blanks, trimmed, set_of};
-
-/// The bytes without the spaces and tabs at both ends.
-pub fn trim(text: &[u8]) -> &[u8]
-    ensures { result.now ≡ trimmed text.now }
-{
-    trim_end(trim_start(text))
-}
-
-/// The bytes without the spaces and tabs at their beginning.
-fn trim_start(mut text: &[u8]) -> &[u8]
-    ensures { result.now ≡ skip_blanks text.now }
-{
-    while let [first, rest @ ..] = text
-        && is_blank(*first)
-    {
-        text = rest;
-    }
-    text
-}
-
-/// The bytes without the spaces and tabs at their end.
-fn trim_end(mut text: &[u8]) -> &[u8]
-    ensures { result.now ≡ reverse (skip_blanks (reverse text.now)) }
-{
-    while let [rest @ .., last] = text
-        && is_blank(*last)
-    {
-        text = rest;
-    }
-    text
-}
-
-/// Whether a byte is a space or a tab.
-fn is_blank(byte: u8) -> bool
-    ensures { result ≡ is_blank byte }
-{
-    byte == b' ' || byte == b'\t'
-}
+ghost use Rattle.range_view.specs.Asked.{set_of};
 
 /// What follows the unit, where the unit is `bytes`.
 pub fn set_of(value: &[u8]) -> Option<&[u8]>

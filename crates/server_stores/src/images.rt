@@ -1,18 +1,19 @@
-//! Images of a grid in folders: writing one, and laying one into new folders.
+//! Images of a grid in folders: writing one, and laying one into new folders. The folders' shares stay on the disk, and
+//! no more than one share's bytes are in memory.
 ghost use Rattle.std.specs.Prelude.{◌≡◌, ◌<◌, ◌≤◌, All, IfOk, IsTrue, length, vec_len};
 
 use crate::fault::ProgramFault;
 use crate::folders::{
-    FolderStore, Opening, is_full, look_at_new, look_at_old, named, open_folder, settings_in,
+    DiskStore, Opening, is_full, look_at_new, look_at_old, named, open_on_disk, settings_in,
 };
+use crate::forgetful_store::forgetful_stores;
 use crate::server_shelf::ServerShelf;
-use crate::stores::empty_stores;
 use folder_shelf::{FolderFault, Settings};
 use grid::{Grid, GridFault};
-use kept_store::KeptStore;
 use log::{Log, info};
 use server_options::Restoring;
 use share_store::Store;
+use shelf_store::ShelfStore;
 use std::alloc::AllocError;
 use std::fs::File;
 use std::io::{BufReader, BufWriter, Write};
@@ -46,13 +47,14 @@ pub fn write_image<R: Files<File = File> + AllocGlobal + Clone + Drop + Log + Pr
         look_at_old(rt, *folder, &Settings { place, ..first })?;
     }
     let mut grid = Grid::new(open_all(rt, folders, &first, true)?);
-    put_image(rt, &mut grid)
+    put_image(rt, folders, &mut grid)
 }
 
-/// Writes the image of a grid on standard output.
-fn put_image<R: Files + AllocGlobal + Clone + Drop + Print>(
+/// Writes the image of a grid on standard output. A folder that failed is told by its name.
+fn put_image<R: Files + AllocGlobal + Clone + Drop + Print + Eprint>(
     rt: &R,
-    grid: &mut Grid<FolderStore<R>>,
+    folders: &[&str],
+    grid: &mut Grid<DiskStore<R>>,
 ) -> Result<(), ProgramFault> {
     let Ok(mut writer) = BufWriter::with_capacity(rt.alloc(), BUFFER, io::writer(rt)) else {
         return Err(ProgramFault::NoMemory);
@@ -63,6 +65,13 @@ fn put_image<R: Files + AllocGlobal + Clone + Drop + Print>(
             Err(_) => Err(ProgramFault::ImageUnwritten),
         },
         Err(GridFault::NoMemory) => Err(ProgramFault::NoMemory),
+        Err(GridFault::Down(server)) => match folders.get(server) {
+            Some(folder) => {
+                let fault = ProgramFault::Folder(FolderFault::Failed);
+                Err(named(rt, *folder, fault))
+            }
+            None => Err(ProgramFault::ImageUnwritten),
+        },
         Err(_) => Err(ProgramFault::ImageUnwritten),
     }
 }
@@ -73,7 +82,7 @@ fn open_all<R: Files<File = File> + AllocGlobal + Clone + Drop + Log + Eprint>(
     folders: &[&str],
     first: &Settings,
     synced: bool,
-) -> Result<Vec<FolderStore<R>>, ProgramFault>
+) -> Result<Vec<DiskStore<R>>, ProgramFault>
     requires { length folders.now ≡ first.now.servers }
     ensures { IfOk result (λ stores. vec_len stores ≡ first.now.servers) }
 {
@@ -84,7 +93,7 @@ fn open_all<R: Files<File = File> + AllocGlobal + Clone + Drop + Log + Eprint>(
             room: u64::MAX,
             synced,
         };
-        stores.push(open_folder(rt, folders[usize::from(place)], &opening)?)?;
+        stores.push(open_on_disk(rt, folders[usize::from(place)], &opening)?)?;
     }
     Ok(stores)
 }
@@ -134,20 +143,20 @@ fn look_at_each<R: Files + AllocGlobal + Clone + Drop + Eprint>(
 fn log_restored<R: Files + AllocGlobal + Clone + Drop + Log>(
     rt: &R,
     folders: &[&str],
-    stores: &[FolderStore<R>],
+    stores: &[DiskStore<R>],
 ) {
     for (folder, store) in folders.iter().zip(stores) {
         info!(rt; "{}: {} bytes of shares were laid in", *folder, store.held());
     }
 }
 
-/// Reads an image to its end, and refuses what is no image of so many servers.
+/// Reads an image to its end, and refuses what is no image of so many servers. No more than one of its shares is held.
 fn try_image<R: Files + AllocGlobal>(rt: &R, file: &str, servers: u16) -> Result<(), ProgramFault>
     requires some { 0 < servers }
     requires few { servers ≤ 256 }
 {
     let mut reader = open_image(rt, file)?;
-    let stores = empty_stores(rt.alloc(), servers, u64::MAX)?;
+    let stores = forgetful_stores(rt.alloc(), servers)?;
     match Grid::read_image(rt.alloc(), stores, &mut reader) {
         Ok(_grid) => Ok(()),
         Err((fault, _stores)) => Err(why_not_read(fault)),
@@ -178,9 +187,9 @@ fn why_not_read(fault: GridFault) -> ProgramFault {
 }
 
 /// Whether no store holds a byte.
-fn hold_nothing<R: Files + AllocGlobal + Clone + Drop>(stores: &[FolderStore<R>]) -> bool
+fn hold_nothing<R: Files + AllocGlobal + Clone + Drop>(stores: &[DiskStore<R>]) -> bool
     ensures { IsTrue result →
-        All (λ store. ⟦<KeptStore<ServerShelf<R>> as Store>⟧.held store ≡ 0) stores.now }
+        All (λ store. ⟦<ShelfStore<ServerShelf<R>> as Store>⟧.held store ≡ 0) stores.now }
 {
     for store in stores {
         if store.held() != 0 {
@@ -194,7 +203,7 @@ fn hold_nothing<R: Files + AllocGlobal + Clone + Drop>(stores: &[FolderStore<R>]
 fn tell_filled<R: Files + AllocGlobal + Clone + Drop + Eprint>(
     rt: &R,
     folders: &[&str],
-    stores: &[FolderStore<R>],
+    stores: &[DiskStore<R>],
 ) -> ProgramFault {
     for (folder, store) in folders.iter().zip(stores) {
         if store.held() > 0 {
@@ -208,11 +217,11 @@ fn tell_filled<R: Files + AllocGlobal + Clone + Drop + Eprint>(
 fn lay_image<R: Files + AllocGlobal + Clone + Drop + Eprint>(
     rt: &R,
     wanted: &Restoring<'_>,
-    stores: Vec<FolderStore<R>>,
-) -> Result<Grid<FolderStore<R>>, ProgramFault>
+    stores: Vec<DiskStore<R>>,
+) -> Result<Grid<DiskStore<R>>, ProgramFault>
     requires some { 0 < vec_len stores }
     requires few { vec_len stores ≤ 256 }
-    requires empty { All (λ store. ⟦<KeptStore<ServerShelf<R>> as Store>⟧.held store ≡ 0) stores.items }
+    requires empty { All (λ store. ⟦<ShelfStore<ServerShelf<R>> as Store>⟧.held store ≡ 0) stores.items }
 {
     let mut reader = open_image(rt, wanted.file)?;
     match Grid::read_image(rt.alloc(), stores, &mut reader) {

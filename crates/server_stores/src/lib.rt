@@ -15,6 +15,8 @@ pub mod folders;
 mod redis_stores;
 /// The stores of the gateway.
 mod stores;
+/// A store that forgets what it is put.
+mod forgetful_store;
 /// Looking through folders.
 mod checking;
 /// Images of a grid in folders.

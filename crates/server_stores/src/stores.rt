@@ -1,6 +1,4 @@
 //! The stores of the gateway.
-ghost use Rattle.std.specs.Prelude.{◌≡◌, All, vec_len, IfOk};
-
 use crate::either_store::EitherStore;
 use crate::fault::ProgramFault;
 use crate::folders::{
@@ -12,8 +10,7 @@ use folder_shelf::Settings;
 use kept_store::KeptStore;
 use log::{Log, info};
 use server_options::{Options, RedisPlace, StoreWanted};
-use share_store::{MemStore, Store};
-use std::alloc::{AllocError, Global};
+use std::alloc::Global;
 use std::fs::File;
 use std::net::Net;
 use std::rt::Files;
@@ -21,19 +18,6 @@ use std::time::Clock;
 
 /// A server's store: over memory and perhaps a folder, on a disk alone, or on a Redis server.
 pub type ServerStore<R> = EitherStore<FolderStore<R>, EitherStore<DiskStore<R>, RedisStore<R>>>;
-
-/// So many stores in memory with room for so many bytes each, which hold nothing.
-pub fn empty_stores(alloc: Global, count: u16, room: u64) -> Result<Vec<MemStore>, AllocError>
-    ensures count { IfOk result (λ stores. vec_len stores ≡ count) }
-    ensures empty { IfOk result (λ stores.
-        All (λ store. ⟦<MemStore as Store>⟧.held store ≡ 0) stores.items) }
-{
-    let mut stores = Vec::with_capacity(alloc, usize::from(count))?;
-    for _server in 0..count {
-        stores.push(MemStore::new(alloc, room))?;
-    }
-    Ok(stores)
-}
 
 /// The stores that are wanted, opened in their order: the settings are those of the grid's first server. Each folder
 /// is looked at before one is opened, so that none is begun where another is refused.

@@ -1,8 +1,9 @@
 -- A shelf with a shelf in memory inside.
-use Rattle.std.proofs.Common.{◌≡◌, ℕ, sym, subst, length}
+use Rattle.std.proofs.Common.{◌≡◌, ℕ, Result, sym, subst, length}
+use Rattle.std.specs.Prelude.{OnOk}
 use Rattle.share_store.specs.Shares.{Shares}
 use Rattle.share_shelf.specs.Kept.{told_of, HadBeen}
-use Rattle.share_shelf.specs.Left.{Keeps, LeavesOnly}
+use Rattle.share_shelf.specs.Left.{Keeps, LeavesOnly, IsChanged, MayBeChanged}
 use Rattle.share_shelf.specs.declared.mem_shelf.MemShelf.{MemShelf}
 
 abbrev pub moment_of : MemShelf → ℕ
@@ -18,3 +19,11 @@ keeps_as old new m same keeps = subst (λ (s : MemShelf). Keeps moment_of left_o
 -- and leaves what it did
 pub leaves_as : (old mid new : MemShelf) (P : Shares → Type 0) → mid ≡ old → LeavesOnly moment_of left_of mid new P → LeavesOnly moment_of left_of old new P
 leaves_as old mid new P same leaves = subst (λ (s : MemShelf). LeavesOnly moment_of left_of s new P) same leaves
+
+-- and is changed as that is
+pub each_as : {E : Type 0} (r : Result Unit E) (old mid new : MemShelf) (f : Shares → Shares) → mid ≡ old → OnOk r ((c : Shares) → left_of new (moment_of new) c → IsChanged moment_of left_of mid f c)
+    → OnOk r ((c : Shares) → left_of new (moment_of new) c → IsChanged moment_of left_of old f c)
+each_as r old mid new f same each = subst (λ (s : MemShelf). OnOk r ((c : Shares) → left_of new (moment_of new) c → IsChanged moment_of left_of s f c)) same each
+
+pub maybe_as : (old mid new : MemShelf) (f : Shares → Shares) → mid ≡ old → LeavesOnly moment_of left_of mid new (MayBeChanged moment_of left_of mid f) → LeavesOnly moment_of left_of old new (MayBeChanged moment_of left_of old f)
+maybe_as old mid new f same leaves = subst (λ (s : MemShelf). LeavesOnly moment_of left_of s new (MayBeChanged moment_of left_of s f)) same leaves

@@ -48,6 +48,16 @@ module _ (told : List Told) (one : Told) where
           let long : length (told ++ one ∷ []) ≤ had.k = omega (arith, leb-false had.k (length told) is, length-append told (one ∷ [])) in
           inr (inr (had.stood ∙ ap (λ (l : List Told). after l empty) (take_all had.k (told ++ one ∷ []) long) ∙ pushed ∙ ap (with_told one) (sym (is_kept told m keeps))))
 
+  -- each of what had been
+  pub each_pushed : (c : Shares) → HadBeen (told ++ one ∷ []) (length (told ++ one ∷ [])) c → (d : Shares) × HadBeen told (length told) d × (c ≡ with_told one d)
+  each_pushed c had = (after told empty, had_now told, had_last (told ++ one ∷ []) c had ∙ pushed)
+
+  pub since_each : (t : ℕ) (c : Shares) → t ≤ length told → HadBeen (told ++ one ∷ []) t c → HadBeen told t c ⊎ ((d : Shares) × HadBeen told (length told) d × IsEither d (with_told one d) c)
+  since_each t c le had = elim (since_pushed (after told empty) (had_last told) t c le had) [
+    | inl was ↦ inl was
+    | inr either ↦ inr (after told empty, had_now told, either)
+  ]
+
 -- once one more change was remembered
 pub after_more : (cs : List Change) (change : Change) (m : Shares) → after (told_of (cs ++ change ∷ [])) m ≡ with_told (told_by change) (after (told_of cs) m)
 after_more [] change m = refl

@@ -18,6 +18,14 @@ module _ {H : Type 0} (moment : H → ℕ) (left_since : H → ℕ → Shares �
     pub later : moment old ≤ moment new
     pub since : (t : ℕ) (c : Shares) → t ≤ moment old → left_since new t c → left_since old t c ⊎ P c
 
+  -- what a crash now might leave, after this change
+  abbrev pub IsChanged : H → (Shares → Shares) → Shares → Type 0
+  IsChanged shelf change c = (d : Shares) × left_since shelf (moment shelf) d × (c ≡ change d)
+
+  -- what a crash now might leave, before this change or after it
+  abbrev pub MayBeChanged : H → (Shares → Shares) → Shares → Type 0
+  MayBeChanged shelf change c = (d : Shares) × left_since shelf (moment shelf) d × IsEither d (change d) c
+
   -- no moment passed, and a crash leaves nothing else
   pub record IsQuiet (old new : H) : Type 0 where
     pub same_moment : moment new ≡ moment old

@@ -4,7 +4,7 @@ ghost use Rattle.std.specs.Option.{option_map};
 ghost use Rattle.std.specs.FinMap as map;
 ghost use Rattle.std.specs.Rc.{rc_slice_items};
 ghost use Rattle.share_store.specs.Shares.{Shares};
-ghost use Rattle.share_shelf.specs.Left.{Keeps, IsEither, LeavesOnly, IsQuiet};
+ghost use Rattle.share_shelf.specs.Left.{Keeps, IsEither, LeavesOnly, IsQuiet, IsChanged, MayBeChanged};
 
 use crate::ShelfFault;
 use std::alloc::Global;
@@ -60,7 +60,8 @@ pub trait Shelf {
         ensures same_shares { IsTrue (honest self.old) → shares self.new ≡ shares self.old };
 
     /// Puts a share, in the place of one that stands there. After `Ok` a crash leaves it; where it failed, a crash
-    /// leaves the share or what stood before; where there was no memory nothing was begun.
+    /// leaves the share or what stood before; where there was no memory nothing was begun. Where a change failed before,
+    /// that is so of each of the shares that a crash might have left.
     fn put(&mut self, index: [u8; 16], number: u16, bytes: RcSlice<u8>) -> Result<(), ShelfFault>
         requires { 0 < length (rc_slice_items bytes) }
         ensures honest { honest self.new ≡ honest self.old }
@@ -77,6 +78,14 @@ pub trait Shelf {
             (m : Shares) → Keeps moment left_since self.old m →
             LeavesOnly moment left_since self.old self.new
             (IsEither m (map.insert m (index, number) (rc_slice_items bytes))) }
+
+        // Where a change failed before, a crash may leave more than one thing, and each is changed so.
+        ensures done_each { IsTrue (honest self.old) → OnOk result ((c : Shares) →
+            left_since self.new (moment self.new) c → IsChanged moment left_since self.old
+            (λ d. map.insert d (index, number) (rc_slice_items bytes)) c) }
+        ensures crash_each { IsTrue (honest self.old) →
+            LeavesOnly moment left_since self.old self.new (MayBeChanged moment left_since self.old
+            (λ d. map.insert d (index, number) (rc_slice_items bytes))) }
         ensures stands { IsTrue (honest self.old) →
             left_since self.new (moment self.new) (shares self.new) };
 
@@ -95,6 +104,12 @@ pub trait Shelf {
             (m : Shares) → Keeps moment left_since self.old m →
             LeavesOnly moment left_since self.old self.new
             (IsEither m (map.remove m (index, number))) }
+        ensures done_each { IsTrue (honest self.old) → OnOk result ((c : Shares) →
+            left_since self.new (moment self.new) c → IsChanged moment left_since self.old
+            (λ d. map.remove d (index, number)) c) }
+        ensures crash_each { IsTrue (honest self.old) →
+            LeavesOnly moment left_since self.old self.new (MayBeChanged moment left_since self.old
+            (λ d. map.remove d (index, number))) }
         ensures stands { IsTrue (honest self.old) →
             left_since self.new (moment self.new) (shares self.new) };
 

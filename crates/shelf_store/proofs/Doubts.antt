@@ -1,6 +1,6 @@
 -- What stands at a key, by the change in doubt.
 use Rattle.std.proofs.Common.{◌≡◌, ℕ, Bool, true, false, List, Option, Some, None, Result, Ok, Err, is_some, refl, sym, ap, ◌∙◌}
-use Rattle.std.specs.Prelude.{IfOk}
+use Rattle.std.specs.Prelude.{OnOk}
 use Rattle.std.specs.Option.{option_map}
 use Rattle.std.specs.Ordering.{eq_by_cmp}
 use Rattle.std.specs.FinMap.{get}
@@ -39,9 +39,13 @@ other_key doubt x index number is not y at same =
     let one : y ≡ x = cc in
     not (ap (λ (k : ShareKey). k.0) same ∙ ap (λ (d : Doubt). d.index) one, ap (λ (k : ShareKey). k.1) same ∙ ap (λ (d : Doubt). d.number) one)
 
-pub ok_as : {X E : Type 0} (r : Result X E) (P Q : X → Type 0) → ((x : X) → P x → Q x) → IfOk r P → IfOk r Q
-ok_as (Ok x) P Q then h = then x h
-ok_as (Err e) P Q then h = tt
+pub done_as : {X E : Type 0} (r : Result X E) (P Q : Type 0) → (P → Q) → OnOk r P → OnOk r Q
+done_as (Ok x) P Q then h = then h
+done_as (Err e) P Q then h = tt
+
+-- the change that puts back what stood
+pub changes_back : (doubt : Option Doubt) (x : Doubt) (before : Option (List ℕ)) → doubt ≡ Some x → option_map rc_slice_items x.before ≡ before → (d : Shares) → as_before (Some (key_of x, before)) d ≡ as_before (in_doubt doubt) d
+changes_back doubt x before is same d = ap (λ (b : Option (List ℕ)). as_before (Some (key_of x, b)) d) (sym same) ∙ ap (λ (o : Option Doubt). as_before (in_doubt o) d) (sym is)
 
 -- none is in doubt
 pub none_in_doubt : (doubt : Option Doubt) → is_some doubt ≡ false → in_doubt doubt ≡ None

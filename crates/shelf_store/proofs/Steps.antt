@@ -12,7 +12,7 @@ use Rattle.share_store.specs.Shares.{Shares, ShareKey, key_cmp}
 use Rattle.share_store.specs.MapLaws.{key_cmp_total, key_cmp_exact}
 use Rattle.share_store.specs.Put.{put_once}
 use Rattle.share_store.specs.Toggle.{toggled, bytes_at, has_byte, with_toggle}
-use Rattle.share_shelf.specs.Left.{Keeps, IsEither, LeavesOnly, IsQuiet}
+use Rattle.share_shelf.specs.Left.{Keeps, IsEither, LeavesOnly, IsQuiet, IsChanged, MayBeChanged}
 use Rattle.shelf_store.specs.Doubt.{InDoubt, as_before}
 use Rattle.shelf_store.specs.Sizes.{blank, sizes_of}
 use Rattle.shelf_store.specs.Step.{IsInStep, Crashes}
@@ -56,6 +56,11 @@ at_doubt key (Some b) m = get-insert key_cmp_total m key b key ∙ ap (λ t. con
 pub off_doubt : (key q : ShareKey) (before : Option (List ℕ)) (m : Shares) → eq_by_cmp key_cmp q key ≡ false → get (as_before (Some (key, before)) m) q ≡ get m q
 off_doubt key q None m other = same_but_lost key m q other
 off_doubt key q (Some b) m other = same_but_put key m b q other
+
+-- put back once more
+pub put_back_twice : (doubt : InDoubt) (m : Shares) → as_before doubt (as_before doubt m) ≡ as_before doubt m
+put_back_twice None m = refl
+put_back_twice (Some (key, before)) m = put_back key before (as_before (Some (key, before)) m) (as_before (Some (key, before)) m) (at_doubt key before m) (λ q other. refl)
 
 pub put_is : (m : Shares) (key : ShareKey) (b : List ℕ) → contains_key m key ≡ false → put_once m key b ≡ insert m key b
 put_is m key b none = ap (λ t. cond t m (insert m key b)) none
@@ -115,8 +120,32 @@ module _ {H : Type 0} (moment : H → ℕ) (left_since : H → ℕ → Shares �
     since = λ t c le left. inl (quiet.nothing_else t c left);
   }
 
+  -- a call, and then a look
+  pub leaves_quiet : (a b d : H) (P : Shares → Type 0) → LeavesOnly moment left_since a b P → IsQuiet moment left_since b d → LeavesOnly moment left_since a d P
+  leaves_quiet a b d P leaves quiet = record {
+    later = subst (λ t. moment a ≤ t) (sym quiet.same_moment) leaves.later;
+    since = λ t c le left. leaves.since t c le (quiet.nothing_else t c left);
+  }
+
+  pub leaves_more : (a b : H) (P Q : Shares → Type 0) → LeavesOnly moment left_since a b P → ((c : Shares) → P c → Q c) → LeavesOnly moment left_since a b Q
+  leaves_more a b P Q leaves more = record {
+    later = leaves.later;
+    since = λ t c le left. elim (leaves.since t c le left) [ inl was ↦ inl was | inr p ↦ inr (more c p) ];
+  }
+
   pub leaves_as : (old new : H) (m n k : Shares) → n ≡ k → LeavesOnly moment left_since old new (IsEither m n) → LeavesOnly moment left_since old new (IsEither m k)
   leaves_as old new m n k same leaves = subst (λ (s : Shares). LeavesOnly moment left_since old new (IsEither m s)) same leaves
+
+  -- one call, and then another
+  pub leaves_both : (a b d : H) (P Q : Shares → Type 0) → LeavesOnly moment left_since a b P → LeavesOnly moment left_since b d Q → ((c : Shares) → P c → Q c) → LeavesOnly moment left_since a d Q
+  leaves_both a b d P Q one two more = record {
+    later = omega (arith, one.later, two.later);
+    since = λ t c le left. let within : t ≤ moment b = omega (arith, le, one.later) in
+        elim (two.since t c within left) [
+          | inl was ↦ elim (one.since t c le was) [ inl first ↦ inl first | inr p ↦ inr (more c p) ]
+          | inr q ↦ inr q
+        ];
+  }
 
 module _ {H : Type 0} (moment : H → ℕ) (left_since : H → ℕ → Shares → Type 0) (honest : H → Bool) (shares : H → Shares) where
   -- a call that looks
@@ -172,28 +201,84 @@ module _ {H : Type 0} (moment : H → ℕ) (left_since : H → ℕ → Shares �
       left = λ h c left. let was : IsTrue (honest old) = subst IsTrue same_honest h in back c was left ∙ sym (still_stands was);
     }
 
+  -- ---- a change in doubt, taken back
+
+  module _ (doubt : InDoubt) (old new : H) (index : Shares) (step : IsInStep moment left_since honest shares doubt old index) (same_honest : honest new ≡ honest old)
+      (narrows : (shelf : H) (t u : ℕ) (c : Shares) → t ≤ u → left_since shelf u c → left_since shelf t c)
+      (change : Shares → Shares) (is : (d : Shares) → change d ≡ as_before doubt d)
+      (crash : IsTrue (honest old) → LeavesOnly moment left_since old new (MayBeChanged moment left_since old change))
+      (stands : IsTrue (honest old) → left_since new (moment new) (shares new)) where
+    pub settle_leaves : IsTrue (honest old) → LeavesOnly moment left_since old new (λ c. c ≡ as_before doubt (shares old))
+    settle_leaves h = record {
+      later = (crash h).later;
+      since = λ t c le left. elim ((crash h).since t c le left) [
+        | inl was ↦ inl was
+        | inr each ↦ elim each.2 [
+          | inl same ↦ inl (narrows old t (moment old) c le (subst (λ (s : Shares). left_since old (moment old) s) (sym same) each.1))
+          | inr changed ↦ inr (changed ∙ is each.0 ∙ step.left h each.0 each.1)
+        ]
+      ];
+    }
+
+    -- done or not, what stood before it is known
+    settle_back : (c : Shares) → IsTrue (honest old) → left_since new (moment new) c → as_before doubt c ≡ as_before doubt (shares old)
+    settle_back c h left =
+        let leaves = settle_leaves h in
+        elim (leaves.since (moment old) c (omega arith) (narrows new (moment old) (moment new) c leaves.later left)) [
+          | inl was ↦ step.left h c was
+          | inr same ↦ ap (as_before doubt) same ∙ put_back_twice doubt (shares old)
+        ]
+
+    pub settle_stands : IsTrue (honest old) → as_before doubt (shares new) ≡ as_before doubt (shares old)
+    settle_stands h = settle_back (shares new) h (stands h)
+
+    pub settle_step : IsInStep moment left_since honest shares doubt new index
+    settle_step = record {
+      sizes = λ h. let was : IsTrue (honest old) = subst IsTrue same_honest h in step.sizes was ∙ ap sizes_of (sym (settle_stands was));
+      left = λ h c left. let was : IsTrue (honest old) = subst IsTrue same_honest h in settle_back c was left ∙ sym (settle_stands was);
+    }
+
+    pub settle_keeps : IsTrue (honest old) → ((c : Shares) → left_since new (moment new) c → IsChanged moment left_since old change c) → Keeps moment left_since new (as_before doubt (shares old))
+    settle_keeps h done c left = let each : IsChanged moment left_since old change c = done c left in each.2 ∙ is each.0 ∙ step.left h each.0 each.1
+
+  -- a shelf that keeps what stands, with no change in doubt
+  pub step_settled : (new : H) (index m : Shares) → (IsTrue (honest new) → Keeps moment left_since new m) → (IsTrue (honest new) → m ≡ shares new) → (IsTrue (honest new) → sizes_of index ≡ sizes_of m)
+      → IsInStep moment left_since honest shares None new index
+  step_settled new index m keeps is sizes = step_done None new index m refl keeps is sizes
+
   -- ---- a crash
 
-  pub crash_none : (doubt : InDoubt) (shelf : H) (m n : Shares) → Crashes moment left_since honest shares doubt shelf shelf m n
-  crash_none doubt shelf m n = record {
-    up = λ d h. leaves_nothing moment left_since shelf shelf (IsEither m n) (quiet_same moment left_since shelf);
-    left_alone = λ d. refl;
-    same_honest = refl;
-  }
+  module _ (doubt : InDoubt) (old new : H) (index : Shares) (step : IsInStep moment left_since honest shares doubt old index) (same_honest : honest new ≡ honest old) (n : Shares) where
+    crash_in : (IsTrue (honest old) → LeavesOnly moment left_since old new (IsEither (as_before doubt (shares old)) n)) → Crashes moment left_since honest shares doubt old new (as_before doubt (shares old)) n
+    crash_in leaves = record {
+      leaves = leaves;
+      left = λ h c left. elim ((leaves h).since (moment old) c (omega arith) left) [
+        | inl was ↦ inl (step.left h c was)
+        | inr either ↦ elim either [
+          | inl is ↦ inl (ap (as_before doubt) is ∙ put_back_twice doubt (shares old))
+          | inr is ↦ inr is
+        ]
+      ];
+      same_honest = same_honest;
+    }
 
-  pub crash_up : (doubt : InDoubt) (old new : H) (m n : Shares) → doubt ≡ None → honest new ≡ honest old → (IsTrue (honest old) → LeavesOnly moment left_since old new (IsEither m n)) → Crashes moment left_since honest shares doubt old new m n
-  crash_up doubt old new m n up same crash = record {
-    up = λ d h. crash h;
-    left_alone = λ d. let clash : true ≡ false = sym d ∙ ap is_some up in cc;
-    same_honest = same;
-  }
+    -- nothing was changed
+    pub crash_quiet : IsQuiet moment left_since old new → Crashes moment left_since honest shares doubt old new (as_before doubt (shares old)) n
+    crash_quiet quiet = crash_in (λ h. leaves_nothing moment left_since old new (IsEither (as_before doubt (shares old)) n) quiet)
 
-  pub crash_down : (doubt : InDoubt) (old new : H) (m n : Shares) → is_some doubt ≡ true → new ≡ old → Crashes moment left_since honest shares doubt old new m n
-  crash_down doubt old new m n down same = record {
-    up = λ none h. let clash : true ≡ false = sym down ∙ ap is_some none in cc;
-    left_alone = λ d. same;
-    same_honest = ap honest same;
-  }
+    -- the change in doubt was taken back, and no more
+    pub crash_settled : (IsTrue (honest old) → LeavesOnly moment left_since old new (λ c. c ≡ as_before doubt (shares old))) → Crashes moment left_since honest shares doubt old new (as_before doubt (shares old)) n
+    crash_settled settled = crash_in (λ h. leaves_more moment left_since old new (λ c. c ≡ as_before doubt (shares old)) (IsEither (as_before doubt (shares old)) n) (settled h) (λ c is. inl is))
+
+    -- and then the shelf was told to change
+    pub crash_changed : (mid : H) (now : Shares) (f : Shares → Shares) → (IsTrue (honest old) → LeavesOnly moment left_since old mid (λ c. c ≡ as_before doubt (shares old))) → honest mid ≡ honest old → (IsTrue (honest old) → now ≡ as_before doubt (shares old))
+        → (IsTrue (honest old) → f (as_before doubt (shares old)) ≡ n) → (IsTrue (honest mid) → LeavesOnly moment left_since mid new (IsEither now (f now))) → Crashes moment left_since honest shares doubt old new (as_before doubt (shares old)) n
+    crash_changed mid now f settled same_mid stands is changed = crash_in (λ h.
+        let m : Shares = as_before doubt (shares old) in
+        let told : LeavesOnly moment left_since mid new (IsEither now (f now)) = changed (subst IsTrue (sym same_mid) h) in
+        let told_m : LeavesOnly moment left_since mid new (IsEither m (f m)) = subst (λ (s : Shares). LeavesOnly moment left_since mid new (IsEither s (f s))) (stands h) told in
+        let told_n : LeavesOnly moment left_since mid new (IsEither m n) = subst (λ (s : Shares). LeavesOnly moment left_since mid new (IsEither m s)) (is h) told_m in
+        leaves_both moment left_since old mid new (λ c. c ≡ m) (IsEither m n) (settled h) told_n (λ c same. inl same))
 
   -- ---- a shelf that isn't in doubt, and what comes of a change
 
@@ -220,23 +305,6 @@ module _ {H : Type 0} (moment : H → ℕ) (left_since : H → ℕ → Shares �
 
       pub quiet_step : (after : Shares) → after ≡ index → IsInStep moment left_since honest shares doubt new after
       quiet_step after same = done_step (as_before doubt (shares old)) (λ h kept. quiet_keeps moment left_since old new (as_before doubt (shares old)) quiet kept) after (λ h is. ap sizes_of same ∙ is)
-
-    -- a crash in it
-    pub told : (n k : Shares) → (IsTrue (honest old) → n ≡ k) → (IsTrue (honest old) → Keeps moment left_since old (as_before doubt (shares old)) → LeavesOnly moment left_since old new (IsEither (as_before doubt (shares old)) n))
-        → Crashes moment left_since honest shares doubt old new (as_before doubt (shares old)) k
-    told n k same crash = crash_up doubt old new (as_before doubt (shares old)) k up same_honest (λ h.
-        leaves_as moment left_since old new (as_before doubt (shares old)) n k (same h) (crash h (keeps_now doubt old index step up h)))
-
-  -- a crash in a call that looks and then changes
-  pub looked_told : (doubt : InDoubt) (old mid new : H) (was m : Shares) (f : Shares → Shares) → doubt ≡ None → IsQuiet moment left_since old mid → honest mid ≡ honest old → honest new ≡ honest mid → (IsTrue (honest old) → m ≡ was)
-      → (IsTrue (honest mid) → LeavesOnly moment left_since mid new (IsEither m (f m))) → Crashes moment left_since honest shares doubt old new was (f was)
-  looked_told doubt old mid new was m f up quiet same_mid same_new is crash = crash_up doubt old new was (f was) up (same_new ∙ same_mid) (λ h.
-      quiet_leaves moment left_since old mid new (IsEither was (f was)) quiet
-      (subst (λ (s : Shares). LeavesOnly moment left_since mid new (IsEither s (f s))) (is h) (crash (subst IsTrue (sym same_mid) h))))
-
-  -- a crash in one that only looked
-  pub looked_crash : (doubt : InDoubt) (old new : H) (m n : Shares) → doubt ≡ None → IsQuiet moment left_since old new → honest new ≡ honest old → Crashes moment left_since honest shares doubt old new m n
-  looked_crash doubt old new m n up quiet same = crash_up doubt old new m n up same (λ h. leaves_nothing moment left_since old new (IsEither m n) quiet)
 
 -- ---- what the index says
 

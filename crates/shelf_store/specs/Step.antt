@@ -1,5 +1,5 @@
 -- An index in memory and the shelf that has the bytes.
-use Rattle.std.specs.Prelude.{◌≡◌, ℕ, Bool, true, List, IsTrue, None, is_some}
+use Rattle.std.specs.Prelude.{◌≡◌, ◌⊎◌, ℕ, Bool, List, IsTrue}
 use Rattle.std.specs.Coded.{Coded-set, coded×, coded_ℕ, coded_list}
 use Rattle.std.proofs.Props.{props}
 use Rattle.share_store.specs.Shares.{Shares, ShareKey}
@@ -20,9 +20,9 @@ module _ {H : Type 0} (moment : H → ℕ) (left_since : H → ℕ → Shares �
   pub IsInStep-prop : (doubt : InDoubt) (shelf : H) (index : Shares) → IsProp (IsInStep doubt shelf index)
   IsInStep-prop doubt shelf index = hlevel (props, shares-set, sizes-set)
 
-  -- What a crash in a call may leave, which is to make these shares of those before it. A store that is down leaves
-  -- its shelf alone.
+  -- What a crash in a call may leave, which is to make these shares of those before it: what it might have left before
+  -- the call, or one of the two. So it leaves what stood, but for the share in doubt, or what was to be made.
   pub record Crashes (doubt : InDoubt) (old new : H) (before after : Shares) : Type 0 where
-    pub up : doubt ≡ None → IsTrue (honest old) → LeavesOnly moment left_since old new (IsEither before after)
-    pub left_alone : is_some doubt ≡ true → new ≡ old
+    pub leaves : IsTrue (honest old) → LeavesOnly moment left_since old new (IsEither before after)
+    pub left : IsTrue (honest old) → (c : Shares) → left_since new (moment old) c → (as_before doubt c ≡ before) ⊎ (c ≡ after)
     pub same_honest : honest new ≡ honest old

@@ -1,6 +1,6 @@
 //! A store whose bytes are on a shelf.
 ghost use Rattle.std.specs.Prelude.{◌≡◌, ◌<◌, ◌≤◌, ◌+◌, ◌-◌, ◌^◌, ◌==◌, ◌↔◌, [], All, None, Some, true, false, not, length, is_some, IsTrue, IsSome, IfOk, IsOkAnd, IfSome, OnOk, OnErr, IsErrOf, if◌then◌else◌, slice_get};
-ghost use Rattle.std.specs.Option.{option_map};
+ghost use Rattle.std.specs.Option.{ForSome, option_map};
 ghost use Rattle.std.specs.FinMap as map;
 ghost use Rattle.std.specs.Rc.{rc_slice_items};
 ghost use Rattle.share_store.specs.MapLaws.{held_fits};
@@ -9,7 +9,7 @@ ghost use Rattle.share_store.specs.Numbers.{numbers_of};
 ghost use Rattle.share_store.specs.Put.{put_once};
 ghost use Rattle.share_store.specs.Stored.{entry_of};
 ghost use Rattle.share_store.specs.Toggle.{toggled, has_byte, with_toggle};
-ghost use Rattle.share_shelf.specs.Left.{IsQuiet};
+ghost use Rattle.share_shelf.specs.Left.{Keeps, IsQuiet, LeavesOnly};
 ghost use Rattle.shelf_store.specs.Doubt.{in_doubt, as_before};
 ghost use Rattle.shelf_store.specs.Known.{known, held_as};
 ghost use Rattle.shelf_store.specs.Sizes.{blank};
@@ -27,8 +27,9 @@ use std::rc::RcSlice;
 /// A store that has in memory which shares stand and how long each is, and whose bytes are on a shelf. It is honest
 /// where its shelf is.
 ///
-/// Once its shelf failed in a change, it is in doubt whether the change was done. The store is then down for changes
-/// until it is opened anew, and answers what stood before: so it keeps the bytes that stood at that one place.
+/// Once its shelf failed in a change, it is in doubt whether the change was done. The store then answers what stood
+/// before: so it keeps the bytes that stood at that one place. Before its next change it puts them back on the shelf, and
+/// as soon as the shelf takes that, no change is in doubt; until then each change is refused.
 #[derive(Drop)]
 pub struct ShelfStore<H: Shelf> {
     pub(crate) alloc: Global,
@@ -100,11 +101,13 @@ impl<H: Shelf> ShelfStore<H> {
     }
 
     /// The bytes of a share as they stood before the change in doubt: from memory where it was of this share, and else
-    /// by one read of the shelf.
+    /// by one read of the shelf. `None` where the shelf gave no bytes, as an honest one never does of a share.
     fn stood(&mut self, index: [u8; 16], number: u16) -> Result<Option<RcSlice<u8>>, ShelfFault>
         ensures given { IsTrue (H.honest self.old.shelf) →
             IfOk result (λ bytes. option_map rc_slice_items bytes ≡ map.get
             (as_before (in_doubt self.old.doubt) (H.shares self.old.shelf)) (index, number)) }
+        ensures some { IfOk result (λ bytes.
+            ForSome bytes (λ b. 0 < length (rc_slice_items b))) }
         ensures quiet { IsQuiet H.moment H.left_since self.old.shelf self.new.shelf }
         ensures honest { H.honest self.new.shelf ≡ H.honest self.old.shelf }
         ensures same_shares { IsTrue (H.honest self.old.shelf) →
@@ -124,7 +127,13 @@ impl<H: Shelf> ShelfStore<H> {
                 return Ok(doubt.lent()?);
             }
         }
-        self.shelf.read(index, number)
+        let Some(bytes) = self.shelf.read(index, number)? else {
+            return Ok(None);
+        };
+        if bytes.is_empty() {
+            return Ok(None);
+        }
+        Ok(Some(bytes))
     }
 
     /// The bytes of a share that the index has, `size` of them. `None` where the shelf failed or gave as many not, which
@@ -208,11 +217,81 @@ impl<H: Shelf> ShelfStore<H> {
         }
     }
 
-    /// Puts a share where none stands, and answers `true`: in the index, and then on the shelf. Where the shelf refuses,
-    /// it is taken out of the index again. `false` where one stands, whether the store is down or not.
+    /// Puts on the shelf what stood there before the change in doubt. Without one the shelf isn't asked.
+    fn put_back(&mut self) -> Result<(), ShelfFault>
+        ensures done { IsTrue (H.honest self.old.shelf) →
+            OnOk result (Keeps H.moment H.left_since self.new.shelf
+            (⟦<ShelfStore<H> as Store>⟧.shares self.old)) }
+        ensures crash { IsTrue (H.honest self.old.shelf) →
+            LeavesOnly H.moment H.left_since self.old.shelf self.new.shelf
+            (λ c. c ≡ ⟦<ShelfStore<H> as Store>⟧.shares self.old) }
+        ensures stands { IsTrue (H.honest self.old.shelf) →
+            ⟦<ShelfStore<H> as Store>⟧.shares self.new
+            ≡ ⟦<ShelfStore<H> as Store>⟧.shares self.old }
+        ensures honest { H.honest self.new.shelf ≡ H.honest self.old.shelf }
+        ensures rises { H.failures self.old.shelf ≤ H.failures self.new.shelf }
+        ensures failed { IsErrOf result ShelfFault.Failed ↔
+            (H.failures self.old.shelf < H.failures self.new.shelf) }
+        ensures failed_in_doubt { H.failures self.old.shelf < H.failures self.new.shelf →
+            is_some (in_doubt self.old.doubt) ≡ true }
+        ensures index { self.new.index ≡ self.old.index }
+        ensures doubt { self.new.doubt ≡ self.old.doubt }
+        ensures failures { self.new.failures ≡ self.old.failures }
+    {
+        let Some(doubt) = &self.doubt else {
+            return Ok(());
+        };
+        let index = doubt.index;
+        let number = doubt.number;
+        match doubt.lent()? {
+            None => self.shelf.remove(index, number),
+            Some(bytes) => self.shelf.put(index, number, bytes),
+        }
+    }
+
+    /// Settles the change in doubt, if one is: what stood before it is put back, and no change is in doubt any more.
     ///
-    /// Refused with `Full` where it is longer than the room, with `Down` where the store is down or its shelf failed,
-    /// which takes it down, and with `NoMemory` where there was no memory or a failure could not be counted.
+    /// Refused with `Down` where the shelf failed in that, which is counted, and with `NoMemory` where there was no memory
+    /// or a failure could not be counted. The change is then still in doubt.
+    fn settle(&mut self) -> Result<(), StoreFault>
+        ensures up { OnOk result (in_doubt self.new.doubt ≡ None) }
+        ensures err { OnErr result (self.new.doubt ≡ self.old.doubt) }
+        ensures crash { IsTrue (H.honest self.old.shelf) →
+            LeavesOnly H.moment H.left_since self.old.shelf self.new.shelf
+            (λ c. c ≡ ⟦<ShelfStore<H> as Store>⟧.shares self.old) }
+        ensures stands { IsTrue (H.honest self.old.shelf) →
+            ⟦<ShelfStore<H> as Store>⟧.shares self.new
+            ≡ ⟦<ShelfStore<H> as Store>⟧.shares self.old }
+        ensures honest { H.honest self.new.shelf ≡ H.honest self.old.shelf }
+        ensures rises { self.old.failures ≤ self.new.failures }
+        ensures down { IsErrOf result StoreFault.Down ↔ (self.old.failures < self.new.failures) }
+        ensures not_full { IsErrOf result StoreFault.Full → ⊥ }
+        ensures rises_below { H.failures self.old.shelf ≤ H.failures self.new.shelf }
+        ensures failed_in_doubt { H.failures self.old.shelf < H.failures self.new.shelf →
+            is_some (in_doubt self.new.doubt) ≡ true }
+        ensures counts { H.failures self.old.shelf < H.failures self.new.shelf →
+            (OnOk result ⊥) × (self.new.failures ≡ (if self.old.failures == 2 ^ 64 - 1
+            then self.old.failures else self.old.failures + 1)) }
+        ensures counts_only { H.failures self.new.shelf ≡ H.failures self.old.shelf →
+            self.new.failures ≡ self.old.failures }
+        ensures index { self.new.index ≡ self.old.index }
+    {
+        match self.put_back() {
+            Ok(()) => {
+                self.doubt = None;
+                Ok(())
+            }
+            Err(ShelfFault::NoMemory) => Err(StoreFault::NoMemory),
+            Err(ShelfFault::Failed) => Err(self.refuse()),
+        }
+    }
+
+    /// Puts a share where none stands, and answers `true`: in the index, and then on the shelf. Where the shelf refuses,
+    /// it is taken out of the index again. `false` where one stands, whether a change is in doubt or not, and then the
+    /// shelf isn't asked. Else a change in doubt is settled first.
+    ///
+    /// Refused with `Full` where it is longer than the room, with `Down` where the shelf failed, after which a change is
+    /// in doubt, and with `NoMemory` where there was no memory or a failure could not be counted.
     pub fn keep(
         &mut self,
         index: [u8; 16],
@@ -244,13 +323,15 @@ impl<H: Shelf> ShelfStore<H> {
             (⟦<ShelfStore<H> as Store>⟧.shares self.old)
             (put_once (⟦<ShelfStore<H> as Store>⟧.shares self.old) (index, number)
             (rc_slice_items bytes)) }
-        ensures stays_down { is_some (in_doubt self.old.doubt) ≡ true →
-            self.new.doubt ≡ self.old.doubt }
-        ensures goes_down { H.failures self.old.shelf < H.failures self.new.shelf →
-            is_some (in_doubt self.new.doubt) ≡ true }
-        ensures stays_up { in_doubt self.old.doubt ≡ None →
+        ensures comes_up { map.get (known self.old.index) (index, number) ≡ None →
             H.failures self.new.shelf ≡ H.failures self.old.shelf →
-            (in_doubt self.new.doubt ≡ None) × (IsErrOf result StoreFault.Down → ⊥) }
+            (IsErrOf result StoreFault.NoMemory → ⊥) → in_doubt self.new.doubt ≡ None }
+        ensures stays_in_doubt { H.failures self.new.shelf ≡ H.failures self.old.shelf →
+            is_some (in_doubt self.new.doubt) ≡ true → self.new.doubt ≡ self.old.doubt }
+        ensures goes_in_doubt { H.failures self.old.shelf < H.failures self.new.shelf →
+            is_some (in_doubt self.new.doubt) ≡ true }
+        ensures down_only { H.failures self.new.shelf ≡ H.failures self.old.shelf →
+            IsErrOf result StoreFault.Down → ⊥ }
         ensures counts { H.failures self.old.shelf < H.failures self.new.shelf →
             (OnOk result ⊥) × (self.new.failures ≡ (if self.old.failures == 2 ^ 64 - 1
             then self.old.failures else self.old.failures + 1)) }
@@ -260,9 +341,7 @@ impl<H: Shelf> ShelfStore<H> {
         if self.index.get(&index, number).is_some() {
             return Ok(false);
         }
-        if self.doubt.is_some() {
-            return Err(self.refuse());
-        }
+        self.settle()?;
         let size = bytes.len() as u64;
         self.index.put(index, number, size)?;
         match self.shelf.put(index, number, bytes) {
@@ -284,10 +363,11 @@ impl<H: Shelf> ShelfStore<H> {
     }
 
     /// Takes a share away, and answers `true`: from the shelf, and then from the index. Its bytes are read before, since
-    /// they still stand where the shelf fails. `false` where none stands, whether the store is down or not.
+    /// they still stand where the shelf fails. `false` where none stands, whether a change is in doubt or not, and then
+    /// the shelf isn't asked. Else a change in doubt is settled first.
     ///
-    /// Refused with `Down` where the store is down or its shelf failed, which takes it down unless it failed in the read,
-    /// and with `NoMemory` where there was no memory or a failure could not be counted.
+    /// Refused with `Down` where the shelf failed, after which a change is in doubt unless it failed in the read, and with
+    /// `NoMemory` where there was no memory or a failure could not be counted.
     pub fn give_up(&mut self, index: [u8; 16], number: u16) -> Result<bool, StoreFault>
         ensures rises { self.old.failures ≤ self.new.failures }
         ensures down { IsErrOf result StoreFault.Down ↔ (self.old.failures < self.new.failures) }
@@ -307,11 +387,13 @@ impl<H: Shelf> ShelfStore<H> {
             (in_doubt self.old.doubt) self.old.shelf self.new.shelf
             (⟦<ShelfStore<H> as Store>⟧.shares self.old)
             (map.remove (⟦<ShelfStore<H> as Store>⟧.shares self.old) (index, number)) }
-        ensures stays_down { is_some (in_doubt self.old.doubt) ≡ true →
-            self.new.doubt ≡ self.old.doubt }
-        ensures stays_up { in_doubt self.old.doubt ≡ None →
+        ensures comes_up { is_some (map.get (known self.old.index) (index, number)) ≡ true →
             H.failures self.new.shelf ≡ H.failures self.old.shelf →
-            (in_doubt self.new.doubt ≡ None) × (IsErrOf result StoreFault.Down → ⊥) }
+            (IsErrOf result StoreFault.NoMemory → ⊥) → in_doubt self.new.doubt ≡ None }
+        ensures stays_in_doubt { H.failures self.new.shelf ≡ H.failures self.old.shelf →
+            is_some (in_doubt self.new.doubt) ≡ true → self.new.doubt ≡ self.old.doubt }
+        ensures down_only { H.failures self.new.shelf ≡ H.failures self.old.shelf →
+            IsErrOf result StoreFault.Down → ⊥ }
         ensures counts { H.failures self.old.shelf < H.failures self.new.shelf →
             (OnOk result ⊥) × (self.new.failures ≡ (if self.old.failures == 2 ^ 64 - 1
             then self.old.failures else self.old.failures + 1)) }
@@ -321,9 +403,7 @@ impl<H: Shelf> ShelfStore<H> {
         if self.index.get(&index, number).is_none() {
             return Ok(false);
         }
-        if self.doubt.is_some() {
-            return Err(self.refuse());
-        }
+        self.settle()?;
         let before = match self.stood(index, number) {
             Ok(before) => before,
             Err(ShelfFault::NoMemory) => return Err(StoreFault::NoMemory),
@@ -347,7 +427,8 @@ impl<H: Shelf> ShelfStore<H> {
     }
 
     /// Changes the lowest bit of one byte of a share, the byte at `place` from 0, and answers `true`: the share is read,
-    /// and put whole with that bit changed. `false` where there is no such byte, whether the store is down or not.
+    /// and put whole with that bit changed. `false` where there is no such byte, whether a change is in doubt or not, and
+    /// then the shelf isn't asked. Else a change in doubt is settled first.
     ///
     /// Refused as a loss is, and with `Down` also where the shelf gave not as many bytes as the index has.
     pub fn alter(&mut self, index: [u8; 16], number: u16, place: u64) -> Result<bool, StoreFault>
@@ -369,12 +450,12 @@ impl<H: Shelf> ShelfStore<H> {
             (in_doubt self.old.doubt) self.old.shelf self.new.shelf
             (⟦<ShelfStore<H> as Store>⟧.shares self.old)
             (with_toggle (⟦<ShelfStore<H> as Store>⟧.shares self.old) (index, number) place) }
-        ensures stays_down { is_some (in_doubt self.old.doubt) ≡ true →
-            self.new.doubt ≡ self.old.doubt }
-        ensures stays_up { in_doubt self.old.doubt ≡ None →
+        ensures comes_up { has_byte (known self.old.index) (index, number) place ≡ true →
             H.failures self.new.shelf ≡ H.failures self.old.shelf →
-            in_doubt self.new.doubt ≡ None }
-        ensures down_only { IsTrue (H.honest self.old.shelf) → in_doubt self.old.doubt ≡ None →
+            (IsErrOf result StoreFault.NoMemory → ⊥) → in_doubt self.new.doubt ≡ None }
+        ensures stays_in_doubt { H.failures self.new.shelf ≡ H.failures self.old.shelf →
+            is_some (in_doubt self.new.doubt) ≡ true → self.new.doubt ≡ self.old.doubt }
+        ensures down_only { IsTrue (H.honest self.old.shelf) →
             H.failures self.new.shelf ≡ H.failures self.old.shelf →
             IsErrOf result StoreFault.Down → ⊥ }
         ensures counts { H.failures self.old.shelf < H.failures self.new.shelf →
@@ -390,9 +471,7 @@ impl<H: Shelf> ShelfStore<H> {
         if place >= size {
             return Ok(false);
         }
-        if self.doubt.is_some() {
-            return Err(self.refuse());
-        }
+        self.settle()?;
         let Some(before) = self.whole(index, number, size)? else {
             return Err(StoreFault::Down);
         };

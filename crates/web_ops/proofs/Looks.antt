@@ -18,7 +18,8 @@ use Rattle.web_request.specs.declared.request.Request.TheVariants.{Put, Mkdir, G
 use Rattle.web_ops.specs.declared.reply.Reply.{Reply}
 use Rattle.web_ops.specs.Encoding.{Encoding}
 use Rattle.web_ops.specs.Replies.{json_reply, bytes_reply, not_readable}
-use Rattle.web_ops.specs.Answers.{is_verify_cap, at_end, with_bytes, listing_reply, content_reply, node_json_reply, node_reply, heeded, health_reply, request_reply}
+use Rattle.caps.specs.Kinds.{is_verify_cap}
+use Rattle.web_ops.specs.Answers.{at_end, with_bytes, listing_reply, content_reply, node_json_reply, node_reply, heeded, health_reply, request_reply}
 use Rattle.web_ops.specs.Reach.{met}
 use Rattle.web_ops.specs.Agree.{AgreesAt, AgreeOn}
 

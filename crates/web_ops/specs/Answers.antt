@@ -3,6 +3,7 @@ use Rattle.std.specs.Prelude.{ℕ, List, length, Bool, true, false, ◌&&◌, �
 use Rattle.caps.specs.declared.cap.Cap.{Cap}
 use Rattle.caps.specs.declared.cap.Cap.TheVariants.{Chk, Lit, DirChk, DirLit, ChkVerify, DirChkVerify}
 use Rattle.caps.specs.declared.cap.VerifyCap.{VerifyCap}
+use Rattle.caps.specs.Kinds.{is_verify_cap}
 use Rattle.caps.specs.Weakening.{weakened}
 use Rattle.dir_codec.specs.declared.entry.Entry.{Entry}
 use Rattle.dir_codec.specs.Reading.{children}
@@ -23,14 +24,6 @@ use Rattle.web_ops.specs.Replies.{cap_reply, json_reply, bytes_reply, not_readab
 use Rattle.web_ops.specs.Uploads.{directory_cap}
 
 -- ---- walks
-
-abbrev pub is_verify_cap : Cap → Bool
-is_verify_cap (Chk fields) = false
-is_verify_cap (Lit bytes) = false
-is_verify_cap (DirChk fields) = false
-is_verify_cap (DirLit bytes) = false
-is_verify_cap (ChkVerify fields) = true
-is_verify_cap (DirChkVerify fields) = true
 
 -- a walk that stopped; memory that ran out is told by no reply
 abbrev pub walk_reply : WalkFault → Reply

@@ -20,7 +20,8 @@ use Rattle.web_ops.specs.declared.reply.Reply.{Reply}
 use Rattle.web_ops.specs.Encoding.{Encoding, upload_of}
 use Rattle.web_ops.specs.Replies.{cap_reply, json_reply, bytes_reply, not_readable, not_enough_shares, is_directory, bad_children, store_full, store_down}
 use Rattle.web_ops.specs.Uploads.{directory_cap}
-use Rattle.web_ops.specs.Answers.{is_verify_cap, walk_reply, listing_reply, heeded}
+use Rattle.caps.specs.Kinds.{is_verify_cap}
+use Rattle.web_ops.specs.Answers.{walk_reply, listing_reply, heeded}
 
 -- ---- uploads
 

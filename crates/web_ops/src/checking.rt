@@ -3,14 +3,15 @@ ghost use Rattle.std.specs.Prelude.{◌≡◌, ⊤, ◌==◌, ◌&&◌, not, len
 ghost use Rattle.grid.specs.Stamped.{IsStamped};
 ghost use Rattle.chk_file.specs.Cached.{IsFresh};
 ghost use Rattle.caps.specs.Weakening.{weakened};
-ghost use Rattle.web_ops.specs.Answers.{is_verify_cap, health_reply, check_reply};
+ghost use Rattle.caps.specs.Kinds.{is_verify_cap};
+ghost use Rattle.web_ops.specs.Answers.{health_reply, check_reply};
 ghost use Rattle.web_ops.specs.Replied.{IsHealth, IsAnsweredFrom};
 ghost use Rattle.web_ops.specs.Calls.{IsFound};
 
-use crate::node::{is_verify_cap, walk_refused};
+use crate::node::walk_refused;
 use crate::replies::{json_reply, not_readable};
 use crate::reply::Reply;
-use caps::{Cap, weaken};
+use caps::{Cap, is_verify_cap, weaken};
 use chk_file::Cache;
 use grid::Grid;
 use json_view::{check_json, literal_check_json};

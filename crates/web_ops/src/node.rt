@@ -1,9 +1,9 @@
 //! The bytes and the JSON of what a path leads to.
 ghost use Rattle.std.specs.Prelude.{◌≡◌, ◌≢◌, ◌↔◌, IfOk, IsTrue};
 ghost use Rattle.chk_file.specs.Cached.{IsFresh};
-ghost use Rattle.dir_codec.specs.declared.fault.DirFault.TheVariants.{NoMemory as TextNoMemory};
 ghost use Rattle.path_walk.specs.declared.fault.WalkFault.TheVariants.{NoMemory};
-ghost use Rattle.web_ops.specs.Answers.{is_verify_cap, walk_reply, content_reply, listing_reply, node_json_reply, node_reply, get_reply};
+ghost use Rattle.caps.specs.Kinds.{is_verify_cap};
+ghost use Rattle.web_ops.specs.Answers.{walk_reply, content_reply, listing_reply, node_json_reply, node_reply, get_reply};
 ghost use Rattle.web_ops.specs.Replied.{IsContent, IsNodeJson, IsNode, IsAnsweredFrom};
 ghost use Rattle.web_ops.specs.Calls.{IsFound};
 
@@ -12,9 +12,9 @@ use crate::replies::{
     not_enough_shares, not_readable,
 };
 use crate::reply::Reply;
-use caps::Cap;
+use caps::{Cap, is_verify_cap};
 use chk_file::{Cache, ReadFault, begin, read};
-use dir_codec::{DirFault, decode};
+use dir_codec::{decode, is_memory};
 use grid::Grid;
 use json_view::{dir_json, file_json};
 use octets::Bytes;
@@ -43,16 +43,6 @@ pub fn get<S: Store>(
     match walk(alloc, grid, cache, cap, names) {
         Ok(end) => node(alloc, grid, cache, end, json, range),
         Err(fault) => walk_refused(alloc, &fault),
-    }
-}
-
-/// Whether a cap tells good shares from bad and reads nothing.
-pub fn is_verify_cap(cap: &Cap) -> bool
-    ensures { result ≡ is_verify_cap cap.now }
-{
-    match cap {
-        Cap::ChkVerify(_) | Cap::DirChkVerify(_) => true,
-        Cap::Chk(_) | Cap::Lit(_) | Cap::DirChk(_) | Cap::DirLit(_) => false,
     }
 }
 
@@ -134,19 +124,6 @@ fn node_json<S: Store>(
         },
         Cap::DirLit(bytes) => listing(alloc, cap, bytes.as_slice()),
         Cap::ChkVerify(_) | Cap::DirChkVerify(_) => not_readable(alloc),
-    }
-}
-
-/// Whether a text was not read because memory was refused, and not for what it says.
-pub fn is_memory(fault: &DirFault) -> bool
-    ensures { IsTrue result ↔ (fault.now ≡ TextNoMemory) }
-{
-    match fault {
-        DirFault::NoMemory => true,
-        DirFault::Torn | DirFault::NotSorted | DirFault::BadName | DirFault::BadCap => false,
-        DirFault::NotImmutable | DirFault::WriteCap | DirFault::BadMetadata => false,
-        DirFault::NotJson | DirFault::BadShape | DirFault::SameName => false,
-        DirFault::FractionalNumber => false,
     }
 }
 

@@ -11,12 +11,11 @@ ghost use Rattle.web_ops.specs.Replies.{cap_reply};
 ghost use Rattle.web_ops.specs.Replied.{IsStored};
 ghost use Rattle.web_ops.specs.Calls.{IsCarriedOut, IsPerformed};
 
-use crate::node::is_memory;
 use crate::replies::{bad_children, cap_reply, store_down, store_full};
 use crate::reply::Reply;
 use caps::Cap;
 use chk_file::upload;
-use dir_codec::{encode, from_children_json};
+use dir_codec::{encode, from_children_json, is_memory};
 use grid::{Grid, GridFault};
 use octets::Bytes;
 use share_store::Store;

@@ -1,6 +1,6 @@
 -- What a method and a query ask for.
 use Rattle.std.specs.Prelude.{ℕ, Bool, true, false, ◌==◌, ◌||◌, not, List, length, bytes_eq, codes, if◌then◌else◌, Option, Some, None, Result, Ok, Err}
-use Rattle.web_request.specs.Case.{eq_ignore_case}
+use Rattle.octets.specs.Case.{eq_ignore_case}
 use Rattle.web_request.specs.declared.query.Query.{Query}
 use Rattle.web_request.specs.declared.request.Resource.{Resource}
 use Rattle.web_request.specs.declared.request.Resource.TheVariants.{Uploads, Node}

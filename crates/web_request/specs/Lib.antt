@@ -1,4 +1,3 @@
-pub mod Case
 pub mod Targets
 pub mod Queries
 pub mod Actions

@@ -1,7 +1,7 @@
 -- The range that a head asks for (RFC 9110, sections 13.1.5 and 14.2).
 use Rattle.std.specs.Prelude.{ℕ, Bool, List, [], ◌∷◌, filter, codes, if◌then◌else◌, Option, Some, None, option_map}
 use Rattle.std.specs.List.{list_any}
-use Rattle.web_request.specs.Case.{eq_ignore_case}
+use Rattle.octets.specs.Case.{eq_ignore_case}
 use Rattle.web_request.specs.declared.head.Field.{Field}
 
 unfoldable pub is_range : Field → Bool

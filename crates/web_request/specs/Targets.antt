@@ -1,7 +1,7 @@
 -- The path and the query of a target (RFC 9112, section 3.2; RFC 3986, section 3).
 use Rattle.std.specs.Prelude.{ℕ, Bool, ◌==◌, ◌||◌, List, [], ◌∷◌, take, drop, nat_eq, bytes_eq, codes, if◌then◌else◌, Option, Some, None}
 use Rattle.std.specs.List.{starts_with, before_first, after_first}
-use Rattle.web_request.specs.Case.{eq_ignore_case}
+use Rattle.octets.specs.Case.{eq_ignore_case}
 use Rattle.web_request.specs.declared.request.Resource.{Resource}
 use Rattle.web_request.specs.declared.request.Resource.TheVariants.{Uploads, Node}
 

@@ -1,6 +1,6 @@
 //! What a method and a query ask for.
 ghost use Rattle.std.specs.Prelude.{◌≡◌, Some};
-ghost use Rattle.web_request.specs.Case.{eq_ignore_case};
+ghost use Rattle.octets.specs.Case.{eq_ignore_case};
 ghost use Rattle.web_request.specs.Actions.{action_of, upload_action, node_action, is_one_of, is_text, is_text_in_any_case, is_plain, verify_of, read_of, check_of};
 
 use crate::fault::WebFault;

@@ -1,9 +1,6 @@
-use Rattle.std.proofs.Common.{◌≡◌, ◌∙◌, rules, tests, true, length, arith, ℕ, ◌<◌}
+use Rattle.std.proofs.Common.{◌≡◌, ◌∙◌, true, length, arith, ℕ, ◌<◌}
 use Rattle.std.specs.Prelude.{nat_lt}
-use Rattle.std.specs.Char.{is_ascii_digit}
 use Rattle.std.proofs.lemmas.Bool.Decides.{nat_tests}
-use Rattle.std.proofs.lemmas.Iterator.{YieldsList-from_slice}
-use Rattle.std.proofs.lemmas.Iterator.Search.{all_from_yields_List}
 use Rattle.http_edge.proofs.judge.is_number.Goals as goal
 
 positive : (n : ℕ) → 0 < n → nat_lt 0 n ≡ true
@@ -12,5 +9,4 @@ positive n h = grind (arith, nat_tests)
 pub returns-then-not-is_empty : goal.returns-then-not-is_empty
 returns-then-not-is_empty c =
     let some : nat_lt 0 (length c.args.value.now) ≡ true = positive (length c.args.value.now) (grind (arith, nat_tests)) in
-    all_from_yields_List is_ascii_digit _ _ _ c.all.ensures.ran (YieldsList-from_slice c.args.value.now (cc)) (λ x b q k. search (rules, tests))
-    ∙ (rw some)
+    c.is_all_digits.ensures ∙ (rw some)

@@ -2,7 +2,8 @@ use Rattle.std.proofs.Common.{List, ℕ, rules, tests}
 use Rattle.std.proofs.lemmas.Iterator.Search.{any_from_yields_List}
 use Rattle.std.proofs.lemmas.Iterator.Splits.{YieldsList-from_slice_split}
 use Rattle.httparse.specs.Grammar.{trim_ows}
-use Rattle.http_edge.specs.Judge.{eq_ignore_case, is_comma, lists_token}
+use Rattle.octets.specs.Case.{eq_ignore_case}
+use Rattle.http_edge.specs.Judge.{is_comma, lists_token}
 use Rattle.http_edge.proofs.judge.lists_token.Goals as goal
 
 pub returns : goal.returns

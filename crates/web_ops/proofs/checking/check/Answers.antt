@@ -1,7 +1,8 @@
 use Rattle.std.proofs.Common.{length, sym, ◌∙◌}
 use Rattle.std.specs.Prelude.{⊤, ◌==◌, ◌&&◌, not}
 use Rattle.caps.specs.Weakening.{weakened}
-use Rattle.web_ops.specs.Answers.{is_verify_cap, health_reply}
+use Rattle.caps.specs.Kinds.{is_verify_cap}
+use Rattle.web_ops.specs.Answers.{health_reply}
 use Rattle.web_ops.specs.Replied.{IsHealth}
 use Rattle.web_ops.proofs.Found.{from_somewhere, walked_to}
 use Rattle.chk_file.proofs.Freshness.{fresh_stays}

@@ -1,4 +1,5 @@
-use Rattle.web_ops.specs.Answers.{is_verify_cap, node_reply}
+use Rattle.caps.specs.Kinds.{is_verify_cap}
+use Rattle.web_ops.specs.Answers.{node_reply}
 use Rattle.std.proofs.Common.{sym, ◌∙◌}
 use Rattle.web_ops.specs.Replied.{IsNode}
 use Rattle.web_ops.proofs.Found.{from_somewhere, walked_to, walk_stopped}

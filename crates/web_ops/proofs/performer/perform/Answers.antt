@@ -4,7 +4,8 @@ use Rattle.chk_file.specs.Cached.{IsFresh}
 use Rattle.chk_file.proofs.Freshness.{fresh_stays}
 use Rattle.web_request.specs.declared.request.Request.TheVariants.{Put, Mkdir, Get}
 use Rattle.web_ops.specs.Encoding.{encoding_of}
-use Rattle.web_ops.specs.Answers.{is_verify_cap, get_reply}
+use Rattle.caps.specs.Kinds.{is_verify_cap}
+use Rattle.web_ops.specs.Answers.{get_reply}
 use Rattle.web_ops.specs.Replied.{IsAnsweredFrom, IsNode}
 use Rattle.web_ops.specs.Calls.{IsFound, IsPerformed}
 use Rattle.web_ops.proofs.CarriedOut.{same_request, nothing_stored}
