@@ -1,9 +1,0 @@
-use Rattle.std.proofs.Common.{◌≡◌, length, reverse}
-use Rattle.range_view.specs.Asked.{skip_blanks}
-use Rattle.range_view.proofs.value.trim_end.Given as goal
-
-abbrev pub invariant-loop-text : goal.invariant-loop-text
-invariant-loop-text l = skip_blanks (reverse l.text) ≡ skip_blanks (reverse l.fn.text)
-
-abbrev pub decreases-loop-text : goal.decreases-loop-text
-decreases-loop-text l = length l.text
