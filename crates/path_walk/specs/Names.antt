@@ -1,10 +1,10 @@
 -- What a path after `/uri/` names.
-use Rattle.std.specs.Prelude.{ℕ, ◌+◌, ◌-◌, ◌&&◌, ◌||◌, ◌==◌, nat_lt, not, Bool, false, List, [], ◌∷◌, length, take, drop, slice_index, map, chars, encode_utf8_all, if◌then◌else◌, Result, Ok, Err}
+use Rattle.std.specs.Prelude.{ℕ, ◌+◌, ◌-◌, ◌&&◌, ◌||◌, ◌==◌, nat_lt, not, Bool, false, List, [], ◌∷◌, length, take, drop, slice_index, map, if◌then◌else◌, Result, Ok, Err}
 use Rattle.std.specs.List.{slice_split, list_any, list_all}
 use Rattle.std.specs.Char.{is_ascii_hexdigit}
 use Rattle.std.specs.Str.{is_utf8}
 use Rattle.percent_encoding.specs.Percent.{percent_decode}
-use Rattle.unicode_normalization.specs.Forms.{nfc}
+use Rattle.dir_codec.specs.Children.{nfc_text}
 use Rattle.path_walk.specs.declared.fault.PathFault.{PathFault}
 use Rattle.path_walk.specs.declared.fault.PathFault.TheVariants.{BadEscape, NotUtf8, TooMany, EmptyName}
 
@@ -38,10 +38,6 @@ segments path = slice_split (λ b. b == slash) (without_end_slash path)
 -- the bytes that the segments stand for
 abbrev pub texts : List ℕ → List (List ℕ)
 texts path = map percent_decode (segments path)
-
--- a text in Normalization Form C (UAX 15)
-abbrev pub nfc_text : List ℕ → List ℕ
-nfc_text text = encode_utf8_all (nfc (chars text))
 
 abbrev pub is_empty : List ℕ → Bool
 is_empty text = length text == 0

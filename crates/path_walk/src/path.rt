@@ -3,7 +3,8 @@ ghost use Rattle.std.specs.Prelude.{◌≡◌, ◌≢◌, ◌<◌, true, false, 
 ghost use Rattle.std.specs.List.{list_all, list_any};
 ghost use Rattle.std.specs.Str.{is_utf8};
 ghost use Rattle.percent_encoding.specs.Percent.{percent_decode};
-ghost use Rattle.path_walk.specs.Names.{texts, nfc_text, is_empty, names_of};
+ghost use Rattle.dir_codec.specs.Children.{nfc_text};
+ghost use Rattle.path_walk.specs.Names.{texts, is_empty, names_of};
 ghost use Rattle.path_walk.specs.declared.fault.PathFault.TheVariants.{NotUtf8, NoMemory};
 
 use crate::fault::PathFault;
@@ -81,13 +82,21 @@ fn has_empty(texts: &[Text]) -> bool
     texts.iter().any(|text| text.as_str().is_empty())
 }
 
+/// A text in Normalization Form C (UAX 15), as the names of a directory's children are.
+#[tactic(auto, unfolding(dir_codec::specs::Children::nfc_text))]
+fn nfc_of(alloc: Global, text: &Text) -> Result<Text, AllocError>
+    ensures { IfOk result (λ name. name ≡ nfc_text text.now) }
+{
+    Ok(Text::from_string(to_nfc(alloc, text.as_str())?))
+}
+
 /// The texts in Normalization Form C.
 fn normalized(alloc: Global, texts: &[Text]) -> Result<Vec<Text>, AllocError>
     ensures { IfOk result (λ names. names.items ≡ map nfc_text texts.now) }
 {
     let mut names = Vec::with_capacity(alloc, texts.len())?;
     for text in texts {
-        names.push(Text::from_string(to_nfc(alloc, text.as_str())?))?;
+        names.push(nfc_of(alloc, text)?)?;
     }
     Ok(names)
 }

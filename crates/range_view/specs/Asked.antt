@@ -1,5 +1,5 @@
 -- What the value of a Range field asks for (RFC 9110, sections 14.1.2 and 14.2).
-use Rattle.std.specs.Prelude.{ℕ, ◌+◌, ◌^◌, Bool, ◌&&◌, ◌||◌, not, ◌==◌, List, [], ◌∷◌, length, take, drop, map, reverse, min, if◌then◌else◌, Option, Some, None, option_map, option_and_then, position, codes}
+use Rattle.std.specs.Prelude.{ℕ, ◌+◌, ◌^◌, ◌&&◌, not, ◌==◌, List, length, take, drop, min, if◌then◌else◌, Option, Some, None, option_map, option_and_then, position, codes}
 use Rattle.std.specs.List.{list_all}
 use Rattle.std.specs.Char.{is_ascii_digit}
 use Rattle.std.specs.Str.Parse.{digits_value}

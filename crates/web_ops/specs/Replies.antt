@@ -14,6 +14,8 @@ use Rattle.web_ops.specs.declared.reply.MediaType.TheVariants.{OctetStream, Plai
 use Rattle.web_ops.specs.declared.reply.Field.{Field}
 use Rattle.web_ops.specs.declared.reply.Field.TheVariants.{ContentRange, UnsatisfiedRange, Allow}
 use Rattle.web_ops.specs.declared.reply.Reply.{Reply}
+use Rattle.web_ops.specs.declared.failed.Failure.{Failure}
+use Rattle.web_ops.specs.declared.failed.Failure.TheVariants as failure
 
 abbrev pub reply_with : Status → MediaType → Option Field → List ℕ → Reply
 reply_with answered media_type field body = record {
@@ -74,6 +76,17 @@ store_full = fault_reply status.ServiceUnavailable (codes "store full")
 
 abbrev pub store_down : Reply
 store_down = fault_reply status.ServiceUnavailable (codes "store down")
+
+-- what can't be met
+abbrev pub failure_reply : Failure → Reply
+failure_reply failure.NotReadable = not_readable
+failure_reply failure.NoChild = no_child
+failure_reply failure.NotDirectory = not_directory
+failure_reply failure.NotEnoughShares = not_enough_shares
+failure_reply failure.NeedsJson = is_directory
+failure_reply failure.BadChildren = bad_children
+failure_reply failure.StoreFull = store_full
+failure_reply failure.StoreDown = store_down
 
 -- what is no request; memory that ran out is told by no reply
 abbrev pub refusal_reply : WebFault → Reply

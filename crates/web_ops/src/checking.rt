@@ -8,8 +8,9 @@ ghost use Rattle.web_ops.specs.Answers.{health_reply, check_reply};
 ghost use Rattle.web_ops.specs.Replied.{IsHealth, IsAnsweredFrom};
 ghost use Rattle.web_ops.specs.Calls.{IsFound};
 
+use crate::failed::{Failure, failure};
 use crate::node::walk_refused;
-use crate::replies::{json_reply, not_readable};
+use crate::replies::json_reply;
 use crate::reply::Reply;
 use caps::{Cap, is_verify_cap, weaken};
 use chk_file::Cache;
@@ -35,7 +36,7 @@ pub fn check<S: Store>(
         (λ look. check_reply look cap.now names.now verify) result grid.old grid.new }
 {
     if leads_nowhere(cap, names) {
-        return not_readable(alloc);
+        return failure(alloc, Failure::NotReadable);
     }
     match walk(alloc, grid, cache, cap, names) {
         Ok(end) => health(alloc, grid, &end, verify),

@@ -15,6 +15,8 @@ mod reply;
 mod replies;
 /// Replies to what is no request.
 mod refused;
+/// Replies to requests that can't be met.
+mod failed;
 /// Carrying out requests.
 mod performer;
 /// Storing files and directories.

@@ -1,7 +1,7 @@
 //! The replies that are given.
 ghost use Rattle.std.specs.Prelude.{◌≡◌, ◌∷◌, [], ◌++◌, ◌≤◌, ◌<◌, length, IfOk, Some, None};
 ghost use Rattle.caps.specs.CapTexts.{cap_text};
-ghost use Rattle.web_ops.specs.Replies.{reply_with, cap_reply, json_reply, file_reply, part_reply, unsatisfiable, bytes_reply, not_readable, no_child, not_directory, not_enough_shares, is_directory, bad_children, store_full, store_down};
+ghost use Rattle.web_ops.specs.Replies.{reply_with, cap_reply, json_reply, file_reply, part_reply, unsatisfiable, bytes_reply};
 
 use crate::body::Body;
 use crate::part::Part;
@@ -147,60 +147,4 @@ fn unsatisfiable(alloc: Global, size: u64) -> Result<Reply, AllocError>
     let range = Field::UnsatisfiedRange(size);
     let line = b"range not satisfiable\n";
     fault_with(alloc, Status::RangeNotSatisfiable, Some(range), line)
-}
-
-/// A verify cap gives no bytes.
-pub fn not_readable(alloc: Global) -> Result<Reply, AllocError>
-    ensures { IfOk result (λ reply. reply ≡ not_readable) }
-{
-    fault_with(alloc, Status::BadRequest, None, b"not a readable cap\n")
-}
-
-/// A directory has no child of the name.
-pub fn no_child(alloc: Global) -> Result<Reply, AllocError>
-    ensures { IfOk result (λ reply. reply ≡ no_child) }
-{
-    fault_with(alloc, Status::NotFound, None, b"no such child\n")
-}
-
-/// What should be a directory is none.
-pub fn not_directory(alloc: Global) -> Result<Reply, AllocError>
-    ensures { IfOk result (λ reply. reply ≡ not_directory) }
-{
-    fault_with(alloc, Status::BadRequest, None, b"not a directory\n")
-}
-
-/// Too few good shares were found.
-pub fn not_enough_shares(alloc: Global) -> Result<Reply, AllocError>
-    ensures { IfOk result (λ reply. reply ≡ not_enough_shares) }
-{
-    fault_with(alloc, Status::Gone, None, b"not enough shares\n")
-}
-
-/// A directory has JSON, and no bytes of a file.
-pub fn is_directory(alloc: Global) -> Result<Reply, AllocError>
-    ensures { IfOk result (λ reply. reply ≡ is_directory) }
-{
-    fault_with(alloc, Status::BadRequest, None, b"directory needs t=json\n")
-}
-
-/// The JSON names no children.
-pub fn bad_children(alloc: Global) -> Result<Reply, AllocError>
-    ensures { IfOk result (λ reply. reply ≡ bad_children) }
-{
-    fault_with(alloc, Status::BadRequest, None, b"bad children\n")
-}
-
-/// A store had no room.
-pub fn store_full(alloc: Global) -> Result<Reply, AllocError>
-    ensures { IfOk result (λ reply. reply ≡ store_full) }
-{
-    fault_with(alloc, Status::ServiceUnavailable, None, b"store full\n")
-}
-
-/// A store failed.
-pub fn store_down(alloc: Global) -> Result<Reply, AllocError>
-    ensures { IfOk result (λ reply. reply ≡ store_down) }
-{
-    fault_with(alloc, Status::ServiceUnavailable, None, b"store down\n")
 }

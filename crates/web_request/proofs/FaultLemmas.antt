@@ -6,7 +6,8 @@ use Rattle.std.specs.Str.{is_utf8}
 use Rattle.caps.specs.Reading.{cap_reading}
 use Rattle.caps.specs.declared.cap.Cap.{Cap}
 use Rattle.caps.specs.declared.fault.CapFault.{CapFault}
-use Rattle.path_walk.specs.Names.{names_of, texts, has_bad_escape, max_names, is_empty, first_or_empty, nfc_text}
+use Rattle.dir_codec.specs.Children.{nfc_text}
+use Rattle.path_walk.specs.Names.{names_of, texts, has_bad_escape, max_names, is_empty, first_or_empty}
 use Rattle.path_walk.specs.declared.fault.PathFault.TheVariants as walk
 use Rattle.web_request.specs.Targets.{origin_of, path_of, query_text, resource_of, below_uri}
 use Rattle.web_request.specs.Queries.{query_of}
