@@ -21,3 +21,4 @@ pub mod Raising
 pub mod StampLemmas
 pub mod Standing
 pub mod Turns
+pub mod Within

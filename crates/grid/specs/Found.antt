@@ -1,5 +1,5 @@
 -- The shares of one storage index, server by server.
-use Rattle.std.specs.Prelude.{◌≡◌, ◌⊎◌, ℕ, zero, suc, List, [], ◌∷◌, ◌++◌, map, slice_get}
+use Rattle.std.specs.Prelude.{◌≡◌, ◌⊎◌, ℕ, zero, suc, List, [], ◌∷◌, ◌++◌, map, filter, nat_lt, slice_get, Option, None, Some}
 use Rattle.std.specs.Option.{option_map_or}
 use Rattle.std.specs.FinMap.{entries}
 use Rattle.share_store.specs.Shares.{Shares, Entry}
@@ -17,6 +17,11 @@ entries_at maps server = option_map_or entries (slice_get maps server) []
 abbrev pub found_below : List Shares → List ℕ → ℕ → List (ℕ × ℕ × List ℕ)
 found_below maps index zero = []
 found_below maps index (suc n) = found_below maps index n ++ found_in n index (entries_at maps n)
+
+-- those of numbers below a limit, where there is one
+abbrev pub within : {A : Type 0} → (A → ℕ) → Option ℕ → List A → List A
+within number None all = all
+within number (Some limit) all = filter (λ x. nat_lt (number x) limit) all
 
 -- a found share as its numbers and bytes
 abbrev pub seen : {A : Type 0} → (A → List ℕ) → ℕ × ℕ × A → ℕ × ℕ × List ℕ

@@ -1,5 +1,5 @@
 //! A grid of stores.
-ghost use Rattle.std.specs.Prelude.{◌≡◌, ◌<◌, ◌≤◌, ◌↔◌, ◌⊎◌, Err, ◌++◌, ℕ, [], length, map, All, IfOk, IfErr, IsOkAnd, OnOk, OnErr, IsErrOf, None, Some, is_some, nat_lt, unwrap_or, vec_len, IsTrue, slice_get};
+ghost use Rattle.std.specs.Prelude.{◌≡◌, ◌<◌, ◌≤◌, ◌↔◌, ◌⊎◌, Err, ◌++◌, ℕ, [], length, map, filter, All, IfOk, IfErr, IsOkAnd, OnOk, OnErr, IsErrOf, None, Some, is_some, nat_lt, unwrap_or, vec_len, IsTrue, slice_get};
 ghost use Rattle.std.specs.Rc.{rc_slice_items};
 ghost use Rattle.std.specs.Option.{option_map, option_map_or};
 ghost use Rattle.std.specs.FinMap as finite;
@@ -13,7 +13,7 @@ ghost use Rattle.grid.specs.Leaves.{Leaves, TellsDown, IsUnchanged};
 ghost use Rattle.grid.specs.Changed.{ArePut, StopsAt, IsLost, IsSpoiled};
 ghost use Rattle.grid.specs.NewBytes.{HasRoom};
 ghost use Rattle.grid.specs.Refusals.{IsPutRefusal, IsChangeRefusal};
-ghost use Rattle.grid.specs.Found.{entries_at, found_in, found_below, AllBut, seen};
+ghost use Rattle.grid.specs.Found.{entries_at, found_in, found_below, within, AllBut, seen};
 ghost use Rattle.grid.specs.OneStore.{IsPutHere};
 
 use crate::GridFault;
@@ -302,18 +302,69 @@ impl<S: Store> Grid<S> {
             All (λ f. stood self.old f.0 (index, f.1) ≡ Some f.2)
             (map (seen rc_slice_items) found.items)) }
     {
+        self.gather_within(index, None)
+    }
+
+    /// The same of the shares whose numbers are below a limit. No store is asked for the bytes of another.
+    pub fn gather_below(
+        &mut self,
+        index: [u8; 16],
+        limit: u16,
+    ) -> Result<Vec<(usize, u16, RcSlice<u8>)>, AllocError>
+        ensures leaves { Leaves self.old self.new }
+        ensures stamps { self.new.stamps ≡ self.old.stamps }
+        ensures unchanged { IsHonest self.old → IsUnchanged self.old self.new }
+        ensures found { IsHonest self.old → IfOk result (λ found.
+            AllBut (λ f. failures_at self.old f.0 < failures_at self.new f.0)
+            (within (λ f. f.1) (Some limit)
+            (found_below (maps_of self.old) index (length self.old.stores)))
+            (map (seen rc_slice_items) found.items)) }
+        ensures all { IsHonest self.old → NoneFailed self.old self.new → IfOk result (λ found.
+            map (seen rc_slice_items) found.items
+            ≡ within (λ f. f.1) (Some limit)
+            (found_below (maps_of self.old) index (length self.old.stores))) }
+        ensures stands { IsHonest self.old → IfOk result (λ found.
+            All (λ f. stood self.old f.0 (index, f.1) ≡ Some f.2)
+            (map (seen rc_slice_items) found.items)) }
+    {
+        self.gather_within(index, Some(limit))
+    }
+
+    /// The same, where there may be a limit.
+    fn gather_within(
+        &mut self,
+        index: [u8; 16],
+        limit: Option<u16>,
+    ) -> Result<Vec<(usize, u16, RcSlice<u8>)>, AllocError>
+        ensures leaves { Leaves self.old self.new }
+        ensures stamps { self.new.stamps ≡ self.old.stamps }
+        ensures unchanged { IsHonest self.old → IsUnchanged self.old self.new }
+        ensures found { IsHonest self.old → IfOk result (λ found.
+            AllBut (λ f. failures_at self.old f.0 < failures_at self.new f.0)
+            (within (λ f. f.1) limit
+            (found_below (maps_of self.old) index (length self.old.stores)))
+            (map (seen rc_slice_items) found.items)) }
+        ensures all { IsHonest self.old → NoneFailed self.old self.new → IfOk result (λ found.
+            map (seen rc_slice_items) found.items
+            ≡ within (λ f. f.1) limit
+            (found_below (maps_of self.old) index (length self.old.stores))) }
+        ensures stands { IsHonest self.old → IfOk result (λ found.
+            All (λ f. stood self.old f.0 (index, f.1) ≡ Some f.2)
+            (map (seen rc_slice_items) found.items)) }
+    {
         let mut found = Vec::new(*self.stores.allocator());
         for server in 0..self.servers() {
-            self.gather_at(server, index, &mut found)?;
+            self.gather_at(server, index, limit, &mut found)?;
         }
         Ok(found)
     }
 
-    /// Adds what stands under a storage index at one server.
+    /// Adds what stands under a storage index at one server, below the limit if there is one.
     fn gather_at(
         &mut self,
         server: usize,
         index: [u8; 16],
+        limit: Option<u16>,
         found: &mut Vec<(usize, u16, RcSlice<u8>)>,
     ) -> Result<(), AllocError>
         requires { server < length self.old.stores }
@@ -324,9 +375,11 @@ impl<S: Store> Grid<S> {
             × (map (seen rc_slice_items) found.new.items
             ≡ map (seen rc_slice_items) found.old.items ++ given)
             × AllBut (λ f. failures_at self.old f.0 < failures_at self.new f.0)
-            (found_in server index (entries_at (maps_of self.old) server)) given) }
+            (within (λ f. f.1) limit
+            (found_in server index (entries_at (maps_of self.old) server))) given) }
     {
-        let numbers = self.numbers_at(server, index)?;
+        let stored = self.numbers_at(server, index)?;
+        let numbers = below(stored, limit);
         for &number in &numbers {
             match self.get_at(server, index, number)? {
                 Some(bytes) => found.push((server, number, bytes))?,
@@ -399,6 +452,27 @@ impl<S: Store> Grid<S> {
         size_laws();
         answer_of(server, self.stores[server].put(index, number, bytes))
     }
+}
+
+/// Those of these numbers that are below the limit, if there is one.
+fn below(numbers: Vec<u16>, limit: Option<u16>) -> Vec<u16>
+    ensures { result.items ≡ within (λ number. number) limit numbers.items }
+{
+    match limit {
+        None => numbers,
+        Some(limit) => {
+            let mut kept = numbers;
+            keep_below(&mut kept, limit);
+            kept
+        }
+    }
+}
+
+/// Takes away the numbers that aren't below a limit.
+fn keep_below(numbers: &mut Vec<u16>, limit: u16)
+    ensures { numbers.new.items ≡ filter (λ number. nat_lt number limit) numbers.old.items }
+{
+    numbers.retain(|number| *number < limit);
 }
 
 impl Grid<MemStore> {
