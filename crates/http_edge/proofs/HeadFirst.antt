@@ -8,7 +8,7 @@ use Rattle.std.proofs.Math.Dec.{eqb}
 use Rattle.std.proofs.lemmas.Bool.Decides.{nat_tests}
 use Rattle.std.proofs.lemmas.List.Elements.{All-head, All-tail}
 use Rattle.httparse.specs.Grammar.{LineEnd, crlf, lf, print_end, Field, print_field, IsField, print_section, RequestHead, IsRequestHead, print_request}
-use Rattle.http_edge.specs.Judge.{within_limit, verdict_of, judged, request, request_of, is_head_only, most_body_bytes}
+use Rattle.http_edge.specs.Judge.{within_limit, verdict_of, block_verdict, request, request_of, is_head_request, most_body_bytes}
 use Rattle.http_edge.specs.Frame.{empty_line_length, block_length, most_head_bytes, frame}
 use Rattle.http_edge.specs.Chunks.{ChunkedBody, print_body, IsChunkedBody, content_of}
 use Rattle.http_edge.specs.Limit.{PassesLimit}
@@ -122,13 +122,13 @@ head_block h v blank =
 
 -- a string that begins with a request head is framed by what that head comes to, and then by what follows it
 pub head_first : (h : RequestHead) (more : List ℕ) → IsRequestHead h → h.blank ≡ [] → length (print_request h) ≤ most_head_bytes
-    → frame (print_request h ++ more) ≡ frame_after (judged (print_request h)) more
+    → frame (print_request h ++ more) ≡ frame_after (block_verdict (print_request h)) more
 head_first h more v blank fits = (whole_block (print_request h) (head_block h v blank) fits).items more
 
 -- a head block is judged as the head that it is
-pub head_judged : (h : RequestHead) → IsRequestHead h → judged (print_request h) ≡ verdict_of (within_limit (Some h))
-unfolding judged
-head_judged h v = ap (λ x. verdict_of (within_limit x)) (head_of_finds (print_request h) h (v, sym (append-nil (print_request h))))
+pub head_block_verdict : (h : RequestHead) → IsRequestHead h → block_verdict (print_request h) ≡ verdict_of (within_limit (Some h))
+unfolding block_verdict
+head_block_verdict h v = ap (λ x. verdict_of (within_limit x)) (head_of_finds (print_request h) h (v, sym (append-nil (print_request h))))
 
 -- an empty line at the front is dropped
 pub blank_first : (end : LineEnd) (more : List ℕ) → frame (print_end end ++ more) ≡ frame more
@@ -152,5 +152,5 @@ chunks_first a body more is fits =
 
 -- one that passes the limit
 pub limit_first : (a : Chunked) (text more : List ℕ) → PassesLimit text
-    → frame_from (chunks_of a [] line_start) (text ++ more) ≡ Fault TooLong (is_head_only a.head) ∷ []
+    → frame_from (chunks_of a [] line_start) (text ++ more) ≡ Fault TooLong (is_head_request a.head) ∷ []
 limit_first a text more h = ap (frame_read a (text ++ more)) (passing_is_refused text more h)

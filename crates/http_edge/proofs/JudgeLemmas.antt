@@ -20,7 +20,7 @@ use Rattle.http_edge.specs.declared.verdict.Verdict.TheVariants.{Taken, InChunks
 use Rattle.http_edge.specs.declared.verdict.Chunked.{Chunked}
 use Rattle.http_edge.specs.Block.{head_of}
 use Rattle.octets.specs.Case.{eq_ignore_case}
-use Rattle.http_edge.specs.Judge.{field_of, head_parts, has_good_hosts, count_named, is_head_only, is_length, is_coding, most_body_bytes, length_of, length_by, body_length, Framing, counted, chunked, counted_by, framing_one, framing_by, body_framing, with_framing, checked, verdict_of, within_limit, judged, request, request_of}
+use Rattle.http_edge.specs.Judge.{field_of, head_parts, has_good_hosts, count_named, is_head_request, is_length, is_coding, most_body_bytes, length_of, length_by, body_length, Framing, counted, chunked, framing_by_length, framing_by_coding, framing_by, body_framing, with_framing, head_verdict, verdict_of, within_limit, block_verdict, request, request_of}
 use Rattle.http_edge.specs.Read.{IsRead}
 use Rattle.http_edge.proofs.BlockLemmas.{head_of_reads}
 
@@ -93,31 +93,31 @@ several_codings minor fields many = go (filter is_coding fields) (let size = len
     go (f ∷ []) long = absurd (omega arith)
     go (f ∷ g ∷ l) long = refl
 
-pub no_coding : (minor : ℕ) (fields : List Field) → find is_coding fields ≡ None → body_framing minor fields ≡ counted_by (body_length fields)
+pub no_coding : (minor : ℕ) (fields : List Field) → find is_coding fields ≡ None → body_framing minor fields ≡ framing_by_length (body_length fields)
 unfolding body_framing
 no_coding minor fields none = go (filter is_coding fields) (sym (find_first is_coding fields) ∙ none)
   where
-    go : (l : List Field) → first_of l ≡ None → framing_by l minor fields ≡ counted_by (body_length fields)
+    go : (l : List Field) → first_of l ≡ None → framing_by l minor fields ≡ framing_by_length (body_length fields)
     go [] e = refl
     go (f ∷ l) e = absurd (cc)
 
 pub one_coding : (minor : ℕ) (fields : List Field) (f : Field) → count_by is_coding fields ≤ 1 → find is_coding fields ≡ Some f
-    → body_framing minor fields ≡ framing_one (eq_ignore_case f.value (codes "chunked")) (eqb minor 0 || list_any is_length fields)
+    → body_framing minor fields ≡ framing_by_coding (eq_ignore_case f.value (codes "chunked")) (eqb minor 0 || list_any is_length fields)
 unfolding body_framing
 one_coding minor fields f few some = go (filter is_coding fields) (let size = length-filter is_coding fields in omega arith) (sym (find_first is_coding fields) ∙ some)
   where
     go : (l : List Field) → length l ≤ 1 → first_of l ≡ Some f
-        → framing_by l minor fields ≡ framing_one (eq_ignore_case f.value (codes "chunked")) (eqb minor 0 || list_any is_length fields)
+        → framing_by l minor fields ≡ framing_by_coding (eq_ignore_case f.value (codes "chunked")) (eqb minor 0 || list_any is_length fields)
     go [] short e = absurd (cc)
     go (g ∷ []) short e = let same : g ≡ f = cc in
-        ap (λ (x : Field). framing_one (eq_ignore_case x.value (codes "chunked")) (eqb minor 0 || list_any is_length fields)) same
+        ap (λ (x : Field). framing_by_coding (eq_ignore_case x.value (codes "chunked")) (eqb minor 0 || list_any is_length fields)) same
     go (g ∷ h ∷ l) short e = absurd (omega arith)
 
 framing_counted : (minor : ℕ) (fields : List Field) (n : ℕ) → body_framing minor fields ≡ Ok (counted n) → n ≤ most_body_bytes
 unfolding body_framing
 framing_counted minor fields n e = go (filter is_coding fields) e
   where
-    by : (o : Result ℕ FramingFault) → body_length fields ≡ o → counted_by o ≡ Ok (counted n) → n ≤ most_body_bytes
+    by : (o : Result ℕ FramingFault) → body_length fields ≡ o → framing_by_length o ≡ Ok (counted n) → n ≤ most_body_bytes
     by (Err x) f e = absurd (cc)
     by (Ok m) f e = let same : m ≡ n = cc in body_short fields n (f ∙ ap Ok same)
 
@@ -131,24 +131,24 @@ framing_counted minor fields n e = go (filter is_coding fields) e
     go (f ∷ []) e = one (eq_ignore_case f.value (codes "chunked")) (eqb minor 0 || list_any is_length fields) e
     go (f ∷ g ∷ l) e = absurd (cc)
 
-checked_taken : (h : Head) (minor : ℕ) (a : Awaited) → checked h minor ≡ Taken a → (h ≡ a.head) × (body_framing minor h.fields ≡ Ok (counted a.length))
-unfolding checked
-checked_taken h minor a e = go (not (has_good_hosts minor (count_named (codes "host") h.fields))) (body_framing minor h.fields) refl e
+head_is_taken : (h : Head) (minor : ℕ) (a : Awaited) → head_verdict h minor ≡ Taken a → (h ≡ a.head) × (body_framing minor h.fields ≡ Ok (counted a.length))
+unfolding head_verdict
+head_is_taken h minor a e = go (not (has_good_hosts minor (count_named (codes "host") h.fields))) (body_framing minor h.fields) refl e
   where
     go : (t : Bool) (o : Result Framing FramingFault) → body_framing minor h.fields ≡ o
-        → cond t (Refused BadHost (is_head_only h)) (with_framing h minor o) ≡ Taken a
+        → cond t (Refused BadHost (is_head_request h)) (with_framing h minor o) ≡ Taken a
         → (h ≡ a.head) × (body_framing minor h.fields ≡ Ok (counted a.length))
     go true o f e = absurd (cc)
     go false (Err x) f e = absurd (cc)
     go false (Ok chunked) f e = absurd (cc)
     go false (Ok (counted n)) f e = ((let head : h ≡ a.head = cc in head), f ∙ (let size : n ≡ a.length = cc in ap (λ (m : ℕ). Ok (counted m)) size))
 
-checked_chunks : (h : Head) (minor : ℕ) (a : Chunked) → checked h minor ≡ InChunks a → (h ≡ a.head) × (body_framing minor h.fields ≡ Ok chunked)
-unfolding checked
-checked_chunks h minor a e = go (not (has_good_hosts minor (count_named (codes "host") h.fields))) (body_framing minor h.fields) refl e
+head_is_in_chunks : (h : Head) (minor : ℕ) (a : Chunked) → head_verdict h minor ≡ InChunks a → (h ≡ a.head) × (body_framing minor h.fields ≡ Ok chunked)
+unfolding head_verdict
+head_is_in_chunks h minor a e = go (not (has_good_hosts minor (count_named (codes "host") h.fields))) (body_framing minor h.fields) refl e
   where
     go : (t : Bool) (o : Result Framing FramingFault) → body_framing minor h.fields ≡ o
-        → cond t (Refused BadHost (is_head_only h)) (with_framing h minor o) ≡ InChunks a
+        → cond t (Refused BadHost (is_head_request h)) (with_framing h minor o) ≡ InChunks a
         → (h ≡ a.head) × (body_framing minor h.fields ≡ Ok chunked)
     go true o f e = absurd (cc)
     go false (Err x) f e = absurd (cc)
@@ -178,11 +178,11 @@ head_is block h given framing f few is =
       says = ap (λ (x : Head). body_framing h.minor x.fields) (sym is.0) ∙ is.1;
     }
 
-pub judged_head : (block : List ℕ) (v : Verdict) (given : Head) (framing : Framing) → judged block ≡ v
-    → ((h : Head) (minor : ℕ) → checked h minor ≡ v → (h ≡ given) × (body_framing minor h.fields ≡ Ok framing))
+pub block_is_head : (block : List ℕ) (v : Verdict) (given : Head) (framing : Framing) → block_verdict block ≡ v
+    → ((h : Head) (minor : ℕ) → head_verdict h minor ≡ v → (h ≡ given) × (body_framing minor h.fields ≡ Ok framing))
     → (Refused BadHead false ≡ v → ⊥) → IsHeadOf given framing
-unfolding judged
-judged_head block v given framing e by other = go (head_of block) refl e
+unfolding block_verdict
+block_is_head block v given framing e by other = go (head_of block) refl e
   where
     fit : (h : RequestHead) (b : Bool) → nat_le (length h.fields) 64 ≡ b → head_of block ≡ Some h
         → verdict_of (cond b (Some (head_parts h, h.minor)) None) ≡ v → IsHeadOf given framing
@@ -198,13 +198,13 @@ pub record IsTaken (a : Awaited) : Type 0 where
   pub of : IsHeadOf a.head (counted a.length)
   pub short : a.length ≤ most_body_bytes
 
-pub judged_taken : (block : List ℕ) (a : Awaited) → judged block ≡ Taken a → IsTaken a
-judged_taken block a e =
-    let of : IsHeadOf a.head (counted a.length) = judged_head block (Taken a) a.head (counted a.length) e (λ h minor k. checked_taken h minor a k) (λ k. cc) in
+pub block_is_taken : (block : List ℕ) (a : Awaited) → block_verdict block ≡ Taken a → IsTaken a
+block_is_taken block a e =
+    let of : IsHeadOf a.head (counted a.length) = block_is_head block (Taken a) a.head (counted a.length) e (λ h minor k. head_is_taken h minor a k) (λ k. cc) in
     record { of = of; short = framing_counted of.head.minor a.head.fields a.length of.says }
 
-pub judged_chunks : (block : List ℕ) (a : Chunked) → judged block ≡ InChunks a → IsHeadOf a.head chunked
-judged_chunks block a e = judged_head block (InChunks a) a.head chunked e (λ h minor k. checked_chunks h minor a k) (λ k. cc)
+pub block_is_in_chunks : (block : List ℕ) (a : Chunked) → block_verdict block ≡ InChunks a → IsHeadOf a.head chunked
+block_is_in_chunks block a e = block_is_head block (InChunks a) a.head chunked e (λ h minor k. head_is_in_chunks h minor a k) (λ k. cc)
 
 -- with a body as long as it says
 pub taken_read : (a : Awaited) (body : List ℕ) → IsTaken a → length body ≡ a.length → IsRead (request a body)

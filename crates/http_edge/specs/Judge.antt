@@ -95,8 +95,9 @@ body_length fields = length_by (filter is_length fields)
 abbrev pub closes_after : Head → ℕ → Bool
 closes_after head minor = minor == 0 || list_any asks_close head.fields
 
-abbrev pub is_head_only : Head → Bool
-is_head_only head = bytes_eq head.method (codes "HEAD")
+-- the method is HEAD, so that the reply has no body (RFC 9110, section 9.3.2)
+abbrev pub is_head_request : Head → Bool
+is_head_request head = bytes_eq head.method (codes "HEAD")
 
 -- an Expect field of 100-continue, in any case
 unfoldable pub asks_continue : Field → Bool
@@ -114,39 +115,39 @@ pub data Framing : Type 0 where
 abbrev pub is_coding : Field → Bool
 is_coding f = eq_ignore_case f.name (codes "transfer-encoding")
 
-abbrev pub counted_by : Result ℕ FramingFault → Result Framing FramingFault
-counted_by (Err fault) = Err fault
-counted_by (Ok n) = Ok (counted n)
+abbrev pub framing_by_length : Result ℕ FramingFault → Result Framing FramingFault
+framing_by_length (Err fault) = Err fault
+framing_by_length (Ok n) = Ok (counted n)
 
 -- one coding, by whether it is chunked and whether chunks can't come here
-abbrev pub framing_one : Bool → Bool → Result Framing FramingFault
-framing_one is_chunked elsewhere =
+abbrev pub framing_by_coding : Bool → Bool → Result Framing FramingFault
+framing_by_coding is_chunked elsewhere =
     if not is_chunked then Err TransferCoding else (if elsewhere then Err BadLength else Ok chunked)
 
 -- chunks alone are taken, in HTTP/1.1 and without a Content-Length field; without a coding the length counts
 abbrev pub framing_by : List Field → ℕ → List Field → Result Framing FramingFault
-framing_by [] minor fields = counted_by (body_length fields)
+framing_by [] minor fields = framing_by_length (body_length fields)
 framing_by (f ∷ []) minor fields =
-    framing_one (eq_ignore_case f.value (codes "chunked")) (minor == 0 || list_any is_length fields)
+    framing_by_coding (eq_ignore_case f.value (codes "chunked")) (minor == 0 || list_any is_length fields)
 framing_by (f ∷ g ∷ more) minor fields = Err TransferCoding
 
 unfoldable pub body_framing : ℕ → List Field → Result Framing FramingFault
 body_framing minor fields = framing_by (filter is_coding fields) minor fields
 
 -- a request whose body is awaited
-abbrev pub awaited_by : Head → Bool → Bool → Framing → Verdict
-awaited_by head close expects (counted n) = Taken (record { head = head; close = close; expects = expects; length = n })
-awaited_by head close expects chunked = InChunks (record { head = head; close = close; expects = expects })
+abbrev pub acceptance : Head → Bool → Bool → Framing → Verdict
+acceptance head close expects (counted n) = Taken (record { head = head; close = close; expects = expects; length = n })
+acceptance head close expects chunked = InChunks (record { head = head; close = close; expects = expects })
 
 -- a head whose body is framed so
 abbrev pub with_framing : Head → ℕ → Result Framing FramingFault → Verdict
-with_framing head minor (Err fault) = Refused fault (is_head_only head)
-with_framing head minor (Ok framing) = awaited_by head (closes_after head minor) (expects_continue head minor) framing
+with_framing head minor (Err fault) = Refused fault (is_head_request head)
+with_framing head minor (Ok framing) = acceptance head (closes_after head minor) (expects_continue head minor) framing
 
 -- what a head with this minor version comes to, by the first check that it fails
-unfoldable pub checked : Head → ℕ → Verdict
-checked head minor =
-    if not (has_good_hosts minor (count_named (codes "host") head.fields)) then Refused BadHost (is_head_only head)
+unfoldable pub head_verdict : Head → ℕ → Verdict
+head_verdict head minor =
+    if not (has_good_hosts minor (count_named (codes "host") head.fields)) then Refused BadHost (is_head_request head)
     else with_framing head minor (body_framing minor head.fields)
 
 -- what a length says, where none stands for chunks
@@ -158,9 +159,6 @@ abbrev pub framing_of : Result (Option ℕ) FramingFault → Result Framing Fram
 framing_of (Err fault) = Err fault
 framing_of (Ok length) = Ok (framing_so length)
 
-abbrev pub awaited_so : Head → Bool → Bool → Option ℕ → Verdict
-awaited_so head close expects length = awaited_by head close expects (framing_so length)
-
 -- ---- a head block
 
 -- the parts of a head with at most 64 fields, and its minor version
@@ -170,11 +168,11 @@ within_limit (Some h) = if nat_le (length h.fields) 64 then Some (head_parts h, 
 
 abbrev pub verdict_of : Option (Head × ℕ) → Verdict
 verdict_of None = Refused BadHead false
-verdict_of (Some found) = checked found.0 found.1
+verdict_of (Some found) = head_verdict found.0 found.1
 
 -- what a head block comes to
-unfoldable pub judged : List ℕ → Verdict
-judged block = verdict_of (within_limit (head_of block))
+unfoldable pub block_verdict : List ℕ → Verdict
+block_verdict block = verdict_of (within_limit (head_of block))
 
 -- the request that a head and its whole body are
 abbrev pub request : Awaited → List ℕ → Item

@@ -4,7 +4,7 @@ ghost use Rattle.std.specs.List.{list_any};
 ghost use Rattle.http_edge.specs.Judge.{closes};
 ghost use Rattle.http_edge.specs.Frame.{frame};
 ghost use Rattle.http_edge.specs.Left.{part_of, closed, is_closed, rest, frame_from, rest_from};
-ghost use Rattle.http_edge.specs.Line.{IsSettled, Takes, listed};
+ghost use Rattle.http_edge.specs.State.{IsSettled, Takes, listed};
 
 use crate::item::Item;
 use crate::line::split_line;
@@ -22,7 +22,7 @@ pub struct Conn {
 
 impl Model for Conn {
     ghost use Rattle.http_edge.specs.Left.{Left};
-    ghost use Rattle.http_edge.specs.Line.{IsWaiting, left_of};
+    ghost use Rattle.http_edge.specs.State.{IsWaiting, left_of};
 
     ghost Value = { Left };
 

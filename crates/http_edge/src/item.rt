@@ -1,6 +1,6 @@
 //! What a connection's bytes hold.
 ghost use Rattle.std.specs.Prelude.{◌≡◌};
-ghost use Rattle.http_edge.specs.Judge.{fault_number, closes};
+ghost use Rattle.http_edge.specs.Judge.{fault_number, closes, is_head_request};
 
 use crate::field::Fields;
 use octets::Bytes;
@@ -54,6 +54,15 @@ pub enum Item {
         fault: FramingFault,
         head_only: bool,
     },
+}
+
+impl Head {
+    /// Whether the method is HEAD, so that the reply has no body (RFC 9110, section 9.3.2).
+    pub fn is_head_request(&self) -> bool
+        ensures { result ≡ is_head_request self.now }
+    {
+        self.method.as_slice() == b"HEAD".as_slice()
+    }
 }
 
 impl FramingFault {

@@ -6,7 +6,7 @@ ghost use Rattle.std.specs.Char.{is_ascii_digit};
 ghost use Rattle.std.specs.Str.Parse.{digits_value};
 ghost use Rattle.httparse.specs.Grammar.{trim_ows};
 ghost use Rattle.octets.specs.Case.{eq_ignore_case};
-ghost use Rattle.http_edge.specs.Judge.{count_named, lists_token, asks_close, asks_continue, is_length, is_coding, length_of, most_body_bytes, body_length, counted_by, framing_one, body_framing, framing_of, with_framing, awaited_so, checked, judged};
+ghost use Rattle.http_edge.specs.Judge.{count_named, lists_token, asks_close, asks_continue, is_length, is_coding, length_of, most_body_bytes, body_length, framing_by_length, framing_by_coding, body_framing, framing_so, framing_of, with_framing, acceptance, head_verdict, block_verdict};
 
 use crate::field::Field;
 use crate::head::read_head;
@@ -171,8 +171,8 @@ fn body_framing(minor: u8, fields: &[Field]) -> Result<Option<usize>, FramingFau
         return Err(FramingFault::TransferCoding);
     }
     match first_coding(fields) {
-        None => counted(body_length(fields)),
-        Some(field) => coded(
+        None => framing_by_length(body_length(fields)),
+        Some(field) => framing_by_coding(
             is_same(field.value.as_slice(), b"chunked"),
             forbids_chunks(minor, fields),
         ),
@@ -180,8 +180,8 @@ fn body_framing(minor: u8, fields: &[Field]) -> Result<Option<usize>, FramingFau
 }
 
 /// The framing of a body of this length.
-fn counted(length: Result<usize, FramingFault>) -> Result<Option<usize>, FramingFault>
-    ensures { framing_of result ≡ counted_by length }
+fn framing_by_length(length: Result<usize, FramingFault>) -> Result<Option<usize>, FramingFault>
+    ensures { framing_of result ≡ framing_by_length length }
 {
     match length {
         Ok(length) => Ok(Some(length)),
@@ -190,8 +190,8 @@ fn counted(length: Result<usize, FramingFault>) -> Result<Option<usize>, Framing
 }
 
 /// The framing of a body in one coding: chunked or another, where chunks can come or can't.
-fn coded(is_chunked: bool, elsewhere: bool) -> Result<Option<usize>, FramingFault>
-    ensures { framing_of result ≡ framing_one is_chunked elsewhere }
+fn framing_by_coding(is_chunked: bool, elsewhere: bool) -> Result<Option<usize>, FramingFault>
+    ensures { framing_of result ≡ framing_by_coding is_chunked elsewhere }
 {
     if !is_chunked {
         return Err(FramingFault::TransferCoding);
@@ -217,9 +217,9 @@ fn any_length(fields: &[Field]) -> bool
 }
 
 /// The first check that a head fails, or how the end of its body is known.
-#[tactic(auto, unfolding(crate::specs::Judge::checked))]
-fn framing_checked(head: &Head, minor: u8) -> Result<Option<usize>, FramingFault>
-    ensures { with_framing head.now minor (framing_of result) ≡ checked head.now minor }
+#[tactic(auto, unfolding(crate::specs::Judge::head_verdict))]
+fn framing_of_head(head: &Head, minor: u8) -> Result<Option<usize>, FramingFault>
+    ensures { with_framing head.now minor (framing_of result) ≡ head_verdict head.now minor }
 {
     let fields = head.fields.as_slice();
     let hosts = count_named(b"host", fields);
@@ -230,25 +230,25 @@ fn framing_checked(head: &Head, minor: u8) -> Result<Option<usize>, FramingFault
 }
 
 /// What a head comes to.
-fn checked(head: Head, minor: u8) -> Verdict
-    ensures { result ≡ checked head minor }
+fn judge_head(head: Head, minor: u8) -> Verdict
+    ensures { result ≡ head_verdict head minor }
 {
-    match framing_checked(&head, minor) {
+    match framing_of_head(&head, minor) {
         Err(fault) => Verdict::Refused {
             fault,
-            head_only: head.method.as_slice() == b"HEAD".as_slice(),
+            head_only: head.is_head_request(),
         },
         Ok(length) => {
             let close = minor == 0 || any_asks_close(head.fields.as_slice());
             let expects = minor != 0 && any_asks_continue(head.fields.as_slice());
-            awaited(head, close, expects, length)
+            accept_head(head, close, expects, length)
         }
     }
 }
 
 /// A request whose body is awaited, of so many bytes or in chunks.
-fn awaited(head: Head, close: bool, expects: bool, length: Option<usize>) -> Verdict
-    ensures { result ≡ awaited_so head close expects length }
+fn accept_head(head: Head, close: bool, expects: bool, length: Option<usize>) -> Verdict
+    ensures { result ≡ acceptance head close expects (framing_so length) }
 {
     match length {
         Some(length) => Verdict::Taken(Awaited {
@@ -266,12 +266,12 @@ fn awaited(head: Head, close: bool, expects: bool, length: Option<usize>) -> Ver
 }
 
 /// What a whole head block comes to.
-#[tactic(auto, unfolding(crate::specs::Judge::judged))]
-pub fn judged(alloc: Global, block: &[u8]) -> Result<Verdict, AllocError>
-    ensures { IfOk result (λ verdict. verdict ≡ judged block.now) }
+#[tactic(auto, unfolding(crate::specs::Judge::block_verdict))]
+pub fn judge_block(alloc: Global, block: &[u8]) -> Result<Verdict, AllocError>
+    ensures { IfOk result (λ verdict. verdict ≡ block_verdict block.now) }
 {
     match read_head(alloc, block)? {
-        Some((head, minor)) => Ok(checked(head, minor)),
+        Some((head, minor)) => Ok(judge_head(head, minor)),
         None => Ok(Verdict::Refused {
             fault: FramingFault::BadHead,
             head_only: false,

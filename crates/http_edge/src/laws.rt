@@ -3,7 +3,7 @@ ghost use Rattle.std.specs.Prelude.{◌≡◌, ◌<◌, ◌≤◌, ◌-◌, ◌^
 ghost use Rattle.std.specs.List.{list_any, list_all};
 ghost use Rattle.httparse.specs.Grammar.{LineEnd, print_end, RequestHead, IsRequestHead, print_request, ReadsRequest};
 ghost use Rattle.http_edge.specs.Block.{head_of};
-ghost use Rattle.http_edge.specs.Judge.{closes, within_limit, verdict_of, judged, request, request_of, is_head_only, most_body_bytes};
+ghost use Rattle.http_edge.specs.Judge.{closes, within_limit, verdict_of, block_verdict, request, request_of, is_head_request, most_body_bytes};
 ghost use Rattle.http_edge.specs.Frame.{frame, most_head_bytes};
 ghost use Rattle.http_edge.specs.Left.{Left, part_of, body_of, chunks_of, is_closed, rest, frame_from, rest_from, frame_after};
 ghost use Rattle.http_edge.specs.declared.item.Item.TheVariants.{Fault};
@@ -55,9 +55,9 @@ pub fn head_is_of_the_grammar()
 pub fn head_comes_first()
     ensures head { (h : RequestHead) (more : List ℕ) → IsRequestHead h → h.blank ≡ []
         → length (print_request h) ≤ most_head_bytes
-        → frame (print_request h ++ more) ≡ frame_after (judged (print_request h)) more }
-    ensures judged { (h : RequestHead) → IsRequestHead h
-        → judged (print_request h) ≡ verdict_of (within_limit (Some h)) }
+        → frame (print_request h ++ more) ≡ frame_after (block_verdict (print_request h)) more }
+    ensures verdict { (h : RequestHead) → IsRequestHead h
+        → block_verdict (print_request h) ≡ verdict_of (within_limit (Some h)) }
     ensures blank { (end : LineEnd) (more : List ℕ) → frame (print_end end ++ more) ≡ frame more }
 {}
 
@@ -75,7 +75,7 @@ pub fn body_comes_next()
         ≡ request_of a (content_of body.chunks) ∷ (if a.close then [] else frame more) }
     ensures too_long { (a : Chunked) (text more : List ℕ) → PassesLimit text
         → frame_from (chunks_of a [] line_start) (text ++ more)
-        ≡ Fault TooLong (is_head_only a.head) ∷ [] }
+        ≡ Fault TooLong (is_head_request a.head) ∷ [] }
 {}
 
 /// Each request that stands in the bytes has a head of the grammar of `httparse` with at most 64 fields, and a body as

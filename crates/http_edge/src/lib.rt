@@ -14,7 +14,7 @@ mod verdict;
 mod head;
 /// The checks of a head.
 mod judge;
-/// A connection's bytes by lines.
+/// A connection's bytes by lines, and how a head block ends.
 mod line;
 /// Where in a chunked body the next byte stands.
 mod place;

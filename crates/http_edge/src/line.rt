@@ -1,15 +1,20 @@
-//! A connection's bytes by lines.
-ghost use Rattle.std.specs.Prelude.{◌≡◌, ◌<◌, ◌++◌, length, IfOk};
-ghost use Rattle.http_edge.specs.Line.{IsLine, is_empty_line, completes};
+//! A connection's bytes by lines, and how a head block ends.
+ghost use Rattle.std.specs.Prelude.{◌≡◌, ◌<◌, ◌++◌, length};
+ghost use Rattle.http_edge.specs.Line.{IsLine, is_empty_line, end_of_block};
 
-use crate::item::FramingFault;
-use crate::judge::judged;
-use crate::verdict::Verdict;
 use memchr::memchr;
-use std::alloc::{AllocError, Global};
 
 /// The most bytes of a head block.
 pub const MOST_HEAD_BYTES: usize = 16384;
+
+/// How a head block ends.
+#[derive(Clone, Copy, Debug, PartialEq, Eq)]
+pub enum BlockEnd {
+    /// With an empty line after a line.
+    EmptyLine,
+    /// Without one, in as many bytes as a head block may have.
+    TooLong,
+}
 
 /// The first line with its LF, or all bytes where none ends, and what follows it.
 pub fn split_line(bytes: &[u8]) -> (&[u8], &[u8])
@@ -31,20 +36,16 @@ pub fn is_empty_line(part: &[u8]) -> bool
     part == b"\n".as_slice() || part == b"\r\n".as_slice()
 }
 
-/// What a part comes to with its last line, or nothing where it goes on.
-#[tactic(auto, unfolding(crate::specs::Line::completes))]
-pub fn completed(alloc: Global, part: &[u8]) -> Result<Option<Verdict>, AllocError>
-    ensures { IfOk result (λ verdict. verdict ≡ completes part.now) }
+/// How a head block ends with its last line, or nothing where it goes on.
+#[tactic(auto, unfolding(crate::specs::Line::end_of_block))]
+pub fn end_of_block(part: &[u8]) -> Option<BlockEnd>
+    ensures { result ≡ end_of_block part.now }
 {
     if part.ends_with(b"\n\n") || part.ends_with(b"\n\r\n") {
-        let verdict = judged(alloc, part)?;
-        return Ok(Some(verdict));
+        return Some(BlockEnd::EmptyLine);
     }
     if part.len() >= MOST_HEAD_BYTES {
-        return Ok(Some(Verdict::Refused {
-            fault: FramingFault::BadHead,
-            head_only: false,
-        }));
+        return Some(BlockEnd::TooLong);
     }
-    Ok(None)
+    None
 }
