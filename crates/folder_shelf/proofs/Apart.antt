@@ -1,6 +1,6 @@
 -- Names and texts, told apart.
-use Rattle.std.proofs.Common.{◌≡◌, ℕ, ◌+◌, ◌*◌, ◌<◌, ◌^◌, List, ◌∷◌, ◌++◌, length, take, drop, refl, ap, sym, subst, ◌∙◌, arith}
-use Rattle.std.specs.Prelude.{All, decimal}
+use Rattle.std.proofs.Common.{◌≡◌, ℕ, ◌<◌, ◌^◌, List, ◌∷◌, length, take, drop, refl, ap, sym, subst, ◌∙◌, arith}
+use Rattle.std.specs.Prelude.{decimal}
 use Rattle.std.specs.Str.Parse.{digits_value}
 use Rattle.std.proofs.lemmas.List.{take_at, drop_at}
 use Rattle.std.proofs.lemmas.Fmt.{decimal_is_IsNumeral}

@@ -1,5 +1,5 @@
 -- The fields of a settings file.
-use Rattle.std.proofs.Common.{◌≡◌, ℕ, ◌+◌, ◌*◌, ◌/◌, ◌%◌, ◌<◌, ◌^◌, List, ◌∷◌, ◌++◌, length, get_or, take, drop, refl, ap, ◌∙◌, arith, length-append}
+use Rattle.std.proofs.Common.{◌≡◌, ℕ, ◌+◌, ◌*◌, ◌/◌, ◌%◌, ◌<◌, ◌^◌, List, length, get_or, take, drop, refl, ap, arith}
 use Rattle.std.proofs.lemmas.List.{take_at}
 use Rattle.folder_shelf.specs.Sealed.{seal, sealed}
 use Rattle.folder_shelf.specs.SettingsText.{settings_bytes, settings_text, AreSettings}

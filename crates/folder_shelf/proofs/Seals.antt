@@ -1,10 +1,10 @@
 -- Bytes and their seals.
-use Rattle.std.proofs.Common.{◌≡◌, ℕ, zero, suc, ◌+◌, ◌-◌, ◌*◌, ◌≤◌, List, [], ◌∷◌, ◌++◌, length, take, drop, refl, ap, sym, ◌∙◌, arith, length-append}
+use Rattle.std.proofs.Common.{◌≡◌, ℕ, zero, suc, ◌+◌, ◌*◌, List, ◌++◌, length, take, drop, refl, ap, sym, ◌∙◌, arith, length-append}
 use Rattle.std.proofs.lemmas.List.{take_at, drop_at, length-take-le, take-append-drop}
 use Rattle.std.specs.Prelude.{slice_index}
 use Rattle.std.specs.Int.{to_be_bytes, w32}
 use Rattle.sha2.specs.Sha256.{sha256, digest_bytes, final_hash, initial_hash_256}
-use Rattle.folder_shelf.specs.Sealed.{seal, sealed}
+use Rattle.folder_shelf.specs.Sealed.{part_hashes, seal, sealed}
 
 length-digest_bytes : (h : List ℕ) (n : ℕ) → length (digest_bytes h n) ≡ 4 * n
 unfolding digest_bytes
@@ -22,7 +22,8 @@ length-sha256 m = length-digest_bytes (final_hash initial_hash_256 m) 8
 
 pub length-seal : (bytes : List ℕ) → length (seal bytes) ≡ 8
 unfolding seal
-length-seal bytes = length-take-le 8 (sha256 bytes) (omega (arith, length-sha256 bytes))
+length-seal bytes =
+    length-take-le 8 (sha256 (part_hashes bytes)) (omega (arith, length-sha256 (part_hashes bytes)))
 
 pub length-sealed : (bytes : List ℕ) → length (sealed bytes) ≡ length bytes + 8
 unfolding sealed

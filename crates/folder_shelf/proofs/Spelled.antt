@@ -1,13 +1,12 @@
 -- Names of files, taken apart.
-use Rattle.std.proofs.Common.{◌≡◌, ◌≢◌, ℕ, ◌<◌, List, ◌∷◌, ◌++◌, length, get_or, refl, arith, Bor, lit<, subst, ◌∙◌, sym, ap}
-use Rattle.std.specs.Prelude.{All, true, false, Bool, Option, decimal}
+use Rattle.std.proofs.Common.{◌≡◌, ◌≢◌, ℕ, ◌<◌, List, length, get_or, Bor, lit<, ◌∙◌, sym, ap}
+use Rattle.std.specs.Prelude.{true, false, Option, decimal}
 use Rattle.std.specs.Option.{MatchOption}
-use Rattle.std.specs.List.{AllPass}
 use Rattle.std.proofs.lemmas.List.Elements.{All-get_or}
 use Rattle.std.proofs.lemmas.Str.Pattern.{split_after, IsSplitOnceResult}
 use Rattle.base32_text.specs.Alphabet.{is_letter}
 use Rattle.base32_text.specs.Base32.{Spells, spelling}
-use Rattle.folder_shelf.specs.Names.{file_name, IsPlace}
+use Rattle.folder_shelf.specs.Names.{file_name}
 
 stop_is_none : (c : ℕ) → is_letter c ≡ true → c ≢ 46
 stop_is_none c letter e =

@@ -1,5 +1,5 @@
 -- The text of a settings file.
-use Rattle.std.specs.Prelude.{◌≡◌, ℕ, ◌<◌, ◌^◌, List, ◌∷◌, ◌++◌, length, codes, All}
+use Rattle.std.specs.Prelude.{◌≡◌, ℕ, ◌<◌, ◌^◌, List, ◌++◌, length, codes, All}
 use Rattle.std.specs.Int.{w16, to_be_bytes}
 use Rattle.sha2.specs.Sha256.{sha256}
 use Rattle.folder_shelf.specs.Sealed.{sealed}
@@ -8,7 +8,7 @@ use Rattle.folder_shelf.specs.declared.settings.Settings.{Settings}
 -- the format's name, the server's place, how many servers there are, how many shares are needed and made, each as two
 -- bytes with the high one first, and what stands for the secret
 unfoldable pub settings_bytes : Settings → List ℕ
-settings_bytes s = codes "wozhinnam shelf1" ++ to_be_bytes w16 s.place ++ to_be_bytes w16 s.servers
+settings_bytes s = codes "wozhinnam shelf2" ++ to_be_bytes w16 s.place ++ to_be_bytes w16 s.servers
     ++ to_be_bytes w16 s.needed ++ to_be_bytes w16 s.made ++ s.secret
 
 abbrev pub settings_text : Settings → List ℕ

@@ -1,6 +1,6 @@
 //! A shelf in a folder of files.
 //!
-//! Each share is a file of its own: its bytes, and then the first 8 bytes of their SHA-256. A share that is put is
+//! Each share is a file of its own: its bytes, and then their seal, 8 bytes of a hash. A share that is put is
 //! written under `new/`, synced, renamed to its name, and the folder of that name is synced: so it is there whole or
 //! not at all, whenever a crash comes, and there for good once the call answered `Ok`. What a crash left under `new/`
 //! is taken away where the shelf is opened. A settings file says whose the folder is. No contract says what files give, so

@@ -9,7 +9,7 @@ use crate::{FolderFault, Settings};
 use std::alloc::{AllocError, Global};
 
 /// The format's name: its last character is its version.
-const FORMAT: &[u8; 16] = b"wozhinnam shelf1";
+const FORMAT: &[u8; 16] = b"wozhinnam shelf2";
 
 /// How many bytes the text of a settings file has.
 const TEXT: usize = 64;

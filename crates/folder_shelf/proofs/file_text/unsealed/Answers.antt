@@ -1,5 +1,5 @@
-use Rattle.std.proofs.Common.{◌≡◌, refl, ℕ, List, ap, sym, ◌∙◌, ◌-◌, arith, length, take, drop, rules}
-use Rattle.folder_shelf.specs.Sealed.{seal, sealed}
+use Rattle.std.proofs.Common.{refl, ap, sym, ◌∙◌, ◌-◌, arith, length}
+use Rattle.folder_shelf.specs.Sealed.{seal}
 use Rattle.folder_shelf.proofs.Seals.{length-sealed, cut_sealed, is_sealed}
 use Rattle.folder_shelf.proofs.file_text.unsealed.Goals as goal
 

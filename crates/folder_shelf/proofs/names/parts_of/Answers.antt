@@ -1,7 +1,6 @@
-use Rattle.std.proofs.Common.{◌≡◌, ◌<◌, arith}
-use Rattle.std.specs.Prelude.{None, Some}
+use Rattle.std.proofs.Common.{arith}
+use Rattle.std.specs.Prelude.{Some}
 use Rattle.std.proofs.lemmas.Fmt.{parse-decimal}
-use Rattle.folder_shelf.specs.Names.{IsPlace}
 use Rattle.folder_shelf.proofs.Spelled.{parted}
 use Rattle.folder_shelf.proofs.names.parts_of.Goals as goal
 

@@ -1,4 +1,3 @@
-use Rattle.std.proofs.Common.{length}
 use Rattle.folder_shelf.proofs.Fields.{length-settings_text}
 use Rattle.folder_shelf.proofs.settings_file.read_settings.Goals as goal
 
