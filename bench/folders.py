@@ -101,6 +101,17 @@ def write_plain(folder, number, bodies, synced):
             sync(place)
 
 
+def sha256(text):
+    return hashlib.sha256(text).digest()
+
+
+def seal(share):
+    """The seal of a share: of the tagged hashes of its four parts."""
+    quarter = (len(share) + 3) // 4
+    parts = (share[place * quarter : (place + 1) * quarter if place < 3 else None] for place in range(4))
+    return sha256(b"".join(sha256(sha256(b"20:wozhinnam shelf seal," + part)) for part in parts))[:8]
+
+
 def share_files(folder):
     for top, _, names in os.walk(folder):
         for name in names:
@@ -155,7 +166,7 @@ def opens(program, folder, count):
         for path in share_files(top):
             with open(path, "rb") as file:
                 text = file.read()
-            if hashlib.sha256(text[:-8]).digest()[:8] != text[-8:]:
+            if seal(text[:-8]) != text[-8:]:
                 sys.exit("folders.py: rotten " + path)
             files += 1
             bytes_read += len(text) - 8
