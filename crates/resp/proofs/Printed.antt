@@ -1,20 +1,33 @@
 -- Commands.
-use Rattle.std.proofs.Common.{◌≡◌, ℕ, ◌≤◌, ◌<◌, ◌^◌, List, [], ◌∷◌, ◌++◌, length, take, Bor, refl, sym, subst, ◌∙◌, arith}
+use Rattle.std.proofs.Common.{◌≡◌, ℕ, ◌+◌, ◌≤◌, ◌<◌, ◌^◌, List, [], ◌∷◌, ◌++◌, length, Bor, refl, sym, ap, subst, ◌∙◌, arith, append-nil, append_assoc, length-append}
 use Rattle.std.specs.Prelude.{decimal, map}
 use Rattle.std.specs.List.{flat_map, AllByRecursion}
 use Rattle.std.proofs.lemmas.Fmt.{decimal_is_IsNumeral, length-decimal-le}
-use Rattle.std.proofs.lemmas.List.{take_all, length-map}
+use Rattle.std.proofs.lemmas.List.{length-map}
+use Rattle.std.proofs.lemmas.Grind.{flat_map-append}
 use Rattle.resp.specs.declared.limits.Limits.{Limits}
 use Rattle.resp.specs.declared.reply.Item.TheVariants as item
 use Rattle.resp.specs.declared.reply.Element.TheVariants as element
 use Rattle.resp.specs.declared.reply.Reply.TheVariants as reply
-use Rattle.resp.specs.Command.{line, bulk, command}
+use Rattle.resp.specs.Command.{line_end, line, bulk, command}
 use Rattle.resp.specs.Spelled.{Writes, SpellsAll, SpellsElement, SpellsReply}
 
-pub command_is : (words : List (Bor (List ℕ))) (i : ℕ) (bytes : List ℕ) → length words ≤ i
-    → bytes ≡ line 42 (decimal (length words)) ++ flat_map bulk (map (λ word. word.now) (take i words)) → bytes ≡ command (map (λ word. word.now) words)
+pub command_is : (words : List (Bor (List ℕ))) (bytes : List ℕ) → bytes ≡ line 42 (decimal (length words)) ++ flat_map bulk (map (λ word. word.now) words)
+    → bytes ≡ command (map (λ word. word.now) words)
 unfolding command
-command_is words i bytes le e = e ∙ rw (take_all i words le, length-map) refl
+command_is words bytes e = e ∙ rw length-map refl
+
+-- a last word behind the line that has its length
+glued : (count words line last : List ℕ) → count ++ words ++ line ++ last ++ line_end ≡ count ++ (words ++ (line ++ last ++ line_end ++ []))
+glued count words line last = simp (append_assoc, append-nil) refl
+
+pub head_is : (words : List (Bor (List ℕ))) (bytes last : List ℕ) (len : ℕ)
+    → bytes ≡ line 42 (decimal (length words + 1)) ++ flat_map bulk (map (λ word. word.now) words) ++ line 36 (decimal len) → length last ≡ len
+    → bytes ++ last ++ line_end ≡ command (map (λ word. word.now) words ++ last ∷ [])
+unfolding command
+head_is words bytes last len e long =
+    ap (λ l. l ++ last ++ line_end) e ∙ glued (line 42 (decimal (length words + 1))) (flat_map bulk (map (λ word. word.now) words)) (line 36 (decimal len)) last
+    ∙ rw (length-append, length-map, flat_map-append, long) refl
 
 -- a number that is printed is read as that number
 prints : (limits : Limits) (most n : ℕ) → 20 ≤ limits.line → n ≤ most → n < 2 ^ 32 → Writes limits most (decimal n) n
