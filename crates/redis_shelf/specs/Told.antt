@@ -3,6 +3,9 @@ use Rattle.std.specs.Prelude.{◌≡◌, ℕ, List, [], ◌++◌, ◌⊎◌, Opt
 use Rattle.resp.specs.declared.limits.Limits.{Limits}
 use Rattle.resp.specs.declared.reply.Item.TheVariants as item
 use Rattle.resp.specs.declared.reply.Reply.TheVariants as reply
+use Rattle.std.specs.Option.{option_map}
+use Rattle.std.specs.Rc.{rc_slice_items}
+use Rattle.resp.specs.Command.{line_end}
 use Rattle.resp.specs.Spelled.{SpellsReply}
 use Rattle.redis_shelf.specs.Commands.{auth_command}
 use Rattle.redis_shelf.specs.declared.change.Change.{Change}
@@ -10,6 +13,15 @@ use Rattle.redis_shelf.specs.declared.fault.ChangeFault.{ChangeFault}
 use Rattle.redis_shelf.specs.declared.fault.ChangeFault.TheVariants as fault
 use Rattle.redis_shelf.specs.declared.connection.State.{State}
 use Rattle.redis_shelf.specs.declared.connection.State.TheVariants as state
+
+-- a command's head, and behind it a share's bytes with CR and LF where there is a share
+abbrev pub with_share : List ℕ → Option (List ℕ) → List ℕ
+with_share head None = head
+with_share head (Some share) = head ++ share ++ line_end
+
+-- the command that makes a change
+abbrev pub command_of : Change → List ℕ
+command_of change = with_share change.head (option_map rc_slice_items change.share)
 
 -- the same and these bytes behind, where it is known
 abbrev pub with_more : Option (List ℕ) → List ℕ → Option (List ℕ)
@@ -39,7 +51,7 @@ said_first (Some password) = auth_command password
 -- the change whose answer was lost, once more
 abbrev pub said_again : Option Change → List ℕ
 said_again None = []
-said_again (Some change) = change.command
+said_again (Some change) = command_of change
 
 -- what a new connection is told before anything else
 abbrev pub opening : Option (List ℕ) → Option Change → List ℕ
@@ -71,7 +83,7 @@ IsLeft (fault.NotDone why) change old new = IsLetGo old new
 
 -- The connection is as it was, or it was let go: then this change is in doubt, or what was in doubt before, or nothing.
 abbrev pub IsUnsure : List ℕ → State → State → Type 0
-IsUnsure command old new = (new ≡ old) ⊎ (IsLetGo old new ⊎ ((change : Change) × (change.command ≡ command) × (new ≡ state.Closed (Some change))))
+IsUnsure command old new = (new ≡ old) ⊎ (IsLetGo old new ⊎ ((change : Change) × (command_of change ≡ command) × (new ≡ state.Closed (Some change))))
 
 -- how large the reply that has a share may be
 abbrev pub value_limits : ℕ → Limits

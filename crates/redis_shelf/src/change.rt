@@ -1,13 +1,16 @@
 //! A change of what a server keeps.
 ghost use Rattle.std.specs.Prelude.{◌≡◌, ◌↔◌, IsTrue, IfOk};
 ghost use Rattle.redis_shelf.specs.Answers.{IsAnswer};
+ghost use Rattle.std.specs.Rc.{rc_slice_items};
 ghost use Rattle.redis_shelf.specs.Commands.{set_command, delete_command};
+ghost use Rattle.redis_shelf.specs.Told.{command_of};
 
 use crate::answers::{is_deleted, is_done};
 use crate::commands::{delete, set};
 use octets::Bytes;
 use resp::Reply;
 use std::alloc::{AllocError, Global};
+use std::rc::RcSlice;
 
 /// Whether something is put or taken away.
 #[derive(Clone, Copy, Debug, PartialEq, Eq)]
@@ -23,32 +26,37 @@ pub(crate) enum Kind {
 pub(crate) struct Change {
     /// Whether something is put or taken away.
     pub(crate) kind: Kind,
-    /// The command that does it.
-    pub(crate) command: Bytes,
+    /// The command that does it, as far as the share's bytes where there are some.
+    pub(crate) head: Bytes,
+    /// The share's bytes, which are written from where they are, with CR and LF behind them.
+    pub(crate) share: Option<RcSlice<u8>>,
 }
 
 impl Change {
-    /// Puts bytes under a name.
-    pub(crate) fn put(alloc: Global, name: &[u8], content: &[u8]) -> Result<Change, AllocError>
+    /// Puts a share's bytes under a name. They aren't copied.
+    pub(crate) fn put(alloc: Global, name: &[u8], share: RcSlice<u8>) -> Result<Change, AllocError>
         ensures kind { IfOk result (λ change. change.kind ≡ Kind.Put) }
-        ensures command { IfOk result (λ change. change.command ≡ set_command name.now content.now) }
+        ensures command { IfOk result (λ change.
+            command_of change ≡ set_command name.now (rc_slice_items share)) }
     {
-        let command = Bytes::from_vec(set(alloc, name, content)?);
+        let head = Bytes::from_vec(set(alloc, name, share.len())?);
         Ok(Change {
             kind: Kind::Put,
-            command,
+            head,
+            share: Some(share),
         })
     }
 
     /// Takes away what stands under a name.
     pub(crate) fn remove(alloc: Global, name: &[u8]) -> Result<Change, AllocError>
         ensures kind { IfOk result (λ change. change.kind ≡ Kind.Remove) }
-        ensures command { IfOk result (λ change. change.command ≡ delete_command name.now) }
+        ensures command { IfOk result (λ change. command_of change ≡ delete_command name.now) }
     {
-        let command = Bytes::from_vec(delete(alloc, name)?);
+        let head = Bytes::from_vec(delete(alloc, name)?);
         Ok(Change {
             kind: Kind::Remove,
-            command,
+            head,
+            share: None,
         })
     }
 

@@ -1,8 +1,9 @@
 //! Commands.
-ghost use Rattle.std.specs.Prelude.{◌≡◌, IfOk};
+ghost use Rattle.std.specs.Prelude.{◌≡◌, ◌++◌, ℕ, List, length, IfOk};
+ghost use Rattle.resp.specs.Command.{line_end};
 ghost use Rattle.redis_shelf.specs.Commands.{auth_command, set_command, get_command, delete_command, beginning, scan_command};
 
-use resp::command;
+use resp::{command, command_head};
 use std::alloc::{AllocError, Global};
 
 /// Says who asks.
@@ -12,11 +13,13 @@ pub(crate) fn auth(alloc: Global, password: &[u8]) -> Result<Vec<u8>, AllocError
     command(alloc, &[b"AUTH", password])
 }
 
-/// Puts bytes under a name, in the place of others.
-pub(crate) fn set(alloc: Global, name: &[u8], content: &[u8]) -> Result<Vec<u8>, AllocError>
-    ensures { IfOk result (λ bytes. bytes.items ≡ set_command name.now content.now) }
+/// Puts so many bytes under a name, in the place of others: the command as far as those bytes, behind which CR and LF
+/// have to come.
+pub(crate) fn set(alloc: Global, name: &[u8], len: usize) -> Result<Vec<u8>, AllocError>
+    ensures { IfOk result (λ bytes. (content : List ℕ) → length content ≡ len
+        → bytes.items ++ content ++ line_end ≡ set_command name.now content) }
 {
-    command(alloc, &[b"SET", name, content])
+    command_head(alloc, &[b"SET", name], len)
 }
 
 /// Asks for what stands under a name.

@@ -1,17 +1,17 @@
 //! A connection that is made anew where it is needed.
-ghost use Rattle.std.specs.Prelude.{◌≡◌, ◌<◌, ℕ, List, IfOk, IfErr, OnOk, OnErr};
+ghost use Rattle.std.specs.Prelude.{◌≡◌, ◌≢◌, ◌<◌, ℕ, List, IfOk, IfErr, OnOk, OnErr};
 ghost use Rattle.resp.specs.Spelled.{SpellsReply};
 ghost use Rattle.resp.specs.declared.reply.Item.TheVariants as item;
 ghost use Rattle.resp.specs.declared.reply.Reply.{Reply};
 ghost use Rattle.resp.specs.declared.reply.Reply.TheVariants as replies;
 ghost use Rattle.redis_shelf.specs.Answers.{IsAnswer};
-ghost use Rattle.redis_shelf.specs.Told.{with_more, Ends, IsAll, said_first, said_again, opening, doubt_of, IsReady, IsTold, IsLetGo, IsLeft};
+ghost use Rattle.redis_shelf.specs.Told.{command_of, with_more, Ends, IsAll, said_first, said_again, opening, doubt_of, IsReady, IsTold, IsLetGo, IsLeft};
 
 use crate::answers::is_done;
 use crate::change::Change;
 use crate::commands::auth;
 use crate::fault::ChangeFault;
-use crate::talk::talk;
+use crate::talk::{talk, talk_parts};
 use crate::{Link, RedisFault};
 use octets::Bytes;
 use resp::{Item, Limits, Reply};
@@ -72,7 +72,7 @@ impl<L: Link + Drop> Connection<L> {
     pub(crate) fn change(&mut self, change: Change) -> Result<(), ChangeFault>
         ensures open { OnOk result (self.new.state ≡ State.Open) }
         ensures told { OnOk result (IsTold self.old.state self.old.password
-            (L.written self.old.link) (L.written self.new.link) change.command) }
+            (L.written self.old.link) (L.written self.new.link) (command_of change)) }
         ensures left { IfErr result (λ fault.
             IsLeft fault change self.old.state self.new.state) }
     {
@@ -207,7 +207,7 @@ fn log_in<L: Link>(alloc: Global, link: &mut L, password: &Option<Bytes>) -> Res
 /// Makes a change. `Refused` only where the server said that it refuses.
 fn make<L: Link>(alloc: Global, link: &mut L, change: &Change) -> Result<(), RedisFault>
     ensures told { OnOk result
-        (L.written link.new ≡ with_more (L.written link.old) change.now.command) }
+        (L.written link.new ≡ with_more (L.written link.old) (command_of change.now)) }
     ensures answered { OnOk result ((reply : Reply) × (came : List ℕ)
         × IsAnswer change.now.kind reply × SpellsReply SHORT reply came
         × (L.heard link.new ≡ with_more (L.heard link.old) came)) }
@@ -215,11 +215,26 @@ fn make<L: Link>(alloc: Global, link: &mut L, change: &Change) -> Result<(), Red
         × SpellsReply SHORT (replies.One (item.Error why)) came
         × (L.heard link.new ≡ with_more (L.heard link.old) came)) }
 {
-    let reply = talk(alloc, link, SHORT, change.command.as_slice())?;
+    let reply = tell(alloc, link, change)?;
     if change.is_answered(&reply) {
         Ok(())
     } else {
         Err(fault_of(&reply))
+    }
+}
+
+/// Tells the command of a change and gives its reply. A share's bytes are written from where they are.
+fn tell<L: Link>(alloc: Global, link: &mut L, change: &Change) -> Result<Reply, RedisFault>
+    ensures written { OnOk result
+        (L.written link.new ≡ with_more (L.written link.old) (command_of change.now)) }
+    ensures heard { IfOk result (λ reply. (came : List ℕ) × SpellsReply SHORT reply came
+        × (L.heard link.new ≡ with_more (L.heard link.old) came)) }
+    ensures not_refused { IfErr result (λ fault. fault ≢ RedisFault.Refused) }
+{
+    let head = change.head.as_slice();
+    match &change.share {
+        None => talk(alloc, link, SHORT, head),
+        Some(share) => talk_parts(alloc, link, SHORT, &[head, share.as_slice(), b"\r\n"]),
     }
 }
 

@@ -1,5 +1,6 @@
 //! A way to a server.
 ghost use Rattle.std.specs.Prelude.{◌≡◌, ◌≤◌, ℕ, List, Option, None, length, take, IfOk, OnOk};
+ghost use Rattle.std.specs.List.{flat_map};
 ghost use Rattle.redis_shelf.specs.Told.{IsFresh, with_more};
 
 use crate::LinkFault;
@@ -20,9 +21,10 @@ pub trait Link {
         ensures written { OnOk result (IsFresh (written self.new)) }
         ensures heard { OnOk result (IsFresh (heard self.new)) };
 
-    /// Writes all the bytes.
-    fn write_all(&mut self, bytes: &[u8]) -> Result<(), LinkFault>
-        ensures written { OnOk result (written self.new ≡ with_more (written self.old) bytes.now) }
+    /// Writes all the bytes of these parts, one behind the other. This begins one exchange, however many they are.
+    fn write_all(&mut self, parts: &[&[u8]]) -> Result<(), LinkFault>
+        ensures written { OnOk result (written self.new
+            ≡ with_more (written self.old) (flat_map (λ part. part.now) parts.now)) }
         ensures heard { heard self.new ≡ heard self.old };
 
     /// Reads bytes to the front of `room`, and says how many. None is the end.

@@ -8,7 +8,7 @@ ghost use Rattle.redis_shelf.specs.Keys.{key, IsGathered};
 ghost use Rattle.redis_shelf.specs.Answers.{page};
 ghost use Rattle.resp.specs.Spelled.{SpellsReply};
 ghost use Rattle.resp.specs.declared.reply.Item.{Item};
-ghost use Rattle.redis_shelf.specs.Told.{Ends, IsTold, IsGiven, IsUnsure, value_limits};
+ghost use Rattle.redis_shelf.specs.Told.{command_of, Ends, IsTold, IsGiven, IsUnsure, value_limits};
 
 use crate::answers::{page_in, value_in};
 use crate::change::Change;
@@ -222,20 +222,21 @@ impl<L: Link + Drop> RedisShelf<L> {
     }
 
     /// Puts a share's bytes under its key.
-    fn store(&mut self, index: &[u8; 16], number: u16, bytes: &[u8]) -> Result<(), ShelfFault>
+    fn store(&mut self, index: &[u8; 16], number: u16, share: RcSlice<u8>) -> Result<(), ShelfFault>
         ensures told { OnOk result (IsTold self.old.connection.state self.old.connection.password
             (L.written self.old.connection.link) (L.written self.new.connection.link)
-            (set_command (key self.old.grid index.now number) bytes.now)) }
-        ensures left { OnErr result (IsUnsure (set_command (key self.old.grid index.now number) bytes.now)
+            (set_command (key self.old.grid index.now number) (rc_slice_items share))) }
+        ensures left { OnErr result (IsUnsure
+            (set_command (key self.old.grid index.now number) (rc_slice_items share))
             self.old.connection.state self.new.connection.state) }
         ensures rises { self.old.failures ≤ self.new.failures }
         ensures failed { IsErrOf result ShelfFault.Failed ↔ (self.old.failures < self.new.failures) }
     {
-        if bytes.len() > self.longest as usize {
+        if share.len() > self.longest as usize {
             return Err(self.fail(RedisFault::TooLong));
         }
         let name = self.name_of(index, number)?;
-        let change = Change::put(self.connection.alloc, &name, bytes)?;
+        let change = Change::put(self.connection.alloc, &name, share)?;
         self.make(change)
     }
 
@@ -258,8 +259,8 @@ impl<L: Link + Drop> RedisShelf<L> {
     fn make(&mut self, change: Change) -> Result<(), ShelfFault>
         ensures told { OnOk result (IsTold self.old.connection.state self.old.connection.password
             (L.written self.old.connection.link) (L.written self.new.connection.link)
-            change.command) }
-        ensures left { OnErr result (IsUnsure change.command
+            (command_of change)) }
+        ensures left { OnErr result (IsUnsure (command_of change)
             self.old.connection.state self.new.connection.state) }
         ensures rises { self.old.failures ≤ self.new.failures }
         ensures failed { IsErrOf result ShelfFault.Failed ↔ (self.old.failures < self.new.failures) }
@@ -307,7 +308,7 @@ impl<L: Link + Drop> Shelf for RedisShelf<L> {
     }
 
     fn put(&mut self, index: [u8; 16], number: u16, bytes: RcSlice<u8>) -> Result<(), ShelfFault> {
-        self.store(&index, number, bytes.as_slice())
+        self.store(&index, number, bytes)
     }
 
     fn remove(&mut self, index: [u8; 16], number: u16) -> Result<(), ShelfFault> {

@@ -66,6 +66,16 @@ impl<R: Net + Clock + Drop> TcpLink<R> {
         }
         Ok(count)
     }
+
+    /// Writes some bytes, all of them.
+    fn write_part(&mut self, bytes: &[u8]) -> Result<(), LinkFault> {
+        let mut rest = bytes;
+        while !rest.is_empty() {
+            let count = self.write_some(rest)?;
+            rest = &rest[count..];
+        }
+        Ok(())
+    }
 }
 
 impl<R: Net + Clock + Drop> Link for TcpLink<R> {
@@ -77,12 +87,10 @@ impl<R: Net + Clock + Drop> Link for TcpLink<R> {
         Ok(())
     }
 
-    fn write_all(&mut self, bytes: &[u8]) -> Result<(), LinkFault> {
+    fn write_all(&mut self, parts: &[&[u8]]) -> Result<(), LinkFault> {
         self.began = self.rt.monotonic()?;
-        let mut rest = bytes;
-        while !rest.is_empty() {
-            let count = self.write_some(rest)?;
-            rest = &rest[count..];
+        for part in parts {
+            self.write_part(part)?;
         }
         Ok(())
     }

@@ -26,19 +26,29 @@ pub struct Played {
     at_once: usize,
 }
 
-impl Link for Played {
-    fn connect(&mut self) -> Result<(), LinkFault> {
-        self.waiting.clear();
-        self.told.push(b'|').map_err(|_| LinkFault)
-    }
-
-    fn write_all(&mut self, bytes: &[u8]) -> Result<(), LinkFault> {
+impl Played {
+    /// Writes down what it is told.
+    fn write_down(&mut self, bytes: &[u8]) -> Result<(), LinkFault> {
         for byte in bytes {
             match *byte {
                 b'\r' => {}
                 b'\n' => self.told.push(b' ').map_err(|_| LinkFault)?,
                 other => self.told.push(other).map_err(|_| LinkFault)?,
             }
+        }
+        Ok(())
+    }
+}
+
+impl Link for Played {
+    fn connect(&mut self) -> Result<(), LinkFault> {
+        self.waiting.clear();
+        self.told.push(b'|').map_err(|_| LinkFault)
+    }
+
+    fn write_all(&mut self, parts: &[&[u8]]) -> Result<(), LinkFault> {
+        for part in parts {
+            self.write_down(part)?;
         }
         if let Some(reply) = self.replies.pop() {
             self.waiting = reply;

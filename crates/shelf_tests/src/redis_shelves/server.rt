@@ -65,9 +65,13 @@ impl Server {
     }
 
     /// Does what a command says, and puts the answer where it is read.
-    fn obey(&mut self, command: &[u8]) -> Result<(), AllocError> {
+    fn obey(&mut self, parts: &[&[u8]]) -> Result<(), AllocError> {
         self.waiting.clear();
-        let words = words_of(self.alloc, command)?;
+        let mut command = Vec::new(self.alloc);
+        for part in parts {
+            command.extend_from_slice(part)?;
+        }
+        let words = words_of(self.alloc, &command)?;
         match words.as_slice() {
             [_, _, content] => {
                 self.kept = Some(Bytes::from_slice(self.alloc, content.as_slice())?);
@@ -102,12 +106,12 @@ impl Link for Server {
         Ok(())
     }
 
-    fn write_all(&mut self, bytes: &[u8]) -> Result<(), LinkFault> {
+    fn write_all(&mut self, parts: &[&[u8]]) -> Result<(), LinkFault> {
         let fails = self.fails();
         if fails && !self.is_done {
             return Err(LinkFault);
         }
-        let obeyed = self.obey(bytes);
+        let obeyed = self.obey(parts);
         if fails || obeyed.is_err() {
             return Err(LinkFault);
         }
