@@ -1,8 +1,9 @@
 -- What the first k good shares give.
 use Rattle.std.proofs.Common.{◌≡◌, ℕ, zero, suc, ◌+◌, ◌<◌, ◌≤◌, ◌++◌, min, List, [], ◌∷◌, length, take, drop, Bool, true, false, cond, Some, None, refl, sym, ap, ◌∙◌, arith, length-take}
-use Rattle.std.proofs.lemmas.Bool.{le-leb, lt-leb}
+use Rattle.std.specs.Prelude.{nat_le}
+use Rattle.std.proofs.lemmas.Bool.{leb-true, le-leb, lt-leb}
 use Rattle.std.proofs.lemmas.Option.{none-some, same_Some}
-use Rattle.std.proofs.lemmas.List.{take_at}
+use Rattle.std.proofs.lemmas.List.{take_at, take-append-le, length-append}
 use Rattle.aes_ctr.specs.Crypt.{crypt}
 use Rattle.share_codec.specs.Params.{ParamsValue}
 use Rattle.share_codec.specs.GoodShare.{GoodShare}
@@ -34,6 +35,19 @@ module _ (p : ParamsValue) (key : List ℕ) (goods shares : List GoodShare) (is 
       by_case : (b : Bool) → Some bytes ≡ cond b (Some (crypttext_from p shares)) None → cond b (Some (crypt key (crypttext_from p shares))) None ≡ Some (crypt key bytes)
       by_case true e = ap (λ c. Some (crypt key c)) (sym (same_Some bytes (crypttext_from p shares) e))
       by_case false e = absurd (none-some bytes (sym e))
+
+-- what the first of some good shares give all of them give
+pub given_by_all : (p : ParamsValue) (key : List ℕ) (goods more : List GoodShare) (bytes : List ℕ) → fit_in p key goods ≡ Some bytes → fit_in p key (goods ++ more) ≡ Some bytes
+given_by_all p key goods more bytes found = by_case (nat_le p.k (length goods)) refl found
+  where
+    by_case : (b : Bool) → nat_le p.k (length goods) ≡ b → cond b (given_by p key (take p.k goods)) None ≡ Some bytes → fit_in p key (goods ++ more) ≡ Some bytes
+    by_case true is e =
+        let many : p.k ≤ length goods = leb-true p.k (length goods) is in
+        let more_too : p.k ≤ length (goods ++ more) = (let long = length-append goods more in omega arith) in
+        ap (λ b. cond b (given_by p key (take p.k (goods ++ more))) None) (le-leb p.k (length (goods ++ more)) more_too)
+        ∙ ap (given_by p key) (take-append-le p.k goods more many)
+        ∙ e
+    by_case false is e = absurd (none-some bytes e)
 
 pub take-past : (xs ys : List ℕ) (n : ℕ) → take (length xs + n) (xs ++ ys) ≡ xs ++ take n ys
 take-past [] ys n = let e : zero + n ≡ n = omega arith in ap (λ m. take m ys) e

@@ -15,10 +15,11 @@ use Rattle.grid.specs.Found.{found_below}
 use Rattle.grid.specs.FoundLaws.{FoundLaws}
 use Rattle.grid.specs.Standing.{standing}
 use Rattle.share_codec.specs.Params.{ParamsValue}
+use Rattle.share_codec.specs.GoodShare.{GoodShare}
 use Rattle.chk_file.specs.Row.{Row, row_of, most_servers, Place, places, first_good, good_at}
 use Rattle.chk_file.specs.Check.{is_some_place, standing_numbers, bad_places}
 use Rattle.chk_file.specs.Gathered.{Found, of_number, by_number, good_below, bad_below, some_below}
-use Rattle.chk_file.proofs.Tools.{true_or_false, mapped_alike, kept_alike, flat_alike, filter_alike, none_past}
+use Rattle.chk_file.proofs.Tools.{true_or_false, mapped_alike, kept_alike, flat_alike, filter_alike, none_past, begun}
 
 -- ---- one share more
 
@@ -116,3 +117,14 @@ module _ (found : List Found) (row : Row) (same : (number : ℕ) → of_number n
   rows_stand =
       filter_alike (λ number. is_some_place (get_or rows number [])) (λ number. is_some_place (places row number)) n 0 n (omega arith)
       (λ number below. ap is_some_place (same_places number below))
+
+-- ---- what was gathered of low numbers alone
+
+-- where it is what stands there, its good shares are the first of those of the row
+pub low_are_first : (found : List Found) (row : Row) (limit : ℕ) → ((number : ℕ) → number < limit → of_number number found ≡ places row number)
+    → ((number : ℕ) → limit ≤ number → of_number number found ≡ []) → (n : ℕ) (p : ParamsValue) (ueb : List ℕ)
+    → (more : List GoodShare) × (filter_map (good_at p ueb row) (range_with_len 0 n) ≡ good_below p ueb (by_number n found) n ++ more)
+low_are_first found row limit same past n p ueb =
+    begun (λ number. first_good p ueb number (get_or (by_number n found) number [])) (good_at p ueb row) limit n
+    (λ number below low. ap (first_good p ueb number) (row_at n number found below ∙ same number low))
+    (λ number below high. ap (first_good p ueb number) (row_at n number found below ∙ past number high)) 0 n (omega arith)

@@ -1,10 +1,10 @@
 -- What is gathered where some stores fail is a row that is reached.
 use Rattle.std.proofs.Common.{◌≡◌, ◌⊎◌, inl, inr, ℕ, zero, suc, ◌+◌, ◌<◌, ◌≤◌, List, [], ◌∷◌, length, map, Bool, true, false, cond, Option, Some, None, refl, sym, ap, subst, ◌∙◌, arith}
-use Rattle.std.specs.Prelude.{◌==◌, option_and_then, filter}
+use Rattle.std.specs.Prelude.{◌==◌, nat_lt, option_and_then, filter}
 use Rattle.std.specs.Option.{option_map}
 use Rattle.std.specs.List.{range_with_len, filter_map, cons_option}
 use Rattle.std.specs.FinMap.{get}
-use Rattle.std.proofs.lemmas.Bool.{eqb-true, eq-eqb, ne_eqb}
+use Rattle.std.proofs.lemmas.Bool.{eqb-true, eq-eqb, ne_eqb, lt-ltb, le-ltb}
 use Rattle.std.proofs.lemmas.Option.{slice_get_past}
 use Rattle.share_store.specs.Shares.{Shares}
 use Rattle.grid.specs.Found.{found_below, AllBut}
@@ -39,6 +39,11 @@ module _ {A : Type 0} (Miss : A → Type 0) where
   AllBut-map Lost f lost [] given is = ap (map f) is
   AllBut-map Lost f lost (x ∷ all) given (inl (miss, more)) = inl (lost x miss, AllBut-map Lost f lost all given more)
   AllBut-map Lost f lost (x ∷ all) given (inr (rest, is, more)) = inr (map f rest, ap (map f) is, AllBut-map Lost f lost all rest more)
+
+  -- where none is missed all are given
+  AllBut-all : (all : List A) → AllBut Miss all all
+  AllBut-all [] = refl
+  AllBut-all (x ∷ all) = inr (all, refl, AllBut-all all)
 
 -- ---- the shares of a number
 
@@ -100,42 +105,136 @@ module _ (Miss : ℕ → Type 0) where
 
 -- ---- a row of all numbers
 
--- a row that was reached, and what was gathered is what stands in it
-pub record IsGathered (old new : GridState) (index : List ℕ) (found : List Found) : Type 0 where
+abbrev Failed : GridState → GridState → ℕ → Type 0
+Failed old new server = failures_at old server < failures_at new server
+
+abbrev stands_at : GridState → List ℕ → ℕ → ℕ → Option (List ℕ)
+stands_at old index number server = standing (maps_of old) server (index, number)
+
+-- all that stands of a number
+abbrev all_at : GridState → List ℕ → ℕ → List Place
+all_at old index number = filter_map (placed_at (stands_at old index number)) (range_with_len 0 (length old.stores))
+
+-- a row that was reached, in which this stands of each number
+record IsListed (old new : GridState) (index : List ℕ) (lists : ℕ → List Place) : Type 0 where
   pub row : Row
   pub reached : IsReached old new index row
-  pub is : (number : ℕ) → of_number number found ≡ places row number
+  pub is : (number : ℕ) → lists number ≡ places row number
 
-module _ (laws : FoundLaws) (old new : GridState) (index : List ℕ) (found : List Found) (few : length old.stores ≤ 256) (long : length (maps_of old) ≡ length old.stores)
-    (all : AllBut (λ (f : Found). failures_at old f.0 < failures_at new f.0) (found_below (maps_of old) index (length old.stores)) found) where
-  abbrev Failed : ℕ → Type 0
-  Failed server = failures_at old server < failures_at new server
-
-  abbrev stands_at : ℕ → ℕ → Option (List ℕ)
-  stands_at number server = standing (maps_of old) server (index, number)
-
-  of_each : (number : ℕ) → Picked Failed (stands_at number) 0 (length old.stores) (of_number number found)
-  of_each number =
-      picked Failed (stands_at number) 0 (length old.stores) (of_number number found)
-      (subst (λ (ps : List Place). AllBut (λ (place : Place). Failed place.0) ps (of_number number found)) (laws.of_number (maps_of old) index (length old.stores) number)
-      (AllBut-map (λ (f : Found). Failed f.0) (λ (place : Place). Failed place.0) (λ f. (f.0, f.2)) (λ f failed. failed)
-      (filter (λ (f : Found). f.1 == number) (found_below (maps_of old) index (length old.stores))) (filter (λ (f : Found). f.1 == number) found)
-      (AllBut-filter (λ (f : Found). Failed f.0) (λ (f : Found). f.1 == number) (found_below (maps_of old) index (length old.stores)) found all)))
+module _ (old new : GridState) (index : List ℕ) (few : length old.stores ≤ 256) (long : length (maps_of old) ≡ length old.stores) (lists : ℕ → List Place)
+    (all : (number : ℕ) → AllBut (λ (place : Place). Failed old new place.0) (all_at old index number) (lists number)) where
+  of_each : (number : ℕ) → Picked (Failed old new) (stands_at old index number) 0 (length old.stores) (lists number)
+  of_each number = picked (Failed old new) (stands_at old index number) 0 (length old.stores) (lists number) (all number)
 
   -- past the last server nothing stands
   none_there : (number server : ℕ) → length old.stores ≤ server → (of_each number).has server ≡ None
   none_there number server past = by_case ((of_each number).each server)
     where
-      by_case : ((of_each number).has server ≡ stands_at number server) ⊎ (Failed server × ((of_each number).has server ≡ None)) → (of_each number).has server ≡ None
+      by_case : ((of_each number).has server ≡ stands_at old index number server) ⊎ (Failed old new server × ((of_each number).has server ≡ None)) → (of_each number).has server ≡ None
       by_case (inl same) = same ∙ ap (λ (o : Option Shares). option_and_then (λ shares. get shares (index, number)) o) (slice_get_past (maps_of old) server (omega arith))
       by_case (inr (failed, none)) = none
 
-  pub gathered_is_reached : IsGathered old new index found
+  lists_are_reached : IsListed old new index lists
   unfolding most_servers
-  gathered_is_reached = record {
+  lists_are_reached = record {
     row = λ server number. (of_each number).has server;
     reached = record { each = λ server number. (of_each number).each server };
     is = λ number.
         (of_each number).is
         ∙ sym (none_past (placed_at (of_each number).has) (length old.stores) 256 few (λ server past. ap (option_map {U = Place} (λ s. (server, s))) (none_there number server past)));
   }
+
+-- a row that was reached, and what was gathered is what stands in it
+pub record IsGathered (old new : GridState) (index : List ℕ) (found : List Found) : Type 0 where
+  pub row : Row
+  pub reached : IsReached old new index row
+  pub is : (number : ℕ) → of_number number found ≡ places row number
+
+module _ (laws : FoundLaws) (old new : GridState) (index : List ℕ) (found : List Found) where
+  -- of a number of which all are among these
+  of_list : (among : List Found) → AllBut (λ (f : Found). Failed old new f.0) among found → (number : ℕ)
+      → filter (λ (f : Found). f.1 == number) among ≡ filter (λ (f : Found). f.1 == number) (found_below (maps_of old) index (length old.stores))
+      → AllBut (λ (place : Place). Failed old new place.0) (all_at old index number) (of_number number found)
+  of_list among all number same =
+      subst (λ (ps : List Place). AllBut (λ (place : Place). Failed old new place.0) ps (of_number number found))
+      (ap (map {B = Place} (λ (f : Found). (f.0, f.2))) same ∙ laws.of_number (maps_of old) index (length old.stores) number)
+      (AllBut-map (λ (f : Found). Failed old new f.0) (λ (place : Place). Failed old new place.0) (λ f. (f.0, f.2)) (λ f failed. failed)
+      (filter (λ (f : Found). f.1 == number) among) (filter (λ (f : Found). f.1 == number) found)
+      (AllBut-filter (λ (f : Found). Failed old new f.0) (λ (f : Found). f.1 == number) among found all))
+
+  pub gathered_is_reached : length old.stores ≤ 256 → length (maps_of old) ≡ length old.stores
+      → AllBut (λ (f : Found). failures_at old f.0 < failures_at new f.0) (found_below (maps_of old) index (length old.stores)) found → IsGathered old new index found
+  gathered_is_reached few long all =
+      let it : IsListed old new index (λ number. of_number number found) =
+      lists_are_reached old new index few long (λ number. of_number number found) (λ number. of_list (found_below (maps_of old) index (length old.stores)) all number refl) in
+      record { row = it.row; reached = it.reached; is = it.is }
+
+-- ---- a row of which low numbers alone were gathered
+
+low_kept : (number limit : ℕ) → nat_lt number limit ≡ true → (fs : List Found)
+    → filter (λ (f : Found). f.1 == number) (filter (λ (f : Found). nat_lt f.1 limit) fs) ≡ filter (λ (f : Found). f.1 == number) fs
+low_kept number limit low [] = refl
+low_kept number limit low (f ∷ fs) = by_case (nat_lt f.1 limit) refl (low_kept number limit low fs)
+  where
+    by_case : (b : Bool) → nat_lt f.1 limit ≡ b
+        → filter (λ (g : Found). g.1 == number) (filter (λ (g : Found). nat_lt g.1 limit) fs) ≡ filter (λ (g : Found). g.1 == number) fs
+        → filter (λ (g : Found). g.1 == number) (cond b (f ∷ filter (λ (g : Found). nat_lt g.1 limit) fs) (filter (λ (g : Found). nat_lt g.1 limit) fs))
+        ≡ cond (f.1 == number) (f ∷ filter (λ (g : Found). g.1 == number) fs) (filter (λ (g : Found). g.1 == number) fs)
+    by_case true is more = ap (λ gs. cond (f.1 == number) (f ∷ gs) gs) more
+    by_case false is more =
+        let other : f.1 ≡ number → ⊥ = λ e. (let h : true ≡ false = sym low ∙ ap (λ m. nat_lt m limit) (sym e) ∙ is in cc) in
+        more ∙ sym (ap (λ b. cond b (f ∷ filter (λ (g : Found). g.1 == number) fs) (filter (λ (g : Found). g.1 == number) fs)) (ne_eqb f.1 number other))
+
+high_dropped : (number limit : ℕ) → nat_lt number limit ≡ false → (fs : List Found) → filter (λ (f : Found). f.1 == number) (filter (λ (f : Found). nat_lt f.1 limit) fs) ≡ []
+high_dropped number limit high [] = refl
+high_dropped number limit high (f ∷ fs) = by_case (nat_lt f.1 limit) refl (high_dropped number limit high fs)
+  where
+    by_case : (b : Bool) → nat_lt f.1 limit ≡ b → filter (λ (g : Found). g.1 == number) (filter (λ (g : Found). nat_lt g.1 limit) fs) ≡ []
+        → filter (λ (g : Found). g.1 == number) (cond b (f ∷ filter (λ (g : Found). nat_lt g.1 limit) fs) (filter (λ (g : Found). nat_lt g.1 limit) fs)) ≡ []
+    by_case true is more =
+        let other : f.1 ≡ number → ⊥ = λ e. (let h : true ≡ false = sym is ∙ ap (λ m. nat_lt m limit) e ∙ high in cc) in
+        ap
+        (λ b. cond b (f ∷ filter (λ (g : Found). g.1 == number) (filter (λ (g : Found). nat_lt g.1 limit) fs)) (filter (λ (g : Found). g.1 == number) (filter (λ (g : Found). nat_lt g.1 limit) fs)))
+        (ne_eqb f.1 number other)
+        ∙ more
+    by_case false is more = more
+
+-- a row that was reached, and what was gathered is what stands in it of the numbers below a limit
+pub record IsGatheredBelow (limit : ℕ) (old new : GridState) (index : List ℕ) (found : List Found) : Type 0 where
+  pub row : Row
+  pub reached : IsReached old new index row
+  pub is : (number : ℕ) → number < limit → of_number number found ≡ places row number
+  pub past : (number : ℕ) → limit ≤ number → of_number number found ≡ []
+
+module _ (laws : FoundLaws) (limit : ℕ) (old new : GridState) (index : List ℕ) (found : List Found) (few : length old.stores ≤ 256) (long : length (maps_of old) ≡ length old.stores)
+    (all : AllBut (λ (f : Found). failures_at old f.0 < failures_at new f.0) (filter (λ (f : Found). nat_lt f.1 limit) (found_below (maps_of old) index (length old.stores))) found) where
+  abbrev low_found : List Found
+  low_found = filter (λ (f : Found). nat_lt f.1 limit) (found_below (maps_of old) index (length old.stores))
+
+  -- what was gathered of a low number, and all that stands of any other
+  abbrev low_or_all : ℕ → List Place
+  low_or_all number = cond (nat_lt number limit) (of_number number found) (all_at old index number)
+
+  all_but_low : (number : ℕ) → AllBut (λ (place : Place). Failed old new place.0) (all_at old index number) (low_or_all number)
+  all_but_low number = by_case (nat_lt number limit) refl
+    where
+      by_case : (b : Bool) → nat_lt number limit ≡ b → AllBut (λ (place : Place). Failed old new place.0) (all_at old index number) (cond b (of_number number found) (all_at old index number))
+      by_case true is = of_list laws old new index found low_found all number (low_kept number limit is (found_below (maps_of old) index (length old.stores)))
+      by_case false is = AllBut-all (λ (place : Place). Failed old new place.0) (all_at old index number)
+
+  none_high : (number : ℕ) → limit ≤ number → of_number number found ≡ []
+  none_high number past =
+      ap (map {B = Place} (λ (f : Found). (f.0, f.2)))
+      (subst (λ (fs : List Found). AllBut (λ (f : Found). Failed old new f.0) fs (filter (λ (f : Found). f.1 == number) found))
+      (high_dropped number limit (le-ltb number limit past) (found_below (maps_of old) index (length old.stores)))
+      (AllBut-filter (λ (f : Found). Failed old new f.0) (λ (f : Found). f.1 == number) low_found found all))
+
+  pub low_is_reached : IsGatheredBelow limit old new index found
+  low_is_reached =
+      let it : IsListed old new index low_or_all = lists_are_reached old new index few long low_or_all all_but_low in
+      record {
+        row = it.row;
+        reached = it.reached;
+        is = λ number low. sym (ap (λ b. cond b (of_number number found) (all_at old index number)) (lt-ltb number limit low)) ∙ it.is number;
+        past = none_high;
+      }

@@ -1,5 +1,6 @@
 -- Lists, options and tests.
 use Rattle.std.proofs.Common.{◌≡◌, ◌⊎◌, inl, inr, ℕ, zero, suc, ◌+◌, ◌-◌, ◌<◌, ◌≤◌, length, take, List, [], ◌∷◌, ◌++◌, map, Bool, true, false, cond, Option, Some, None, refl, sym, ap, subst, ◌∙◌, arith, ⊎_elim}
+use Rattle.std.proofs.lemmas.Bool.{cases_lt}
 use Rattle.std.proofs.lemmas.List.{append-nil, take_at, length-take-le, get_or-take, map-id}
 use Rattle.std.specs.Prelude.{option_to_list, filter, flat_map, Contains, All, AllPairs, IfSome, ◌≢◌}
 use Rattle.std.specs.List.{range_with_len, filter_map, cons_option}
@@ -152,3 +153,42 @@ module _ {X : Type 0} (f : ℕ → Option X) where
       ∙ filter_map-append f (range_with_len 0 m) (range_with_len (0 + m) (n - m))
       ∙ ap (λ ys. filter_map f (range_with_len 0 m) ++ ys) (none_from (0 + m) (n - m) (λ i past. none i (omega arith)))
       ∙ append-nil (filter_map f (range_with_len 0 m))
+
+-- ---- up to a limit
+
+cons_before : {X : Type 0} (o : Option X) (xs ys : List X) → cons_option o (xs ++ ys) ≡ cons_option o xs ++ ys
+cons_before None xs ys = refl
+cons_before (Some x) xs ys = refl
+
+none_up_to : {X : Type 0} (f : ℕ → Option X) (bound a n : ℕ) → a + n ≤ bound → ((i : ℕ) → a ≤ i → i < bound → f i ≡ None) → filter_map f (range_with_len a n) ≡ []
+none_up_to f bound a zero fits none = refl
+none_up_to f bound a (suc n) fits none =
+    ap (λ o. cons_option o (filter_map f (range_with_len (a + 1) n))) (none a (omega arith) (omega arith))
+    ∙ none_up_to f bound (a + 1) n (omega arith) (λ i past below. none i (omega arith) below)
+
+-- where there is the same below a limit, and nothing past it, that is the beginning of all
+module _ {X : Type 0} (low all : ℕ → Option X) (limit bound : ℕ) (same : (i : ℕ) → i < bound → i < limit → low i ≡ all i) (none : (i : ℕ) → i < bound → limit ≤ i → low i ≡ None) where
+  abbrev IsBegun : ℕ → ℕ → Type 0
+  IsBegun a n = (more : List X) × (filter_map all (range_with_len a n) ≡ filter_map low (range_with_len a n) ++ more)
+
+  begun_here : (a n : ℕ) → a < bound → a < limit → IsBegun (a + 1) n → IsBegun a (suc n)
+  begun_here a n fits below (more, is) = (
+    more,
+    ap (cons_option (all a)) is
+        ∙ cons_before (all a) (filter_map low (range_with_len (a + 1) n)) more
+        ∙ ap (λ o. cons_option o (filter_map low (range_with_len (a + 1) n)) ++ more) (sym (same a fits below)),
+  )
+
+  begun_past : (a n : ℕ) → a + n ≤ bound → limit ≤ a → IsBegun a n
+  begun_past a n fits past = (
+    filter_map all (range_with_len a n),
+    ap (λ xs. xs ++ filter_map all (range_with_len a n)) (sym (none_up_to low bound a n fits (λ i high below. none i below (omega arith)))),
+  )
+
+  pub begun : (a n : ℕ) → a + n ≤ bound → IsBegun a n
+  begun a zero fits = ([], refl)
+  begun a (suc n) fits = by_case (cases_lt a limit) (begun (a + 1) n (omega arith))
+    where
+      by_case : (a < limit) ⊎ (limit ≤ a) → IsBegun (a + 1) n → IsBegun a (suc n)
+      by_case (inl below) later = begun_here a n (omega arith) below later
+      by_case (inr past) later = begun_past a (suc n) fits past

@@ -17,6 +17,7 @@ ghost use Rattle.chk_file.specs.Bound.{Bound};
 use crate::chosen::chosen;
 use crate::crypttext::crypttext;
 use crate::fault::ReadFault;
+use crate::laws::reached_rows;
 use crate::rows::Rows;
 use aes_ctr::laws::{keystream_by_place, parts_agree, twice_is_unchanged};
 use caps::{ReadFields, storage_index};
@@ -27,7 +28,8 @@ use share_store::Store;
 use std::alloc::Global;
 use std::rc::RcSlice;
 
-/// The k good shares of a file that are read of those that the stores have, and the crypttext that they are of.
+/// The k good shares of a file that are read of those that the stores have, and the crypttext that they are of. Where the
+/// shares of the k lowest numbers are good, no store is asked for the bytes of another.
 pub(crate) fn verify<S: Store>(
     alloc: Global,
     grid: &mut Grid<S>,
@@ -55,12 +57,71 @@ pub(crate) fn verify<S: Store>(
         OfReached grid.old grid.new (index_of fields.now.key) (λ row.
         fit row fields.now ≡ None) }
 {
-    share_codec::laws::good_shares_are_read();
-    share_codec::laws::segments_are_joined_again();
-    erasure::laws::decoded_blocks_are_the_given();
-    keystream_by_place();
-    twice_is_unchanged();
-    parts_agree();
+    reached_rows();
+    match verify_low(alloc, grid, fields) {
+        Ok(read) => Ok(read),
+        Err(ReadFault::NotEnoughShares) => verify_all(alloc, grid, fields),
+        Err(ReadFault::NoMemory) => Err(ReadFault::NoMemory),
+    }
+}
+
+/// The same where the shares of the k lowest numbers give them. Where they don't, nothing is said of all shares.
+fn verify_low<S: Store>(
+    alloc: Global,
+    grid: &mut Grid<S>,
+    fields: &ReadFields,
+) -> Result<(Vec<Share>, Vec<u8>), ReadFault>
+    ensures leaves { Leaves grid.old grid.new }
+    ensures stamps { grid.new.stamps ≡ grid.old.stamps }
+    ensures unchanged { IsHonest grid.old → IsUnchanged grid.old grid.new }
+    ensures taken { IfOk result (λ read.
+        AreTaken (params_of fields.now.k fields.now.n fields.now.size) read.0.items) }
+    ensures crypttext { IfOk result (λ read. read.1.items
+        ≡ crypttext_from (params_of fields.now.k fields.now.n fields.now.size) read.0.items) }
+    ensures bound { IfOk result (λ read.
+        Bound fields.now (crypt fields.now.key read.1.items)) }
+    ensures fit_reached { IsHonest grid.old → IfOk result (λ read.
+        OfReached grid.old grid.new (index_of fields.now.key) (λ row.
+        fit row fields.now ≡ Some (crypt fields.now.key read.1.items))) }
+{
+    found_laws();
+    // There are at most 256 servers: a row has no more.
+    let _ = grid.servers();
+    let found = grid.gather_below(storage_index(&fields.key), fields.k)?;
+    match verify_found(alloc, &found, fields) {
+        Ok(read) => Ok(read),
+        Err(fault) => Err(fault),
+    }
+}
+
+/// The same of all shares.
+fn verify_all<S: Store>(
+    alloc: Global,
+    grid: &mut Grid<S>,
+    fields: &ReadFields,
+) -> Result<(Vec<Share>, Vec<u8>), ReadFault>
+    ensures leaves { Leaves grid.old grid.new }
+    ensures stamps { grid.new.stamps ≡ grid.old.stamps }
+    ensures unchanged { IsHonest grid.old → IsUnchanged grid.old grid.new }
+    ensures taken { IfOk result (λ read.
+        AreTaken (params_of fields.now.k fields.now.n fields.now.size) read.0.items) }
+    ensures crypttext { IfOk result (λ read. read.1.items
+        ≡ crypttext_from (params_of fields.now.k fields.now.n fields.now.size) read.0.items) }
+    ensures bound { IfOk result (λ read.
+        Bound fields.now (crypt fields.now.key read.1.items)) }
+    ensures fit { IsHonest grid.old → NoneFailed grid.old grid.new → IfOk result (λ read.
+        fit (row_of (stood grid.old) (index_of fields.now.key)) fields.now
+        ≡ Some (crypt fields.now.key read.1.items)) }
+    ensures missing { IsHonest grid.old → NoneFailed grid.old grid.new →
+        IsErrOf result ReadFault.NotEnoughShares →
+        fit (row_of (stood grid.old) (index_of fields.now.key)) fields.now ≡ None }
+    ensures fit_reached { IsHonest grid.old → IfOk result (λ read.
+        OfReached grid.old grid.new (index_of fields.now.key) (λ row.
+        fit row fields.now ≡ Some (crypt fields.now.key read.1.items))) }
+    ensures missing_reached { IsHonest grid.old → IsErrOf result ReadFault.NotEnoughShares →
+        OfReached grid.old grid.new (index_of fields.now.key) (λ row.
+        fit row fields.now ≡ None) }
+{
     found_laws();
     // There are at most 256 servers: a row has no more.
     let _ = grid.servers();
@@ -81,12 +142,19 @@ fn verify_found(
         AreTaken (params_of fields.now.k fields.now.n fields.now.size) read.0.items) }
     ensures crypttext { IfOk result (λ read. read.1.items
         ≡ crypttext_from (params_of fields.now.k fields.now.n fields.now.size) read.0.items) }
+    ensures bound { IfOk result (λ read.
+        Bound fields.now (crypt fields.now.key read.1.items)) }
     ensures fit { IfOk result (λ read. fit_of (map (seen rc_slice_items) found.now) fields.now
         ≡ Some (crypt fields.now.key read.1.items)) }
     ensures missing { IsErrOf result ReadFault.NotEnoughShares →
         fit_of (map (seen rc_slice_items) found.now) fields.now ≡ None }
 {
     share_codec::laws::good_shares_are_read();
+    share_codec::laws::segments_are_joined_again();
+    erasure::laws::decoded_blocks_are_the_given();
+    keystream_by_place();
+    twice_is_unchanged();
+    parts_agree();
     let params = Params::new(fields.k, fields.n, fields.size);
     let rows = Rows::new(alloc, found, fields.n)?;
     let shares = chosen(alloc, &rows, &params, &fields.ueb)?;

@@ -1,106 +1,77 @@
-use Rattle.std.proofs.Common.{◌≡◌, ◌<◌, ◌≤◌, ℕ, List, [], length, map, get_or, Option, Some, None, sym, ap, subst, ◌∙◌, arith}
-use Rattle.std.specs.Rc.{rc_slice_items}
-use Rattle.std.proofs.lemmas.List.{length-map}
+use Rattle.std.proofs.Common.{◌≡◌, ℕ, List, None, Some, Result, Ok, Err, IfOk, ap, subst, arith}
 use Rattle.aes_ctr.specs.Crypt.{crypt}
-use Rattle.grid.specs.GridState.{GridState, StoreState, maps_of, stood, failures_at}
-use Rattle.grid.specs.Found.{seen, found_below, AllBut}
-use Rattle.grid.specs.FoundLaws.{FoundLaws}
-use Rattle.caps.specs.Fields.{ReadValue}
+use Rattle.share_store.specs.Shares.{Shares}
+use Rattle.grid.specs.GridState.{GridState, stood}
+use Rattle.grid.specs.Leaves.{Leaves, IsUnchanged}
+use Rattle.grid.specs.Standing.{standing}
+use Rattle.grid.proofs.Turns.{leaves_both, unchanged_both, calm_second}
 use Rattle.caps.specs.StorageIndex.{index_of}
-use Rattle.share_codec.specs.Params.{ParamsValue}
-use Rattle.share_codec.specs.GoodShare.{GoodShare}
-use Rattle.chk_file.specs.Numbers.{params_of}
-use Rattle.chk_file.specs.Gathered.{Found, of_number, by_number, good_below}
-use Rattle.chk_file.specs.Row.{Row, row_of, places, first_good, good_shares}
-use Rattle.chk_file.specs.Fit.{fit_in}
-use Rattle.chk_file.proofs.Gathered.{of_standing, rows_are_good}
-use Rattle.chk_file.proofs.Reached.{IsGathered, gathered_is_reached}
-use Rattle.chk_file.proofs.Goods.{of_first}
-use Rattle.chk_file.proofs.Lengths.{Sized, length-crypttext}
-use Rattle.chk_file.proofs.Sound.{fit_is_bound}
+use Rattle.chk_file.specs.Row.{Row, row_of}
+use Rattle.chk_file.specs.Reached.{IsReached, OfReached, ReachedLaws}
+use Rattle.chk_file.specs.Fit.{fit}
 use Rattle.chk_file.proofs.verify.verify.Goals as goal
 
--- what was gathered gives what the row gives of which it is
-in_row : (p : ParamsValue) (key ueb : List ℕ) (row : Row) (found : List Found) (o : Option (List ℕ)) → ((number : ℕ) → of_number number found ≡ places row number)
-    → fit_in p key (good_below p ueb (by_number p.n found) p.n) ≡ o → fit_in p key (good_shares p ueb row) ≡ o
-in_row p key ueb row found o same e = ap (fit_in p key) (sym (rows_are_good found row same p.n p ueb)) ∙ e
+-- what was reached in the second of two calls was reached in both together
+reached_in_both : ReachedLaws → (old mid new : GridState) (index : List ℕ) → Leaves old mid → IsUnchanged old mid → (row : Row) → IsReached mid new index row → IsReached old new index row
+reached_in_both laws old mid new index left same row reached =
+    laws.together old mid new new index row (ap (λ (maps : List Shares). row_of (standing maps) index) same.maps) left.rises (λ s. omega arith) reached
 
--- what was gathered where no store failed
-all_there : FoundLaws → (index other : List ℕ) (grid : GridState) (found : List Found) → length grid.stores ≤ 256 → other ≡ index
-    → found ≡ found_below (maps_of grid) other (length grid.stores) → (number : ℕ) → of_number number found ≡ places (row_of (stood grid) index) number
-all_there laws index other grid found few same is number =
-    let long : length (maps_of grid) ≡ length grid.stores = length-map grid.stores (λ (t : StoreState). t.shares) in
-    let within : length (maps_of grid) ≤ 256 = omega arith in
-    ap (of_number number) (is ∙ (λ i. found_below (maps_of grid) (same i) (sym long i)))
-    ∙ of_standing laws number (maps_of grid) index within
+both_reached : ReachedLaws → (old mid new : GridState) (index : List ℕ) → Leaves old mid → IsUnchanged old mid → (Says : Row → Type 0) → OfReached mid new index Says → OfReached old new index Says
+both_reached laws old mid new index left same Says second =
+    record { row = second.row; reached = reached_in_both laws old mid new index left same second.row second.reached; says = second.says }
 
--- and where some may have failed
-some_there : FoundLaws → (index other : List ℕ) (old new : GridState) (found lent : List Found) → length old.stores ≤ 256 → other ≡ index → found ≡ lent
-    → AllBut (λ (f : Found). failures_at old f.0 < failures_at new f.0) (found_below (maps_of old) other (length old.stores)) lent → IsGathered old new index found
-some_there laws index other old new found lent few same is all =
-    gathered_is_reached laws old new index found few (length-map old.stores (λ (t : StoreState). t.shares))
-    (subst (λ (fs : List Found). AllBut (λ (f : Found). failures_at old f.0 < failures_at new f.0) (found_below (maps_of old) index (length old.stores)) fs) (sym is)
-    (subst (λ (si : List ℕ). AllBut (λ (f : Found). failures_at old f.0 < failures_at new f.0) (found_below (maps_of old) si (length old.stores)) lent) same all))
+found_in_both : {T E : Type 0} → ReachedLaws → (old mid new : GridState) (index : List ℕ) → Leaves old mid → IsUnchanged old mid → (Says : T → Row → Type 0) (answer : Result T E)
+    → IfOk answer (λ x. OfReached mid new index (Says x)) → IfOk answer (λ x. OfReached old new index (Says x))
+found_in_both laws old mid new index left same Says (Ok x) second = both_reached laws old mid new index left same (Says x) second
+found_in_both laws old mid new index left same Says (Err e) second = second
 
-pub returns-in-Ok-clause-bound : goal.returns-in-Ok-clause-bound
-returns-in-Ok-clause-bound g c =
-    let f = c.args.fields.now in
-    let p : ParamsValue = params_of f.k f.n f.size in
-    let found : List Found = map (seen rc_slice_items) c.deref.result.now in
-    let read = c.good_shares_are_read.ensures.found in
-    let cut = c.good_shares_are_read.ensures.cut in
-    let code = c.decoded_blocks_are_the_given.ensures in
-    let sized : Sized = λ q shares taken. length-crypttext code.count code.primary q shares taken c.segments_are_joined_again.ensures.cut in
-    let first : ℕ → Option GoodShare = λ number. first_good p f.ueb number (get_or (by_number p.n found) number []) in
-    ∣ fit_is_bound read cut p f.ueb c.twice_is_unchanged.ensures c.parts_agree.ensures.whole c.keystream_by_place.ensures.length f.key sized
-    first (λ number. of_first read cut p f.ueb number (get_or (by_number p.n found) number [])) p.n (crypt f.key c.in-Ok.read.1.items) c.in-Ok.ensures.fit ∣₁
+-- the first call found it
 
 pub returns-in-Ok-clause-fit : goal.returns-in-Ok-clause-fit
 returns-in-Ok-clause-fit g c all calm =
     let f = c.args.fields.now in
-    let same : c.storage_index.result ≡ index_of f.key = c.storage_index.ensures ∙ ap (λ (v : ReadValue). index_of v.key) c.fields.view_is in
-    let found : List Found = map (seen rc_slice_items) c.deref.result.now in
-    let none_missed : found ≡ found_below (maps_of c.args.grid.now) c.storage_index.result (length c.args.grid.now.stores) =
-    ap (map (seen rc_slice_items)) c.deref.ensures.value ∙ c.in_ok-found.ensures.all all calm in
-    in_row (params_of f.k f.n f.size) f.key f.ueb (row_of (stood c.args.grid.now) (index_of f.key)) found (Some (crypt f.key c.in-Ok.read.1.items))
-    (all_there c.found_laws.ensures (index_of f.key) c.storage_index.result c.args.grid.now found c.servers.ensures.few same none_missed)
-    c.in-Ok.ensures.fit
+    let low = c.in-Ok.ensures.fit_reached all in
+    let is : low.row ≡ row_of (stood c.args.grid.now) (index_of f.key) =
+    c.reached_rows.ensures.all c.args.grid.now c.verify_low.new.grid (index_of f.key) low.row calm low.reached in
+    subst (λ (row : Row). fit row f ≡ Some (crypt f.key c.in-Ok.read.1.items)) is low.says
 
-pub returns-clause-missing : goal.returns-clause-missing
-returns-clause-missing g c all calm is =
-    let f = c.args.fields.now in
-    let same : c.storage_index.result ≡ index_of f.key = c.storage_index.ensures ∙ ap (λ (v : ReadValue). index_of v.key) c.fields.view_is in
-    let found : List Found = map (seen rc_slice_items) c.deref.result.now in
-    let none_missed : found ≡ found_below (maps_of c.args.grid.now) c.storage_index.result (length c.args.grid.now.stores) =
-    ap (map (seen rc_slice_items)) c.deref.ensures.value ∙ c.in_ok-found.ensures.all all calm in
-    in_row (params_of f.k f.n f.size) f.key f.ueb (row_of (stood c.args.grid.now) (index_of f.key)) found None
-    (all_there c.found_laws.ensures (index_of f.key) c.storage_index.result c.args.grid.now found c.servers.ensures.few same none_missed)
-    (c.in-Err.ensures.missing is)
+-- the second was made
 
-pub returns-in-Ok-clause-fit_reached : goal.returns-in-Ok-clause-fit_reached
-returns-in-Ok-clause-fit_reached g c all =
-    let f = c.args.fields.now in
-    let same : c.storage_index.result ≡ index_of f.key = c.storage_index.ensures ∙ ap (λ (v : ReadValue). index_of v.key) c.fields.view_is in
-    let found : List Found = map (seen rc_slice_items) c.deref.result.now in
-    let there : IsGathered c.args.grid.now c.gather.new.self (index_of f.key) found =
-    some_there c.found_laws.ensures (index_of f.key) c.storage_index.result c.args.grid.now c.gather.new.self found _ c.servers.ensures.few same
-    (ap (map (seen rc_slice_items)) c.deref.ensures.value) (c.in_ok-found.ensures.found all) in
-    record {
-      row = there.row;
-      reached = there.reached;
-      says = in_row (params_of f.k f.n f.size) f.key f.ueb there.row found (Some (crypt f.key c.in-Ok.read.1.items)) there.is c.in-Ok.ensures.fit;
-    }
+pub returns-in-Err-NotEnoughShares-clause-leaves : goal.returns-in-Err-NotEnoughShares-clause-leaves
+returns-in-Err-NotEnoughShares-clause-leaves g c = leaves_both c.args.grid.now c.verify_low.new.grid c.verify_all.new.grid c.verify_low.ensures.leaves c.verify_all.ensures.leaves
 
-pub returns-clause-missing_reached : goal.returns-clause-missing_reached
-returns-clause-missing_reached g c all is =
+pub returns-in-Err-NotEnoughShares-clause-unchanged : goal.returns-in-Err-NotEnoughShares-clause-unchanged
+returns-in-Err-NotEnoughShares-clause-unchanged g c all =
+    let low = c.verify_low.ensures in
+    unchanged_both c.args.grid.now c.verify_low.new.grid c.verify_all.new.grid (low.unchanged all) (c.verify_all.ensures.unchanged (low.leaves.honest all))
+
+pub returns-in-Err-NotEnoughShares-clause-fit : goal.returns-in-Err-NotEnoughShares-clause-fit
+returns-in-Err-NotEnoughShares-clause-fit g c all calm =
     let f = c.args.fields.now in
-    let same : c.storage_index.result ≡ index_of f.key = c.storage_index.ensures ∙ ap (λ (v : ReadValue). index_of v.key) c.fields.view_is in
-    let found : List Found = map (seen rc_slice_items) c.deref.result.now in
-    let there : IsGathered c.args.grid.now c.gather.new.self (index_of f.key) found =
-    some_there c.found_laws.ensures (index_of f.key) c.storage_index.result c.args.grid.now c.gather.new.self found _ c.servers.ensures.few same
-    (ap (map (seen rc_slice_items)) c.deref.ensures.value) (c.in_ok-found.ensures.found all) in
-    record {
-      row = there.row;
-      reached = there.reached;
-      says = in_row (params_of f.k f.n f.size) f.key f.ueb there.row found None there.is (c.in-Err.ensures.missing is);
-    }
+    let low = c.verify_low.ensures in
+    let second = c.verify_all.ensures in
+    let still = calm_second c.args.grid.now c.verify_low.new.grid c.verify_all.new.grid low.leaves second.leaves calm in
+    subst (λ (maps : List Shares). IfOk c.verify_all.result (λ read. fit (row_of (standing maps) (index_of f.key)) f ≡ Some (crypt f.key read.1.items)))
+    (low.unchanged all).maps (second.fit (low.leaves.honest all) still)
+
+pub returns-in-Err-NotEnoughShares-clause-missing : goal.returns-in-Err-NotEnoughShares-clause-missing
+returns-in-Err-NotEnoughShares-clause-missing g c all calm none =
+    let f = c.args.fields.now in
+    let low = c.verify_low.ensures in
+    let second = c.verify_all.ensures in
+    let still = calm_second c.args.grid.now c.verify_low.new.grid c.verify_all.new.grid low.leaves second.leaves calm in
+    subst (λ (maps : List Shares). fit (row_of (standing maps) (index_of f.key)) f ≡ None) (low.unchanged all).maps (second.missing (low.leaves.honest all) still none)
+
+pub returns-in-Err-NotEnoughShares-clause-fit_reached : goal.returns-in-Err-NotEnoughShares-clause-fit_reached
+returns-in-Err-NotEnoughShares-clause-fit_reached g c all =
+    let f = c.args.fields.now in
+    let low = c.verify_low.ensures in
+    found_in_both c.reached_rows.ensures c.args.grid.now c.verify_low.new.grid c.verify_all.new.grid (index_of f.key) low.leaves (low.unchanged all)
+    (λ read row. fit row f ≡ Some (crypt f.key read.1.items)) c.verify_all.result (c.verify_all.ensures.fit_reached (low.leaves.honest all))
+
+pub returns-in-Err-NotEnoughShares-clause-missing_reached : goal.returns-in-Err-NotEnoughShares-clause-missing_reached
+returns-in-Err-NotEnoughShares-clause-missing_reached g c all none =
+    let f = c.args.fields.now in
+    let low = c.verify_low.ensures in
+    both_reached c.reached_rows.ensures c.args.grid.now c.verify_low.new.grid c.verify_all.new.grid (index_of f.key) low.leaves (low.unchanged all)
+    (λ row. fit row f ≡ None) (c.verify_all.ensures.missing_reached (low.leaves.honest all) none)

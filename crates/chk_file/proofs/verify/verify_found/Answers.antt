@@ -16,6 +16,8 @@ use Rattle.chk_file.specs.Fit.{fit_in}
 use Rattle.chk_file.proofs.Gathered.{length-rows}
 use Rattle.chk_file.proofs.Goods.{of_first, all_taken}
 use Rattle.chk_file.proofs.Fitting.{too_few, not_of, of_bytes}
+use Rattle.chk_file.proofs.Lengths.{Sized, length-crypttext}
+use Rattle.chk_file.proofs.Sound.{fit_is_bound}
 use Rattle.chk_file.proofs.verify.verify_found.Goals as goal
 
 -- what is said of the numbers and fields as the code has them is said of the cap's
@@ -97,3 +99,16 @@ returns-clause-taken c =
     let f : ℕ → Option GoodShare = λ number. first_good p v.ueb number (slice_index_or rows number []) in
     subst (λ (q : ParamsValue). AreTaken q shares) (c.new-params.ensures ∙ ap (λ (g : ReadValue). params_of g.k g.n g.size) c.fields.view_is)
     (all_taken read cut p v.ueb f (λ number. of_first read cut p v.ueb number (slice_index_or rows number [])) sharing p.n shares c.in_ok-shares.ensures many)
+
+pub returns-clause-bound : goal.returns-clause-bound
+returns-clause-bound c =
+    let f = c.args.fields.now in
+    let p : ParamsValue = params_of f.k f.n f.size in
+    let found : List Found = map (seen rc_slice_items) c.args.found.now in
+    let read = c.good_shares_are_read.ensures.found in
+    let cut = c.good_shares_are_read.ensures.cut in
+    let code = c.decoded_blocks_are_the_given.ensures in
+    let sized : Sized = λ q shares taken. length-crypttext code.count code.primary q shares taken c.segments_are_joined_again.ensures.cut in
+    let first : ℕ → Option GoodShare = λ number. first_good p f.ueb number (slice_index_or (by_number p.n found) number []) in
+    ∣ fit_is_bound read cut p f.ueb c.twice_is_unchanged.ensures c.parts_agree.ensures.whole c.keystream_by_place.ensures.length f.key sized
+    first (λ number. of_first read cut p f.ueb number (slice_index_or (by_number p.n found) number [])) p.n (crypt f.key c.in-Some.bytes.items) (returns-clause-fit c) ∣₁
