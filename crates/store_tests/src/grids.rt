@@ -92,6 +92,10 @@ fn asked(alloc: Global, grid: &mut Grid<FailAt>, case: &Case<'_>) -> Result<Stri
             done(alloc, grid.put_all(index_at(case, 2)?, &shares))
         }
         "gather" => gathered(alloc, grid, index_at(case, 2)?),
+        "gather-below" => {
+            let index = index_at(case, 2)?;
+            listed(alloc, grid.gather_below(index, number_at(case, 3)?)?)
+        }
         "lose" => {
             let (server, number) = (case.number(2)? as usize, number_at(case, 4)?);
             told(alloc, grid.lose(server, index_at(case, 3)?, number))
@@ -126,8 +130,13 @@ pub fn gathered<S: Store>(
     grid: &mut Grid<S>,
     index: [u8; 16],
 ) -> Result<String, NoAnswer> {
+    listed(alloc, grid.gather(index)?)
+}
+
+/// The server, the number and the last byte of each of these shares.
+fn listed(alloc: Global, shares: Vec<(usize, u16, RcSlice<u8>)>) -> Result<String, NoAnswer> {
     let mut found = Vec::new(alloc);
-    for (server, number, bytes) in grid.gather(index)? {
+    for (server, number, bytes) in shares {
         found.push((
             server,
             number,
