@@ -13,9 +13,16 @@ pub(crate) fn auth(alloc: Global, password: &[u8]) -> Result<Vec<u8>, AllocError
     command(alloc, &[b"AUTH", password])
 }
 
+/// Puts bytes under a name, in the place of others.
+pub(crate) fn set(alloc: Global, name: &[u8], content: &[u8]) -> Result<Vec<u8>, AllocError>
+    ensures { IfOk result (λ bytes. bytes.items ≡ set_command name.now content.now) }
+{
+    command(alloc, &[b"SET", name, content])
+}
+
 /// Puts so many bytes under a name, in the place of others: the command as far as those bytes, behind which CR and LF
 /// have to come.
-pub(crate) fn set(alloc: Global, name: &[u8], len: usize) -> Result<Vec<u8>, AllocError>
+pub(crate) fn set_head(alloc: Global, name: &[u8], len: usize) -> Result<Vec<u8>, AllocError>
     ensures { IfOk result (λ bytes. (content : List ℕ) → length content ≡ len
         → bytes.items ++ content ++ line_end ≡ set_command name.now content) }
 {
