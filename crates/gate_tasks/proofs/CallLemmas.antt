@@ -1,4 +1,4 @@
--- Calls that commands ask for.
+-- Calls that lines ask for.
 use Rattle.std.proofs.Common.{inl, inr, ◌≡◌, ◌≢◌, ℕ, ◌≤◌, ◌<◌, List, [], ◌∷◌, ◌++◌, length, take, drop, Bool, true, false, cond, Option, Some, None, Err, refl, sym, ap, subst, ◌∙◌, arith, nat_lt, eq-eqb}
 use Rattle.std.specs.Prelude.{MatchOption, is_some, IsErrOf, ◌↔◌, ◌&&◌, not, unwrap_or}
 use Rattle.std.proofs.Math.Seq.{drop-append_seam}
@@ -35,7 +35,7 @@ use Rattle.gate_core.specs.Came.{Opening, Came, CameAt, IsRoomy, GoesOn, stage_o
 use Rattle.gate_core.specs.Served.{IsReceived}
 use Rattle.gate_tasks.specs.Replies.{settings_by, is_going, unsaid, unsaid_of_kept, IsApart, first_of, opened_reply, IsTaken, world_by, at_server, IsImageAfter, IsNoImageAfter}
 use Rattle.gate_tasks.specs.Running.{IsCalled}
-use Rattle.gate_tasks.specs.declared.command.Command.TheVariants as command
+use Rattle.gate_tasks.specs.declared.command.Call.TheVariants as call
 use Rattle.gate_tasks.specs.declared.command.Grid.{Grid}
 use Rattle.gate_tasks.specs.declared.command.Share.{Share}
 use Rattle.gate_tasks.specs.declared.reply.Reply.{Reply}
@@ -57,7 +57,7 @@ short n None P Q never answer =
 short n (Some held) P Q never answer = absurd (never Known answer)
 
 pub open_called : (old new : State) (id : ℕ) (secret : Option (List ℕ)) (P : Type 0) (Q : GatewayFault → Type 0) → ((e : GatewayFault) → Q e → ⊥) → MatchOption (open_refusal (held_at old id) (length (unwrap_or secret []))) P Q → new ≡ with_held old id (opened secret)
-    → GoesOn old new (Open id (unwrap_or secret old.settings.secret)) → IsCalled old new (command.Open id secret) Done
+    → GoesOn old new (Open id (unwrap_or secret old.settings.secret)) → IsCalled old new (call.Open id secret) Done
 open_called old new id secret P Q never answer left on = record {
   settings = ap (λ (s : State). s.settings) left;
   told = λ grid opening events set sharing came.
@@ -86,7 +86,7 @@ open_held None P Q never answer = absurd (never NotOpen answer)
 open_held (Some h) P Q never answer = (h, refl)
 
 pub end_called : (old new : State) (id : ℕ) (P : Type 0) (Q : GatewayFault → Type 0) → ((e : GatewayFault) → Q e → ⊥) → MatchOption (bytes_refusal (held_at old id)) P Q
-    → ((h : Held) → held_at old id ≡ Some h → new ≡ with_held old id (ended h)) → GoesOn old new (End id) → IsCalled old new (command.End id) Done
+    → ((h : Held) → held_at old id ≡ Some h → new ≡ with_held old id (ended h)) → GoesOn old new (End id) → IsCalled old new (call.End id) Done
 end_called old new id P Q never answer left on =
     let h = open_held (held_at old id) P Q never answer in
     record {
@@ -98,7 +98,7 @@ end_called old new id P Q never answer left on =
 pub bytes_called : (old new : State) (id : ℕ) (piece : List ℕ) (P : Type 0) (Q : GatewayFault → Type 0) → ((e : GatewayFault) → Q e → ⊥) → MatchOption (bytes_refusal (held_at old id)) P Q
     → ((h : Held) → held_at old id ≡ Some h → IsReceived old new id h piece) → ((s : ℕ) → failures_at old.grid s ≡ 0) → ((s : ℕ) → failures_at new.grid s ≡ 0)
     → ((opening : Opening) (events : List Event) → Came opening old events → IsRoomy old.settings opening (events ++ Bytes id piece ∷ []) → NoneFailed old.grid new.grid → Came opening new (events ++ Bytes id piece ∷ []))
-    → IsCalled old new (command.Bytes id piece) Done
+    → IsCalled old new (call.Bytes id piece) Done
 bytes_called old new id piece P Q never answer received before after on =
     let h = open_held (held_at old id) P Q never answer in
     record {
@@ -152,7 +152,7 @@ taken_reply g grid opening events id most reply law set sharing came is = record
 }
 
 pub take_called : KeptIsVerified → (old new : State) (id most : ℕ) (given : List ℕ) (P : Type 0) (Q : GatewayFault → Type 0) → ((e : GatewayFault) → Q e → ⊥) → MatchOption (take_refusal (held_at old id)) P Q → given ≡ take most (waiting old id)
-    → ((h : Held) → held_at old id ≡ Some h → new ≡ with_held old id (taken most h)) → GoesOn old new (Take id given) → IsCalled old new (command.Take id most) (Given given)
+    → ((h : Held) → held_at old id ≡ Some h → new ≡ with_held old id (taken most h)) → GoesOn old new (Take id given) → IsCalled old new (call.Take id most) (Given given)
 take_called law old new id most given P Q never answer is left on =
     let h = taken_held (held_at old id) P Q never answer in
     record {
@@ -186,7 +186,7 @@ no_down : (old new : GridState) (s : ℕ) → ((s : ℕ) → failures_at old s �
 no_down old new s before after less = omega (arith, before s, after s, less)
 
 pub lost_called : (old new : State) (share : Share) (lost : Bool) (P : Type 0) → new ≡ with_grid old new.grid → (P ↔ (length old.grid.stores ≤ share.server)) → (P → ⊥)
-    → (IsHonest old.grid → lost ≡ is_some (stood old.grid share.server (share.index, share.number))) → GoesOn old new (Lose share.server (share.index, share.number)) → IsCalled old new (command.Lose share) (Answered lost)
+    → (IsHonest old.grid → lost ≡ is_some (stood old.grid share.server (share.index, share.number))) → GoesOn old new (Lose share.server (share.index, share.number)) → IsCalled old new (call.Lose share) (Answered lost)
 lost_called old new share lost P left no_server never is on = record {
   settings = ap (λ (s : State). s.settings) left;
   told = λ grid opening events set sharing came.
@@ -199,7 +199,7 @@ lost_called old new share lost P left no_server never is on = record {
 
 pub spoiled_called : (old new : State) (share : Share) (place : ℕ) (spoiled : Bool) (P : Type 0) → new ≡ with_grid old new.grid → (P ↔ (length old.grid.stores ≤ share.server)) → (P → ⊥)
     → (IsHonest old.grid → spoiled ≡ nat_lt place (length (unwrap_or (stood old.grid share.server (share.index, share.number)) []))) → GoesOn old new (Spoil share.server (share.index, share.number) place)
-    → IsCalled old new (command.Spoil share place) (Answered spoiled)
+    → IsCalled old new (call.Spoil share place) (Answered spoiled)
 spoiled_called old new share place spoiled P left no_server never is on = record {
   settings = ap (λ (s : State). s.settings) left;
   told = λ grid opening events set sharing came.
@@ -235,15 +235,15 @@ module _ (old new : State) (share : Share) (fault : GridFault) (reply : Reply) (
   refused_came : (opening : Opening) (events : List Event) → Came opening old events → Came opening new (events ++ [])
   refused_came opening events came = subst (Came opening new) (sym (append-nil events)) (on opening events came)
 
-  pub lose_refused : IsCalled old new (command.Lose share) reply
-  lose_refused = subst (IsCalled old new (command.Lose share)) (sym is) record {
+  pub lose_refused : IsCalled old new (call.Lose share) reply
+  lose_refused = subst (IsCalled old new (call.Lose share)) (sym is) record {
     settings = ap (λ (s : State). s.settings) left;
     told = λ grid opening events set sharing came. sym is ∙ refused_reply grid opening events _ set came;
     came = λ grid opening events set came calm. refused_came opening events came;
   }
 
-  pub spoil_refused : (place : ℕ) → IsCalled old new (command.Spoil share place) reply
-  spoil_refused place = subst (IsCalled old new (command.Spoil share place)) (sym is) record {
+  pub spoil_refused : (place : ℕ) → IsCalled old new (call.Spoil share place) reply
+  spoil_refused place = subst (IsCalled old new (call.Spoil share place)) (sym is) record {
     settings = ap (λ (s : State). s.settings) left;
     told = λ grid opening events set sharing came. sym is ∙ refused_reply grid opening events _ set came;
     came = λ grid opening events set came calm. refused_came opening events came;
@@ -278,7 +278,7 @@ module _ (old new : State) (left : new ≡ with_grid old new.grid) (on : (openin
   stays opening events came = subst (Came opening new) (sym (append-nil events)) (on opening events came)
 
   pub imaged : (bytes : List ℕ) → (IsHonest old.grid → bytes ≡ image (length old.grid.stores) (rows_of (maps_of old.grid)))
-      → (IsHonest old.grid → CanBeWritten VersionTwo (length old.grid.stores) (rows_of (maps_of old.grid))) → IsCalled old new command.Image (Imaged bytes)
+      → (IsHonest old.grid → CanBeWritten VersionTwo (length old.grid.stores) (rows_of (maps_of old.grid))) → IsCalled old new call.Image (Imaged bytes)
   imaged bytes is can = record {
     settings = ap (λ (s : State). s.settings) left;
     told = λ grid opening events set sharing came. inl (bytes, refl, image_of_what_stands old bytes is can grid opening events set came);
@@ -286,7 +286,7 @@ module _ (old new : State) (left : new ≡ with_grid old new.grid) (on : (openin
   }
 
   pub image_refused : (place : ℕ) → (IsHonest old.grid → refused_place (rows_of (maps_of old.grid)) ≡ Some place)
-      → IsCalled old new command.Image (GridRefused (grid_fault.BadImage place))
+      → IsCalled old new call.Image (GridRefused (grid_fault.BadImage place))
   image_refused place refused = record {
     settings = ap (λ (s : State). s.settings) left;
     told = λ grid opening events set sharing came. inr (place, refl, no_image_of_what_stands old place refused grid opening events set came);

@@ -1,7 +1,6 @@
 -- Lines that are cut at their spaces.
 use Rattle.std.proofs.Common.{◌≡◌, ◌≢◌, ℕ, ◌-◌, ◌^◌, ◌<◌, List, [], ◌∷◌, ◌++◌, length, Bool, true, false, All, Option, Some, None, refl, sym, ap, ◌∙◌, arith, ne_eqb}
-use Rattle.std.specs.Str.{bytes_eq}
-use Rattle.std.specs.Prelude.{codes, ◌&&◌, ◌==◌, option_and_then, cond, nat_le, not, ◌||◌, slice_index}
+use Rattle.std.specs.Prelude.{◌&&◌, ◌==◌, option_and_then, cond, nat_le, not, ◌||◌, slice_index}
 use Rattle.std.specs.Char.{is_ascii_digit}
 use Rattle.std.specs.Str.Parse.{digits_value}
 use Rattle.std.specs.List.{join_with_byte, list_all}
@@ -11,9 +10,11 @@ use Rattle.std.proofs.lemmas.List.Splits.{slice_split_at, slice_split_none, join
 use Rattle.octets.specs.Cut.{IsCutAt}
 use Rattle.octets.specs.Decimal.{number_to}
 use Rattle.gate_tasks.specs.Text.{unescaped}
-use Rattle.gate_tasks.specs.Command.{words, asked_by, grid_of, restore_of, open_of, secret_of, bytes_of, text_of, end_of, take_of, lose_of, spoil_of, image_of, share_of, index_of, middle_number, long_number}
+use Rattle.gate_tasks.specs.Command.{words, verb_of, asked_with, asked_by, command_of, grid_of, restore_of, open_of, secret_of, bytes_of, text_of, end_of, take_of, lose_of, spoil_of, image_of, share_of, index_of, middle_number, long_number}
 use Rattle.gate_tasks.specs.declared.command.Command.{Command}
-use Rattle.gate_tasks.specs.declared.command.Command.TheVariants.{Restore, Open, Bytes, End, Take, Lose, Spoil, Image}
+use Rattle.gate_tasks.specs.declared.command.Command.TheVariants as command
+use Rattle.gate_tasks.specs.declared.command.Call.TheVariants.{Open, Bytes, End, Take, Lose, Spoil}
+use Rattle.gate_tasks.specs.declared.verb.Verb.{Verb}
 use Rattle.gate_tasks.specs.declared.command.Share.{Share}
 
 is_other : (b : ℕ) → b ≢ 32 → (b == 32) ≡ false
@@ -54,8 +55,8 @@ number_spaced most word rest =
 
 -- ---- the arguments of `open`, and the one of `end`
 
-pub open_one : (line : List ℕ) (command : Option Command) → All (λ b. b ≢ 32) line → command ≡ option_map (λ id. Open id None) (long_number line) → command ≡ open_of (words line)
-open_one line command none is = is ∙ ap open_of (sym (words_one line none))
+pub open_one : (line : List ℕ) (asked : Option Command) → All (λ b. b ≢ 32) line → asked ≡ option_map (λ id. command.Call (Open id None)) (long_number line) → asked ≡ open_of (words line)
+open_one line asked none is = is ∙ ap open_of (sym (words_one line none))
 
 open_more : (id secret : List ℕ) (ws : List (List ℕ)) → 0 < length ws → None ≡ open_of (id ∷ secret ∷ ws)
 open_more id secret [] some = absurd (omega arith)
@@ -66,45 +67,45 @@ open_three line id rest secret more cut1 cut2 =
     open_more id secret (words more) (some_word more) ∙ ap open_of (sym (words_cut line id rest cut1 ∙ ap (λ ws. id ∷ ws) (words_cut rest secret more cut2)))
 
 open_by : Option ℕ → Option (List ℕ) → Option Command
-open_by id secret = option_and_then (λ id. option_map (λ secret. Open id (Some secret)) secret) id
+open_by id secret = option_and_then (λ id. option_map (λ secret. command.Call (Open id (Some secret))) secret) id
 
 pub open_line : (line word rest : List ℕ) (id : Option ℕ) (secret : Option (List ℕ)) → IsCutAt 32 line word rest → All (λ b. b ≢ 32) rest → id ≡ long_number word → secret ≡ secret_of rest
-    → option_and_then (λ id. option_map (λ secret. Open id (Some secret)) secret) id ≡ open_of (words line)
+    → option_and_then (λ id. option_map (λ secret. command.Call (Open id (Some secret))) secret) id ≡ open_of (words line)
 unfolding open_by
 open_line line word rest id secret cut none first second =
     ap (λ i. open_by i secret) first ∙ ap (open_by (long_number word)) second
     ∙ ap open_of (sym (words_cut line word rest cut ∙ ap (λ ws. word ∷ ws) (words_one rest none)))
 
-end_is : (line : List ℕ) (ws : List (List ℕ)) → join_with_byte 32 ws ≡ line → option_map (λ id. End id) (long_number line) ≡ end_of ws
-end_is line [] is = ap (λ l. option_map (λ id. End id) (long_number l)) (sym is)
-end_is line (w ∷ []) is = ap (λ l. option_map (λ id. End id) (long_number l)) (sym is)
-end_is line (w ∷ v ∷ more) is = ap (option_map (λ id. End id)) (ap long_number (sym is) ∙ sym (number_spaced (2 ^ 64 - 1) w (join_with_byte 32 (v ∷ more))))
+end_is : (line : List ℕ) (ws : List (List ℕ)) → join_with_byte 32 ws ≡ line → option_map (λ id. command.Call (End id)) (long_number line) ≡ end_of ws
+end_is line [] is = ap (λ l. option_map (λ id. command.Call (End id)) (long_number l)) (sym is)
+end_is line (w ∷ []) is = ap (λ l. option_map (λ id. command.Call (End id)) (long_number l)) (sym is)
+end_is line (w ∷ v ∷ more) is = ap (option_map (λ id. command.Call (End id))) (ap long_number (sym is) ∙ sym (number_spaced (2 ^ 64 - 1) w (join_with_byte 32 (v ∷ more))))
 
-pub end_line : (line : List ℕ) (id : Option ℕ) → id ≡ long_number line → option_map (λ id. End id) id ≡ end_of (words line)
-end_line line id is = ap (option_map (λ id. End id)) is ∙ end_is line (words line) (joined_words line)
+pub end_line : (line : List ℕ) (id : Option ℕ) → id ≡ long_number line → option_map (λ id. command.Call (End id)) id ≡ end_of (words line)
+end_line line id is = ap (option_map (λ id. command.Call (End id))) is ∙ end_is line (words line) (joined_words line)
 
 -- ---- the arguments of `take`
 
 take_by : Option ℕ → Option ℕ → Option Command
-take_by id most = option_and_then (λ id. option_map (λ most. Take id most) most) id
+take_by id most = option_and_then (λ id. option_map (λ most. command.Call (Take id most)) most) id
 
 take_is : (word line : List ℕ) (ws : List (List ℕ)) → join_with_byte 32 ws ≡ line → take_by (long_number word) (number_to (2 ^ 32 - 1) line) ≡ take_of (word ∷ ws)
 unfolding take_by
 take_is word line [] is = ap (λ l. take_by (long_number word) (number_to (2 ^ 32 - 1) l)) (sym is) ∙ never (long_number word)
   where
-    never : (id : Option ℕ) → option_and_then (λ id. option_map (λ most. Take id most) None) id ≡ None
+    never : (id : Option ℕ) → option_and_then (λ id. option_map (λ most. command.Call (Take id most)) None) id ≡ None
     never None = refl
     never (Some id) = refl
 take_is word line (w ∷ []) is = ap (λ l. take_by (long_number word) (number_to (2 ^ 32 - 1) l)) (sym is)
 take_is word line (w ∷ v ∷ more) is =
     ap (take_by (long_number word)) (ap (number_to (2 ^ 32 - 1)) (sym is) ∙ sym (number_spaced (2 ^ 32 - 1) w (join_with_byte 32 (v ∷ more)))) ∙ never (long_number word)
   where
-    never : (id : Option ℕ) → option_and_then (λ id. option_map (λ most. Take id most) None) id ≡ None
+    never : (id : Option ℕ) → option_and_then (λ id. option_map (λ most. command.Call (Take id most)) None) id ≡ None
     never None = refl
     never (Some id) = refl
 
 pub take_line : (line word rest : List ℕ) (id most : Option ℕ) → IsCutAt 32 line word rest → id ≡ long_number word → most ≡ number_to (2 ^ 32 - 1) rest
-    → option_and_then (λ id. option_map (λ most. Take id most) most) id ≡ take_of (words line)
+    → option_and_then (λ id. option_map (λ most. command.Call (Take id most)) most) id ≡ take_of (words line)
 unfolding take_by
 take_line line word rest id most cut first second =
     ap (λ i. take_by i most) first ∙ ap (take_by (long_number word)) second ∙ take_is word rest (words rest) (joined_words rest) ∙ ap take_of (sym (words_cut line word rest cut))
@@ -115,18 +116,18 @@ take_one line none = ap take_of (sym (words_one line none))
 -- ---- the arguments of `bytes`
 
 bytes_is : (word line : List ℕ) (ws : List (List ℕ)) → join_with_byte 32 ws ≡ line → 0 < length ws
-    → option_and_then (λ id. option_map (λ piece. Bytes id piece) (unescaped line)) (long_number word) ≡ bytes_of (word ∷ ws)
+    → option_and_then (λ id. option_map (λ piece. command.Call (Bytes id piece)) (unescaped line)) (long_number word) ≡ bytes_of (word ∷ ws)
 bytes_is word line [] is some = absurd (omega arith)
-bytes_is word line (w ∷ more) is some = ap (λ l. option_and_then (λ id. option_map (λ piece. Bytes id piece) (unescaped l)) (long_number word)) (sym is)
+bytes_is word line (w ∷ more) is some = ap (λ l. option_and_then (λ id. option_map (λ piece. command.Call (Bytes id piece)) (unescaped l)) (long_number word)) (sym is)
 
 pub bytes_line : (line word rest : List ℕ) (id : Option ℕ) (piece : Option (List ℕ)) → IsCutAt 32 line word rest → id ≡ long_number word → piece ≡ unescaped rest
-    → option_and_then (λ id. option_map (λ piece. Bytes id piece) piece) id ≡ bytes_of (words line)
+    → option_and_then (λ id. option_map (λ piece. command.Call (Bytes id piece)) piece) id ≡ bytes_of (words line)
 bytes_line line word rest id piece cut first second =
-    ap (λ i. option_and_then (λ id. option_map (λ piece. Bytes id piece) piece) i) first
-    ∙ ap (λ p. option_and_then (λ id. option_map (λ piece. Bytes id piece) p) (long_number word)) second
+    ap (λ i. option_and_then (λ id. option_map (λ piece. command.Call (Bytes id piece)) piece) i) first
+    ∙ ap (λ p. option_and_then (λ id. option_map (λ piece. command.Call (Bytes id piece)) p) (long_number word)) second
     ∙ bytes_is word rest (words rest) (joined_words rest) (some_word rest) ∙ ap bytes_of (sym (words_cut line word rest cut))
 
-bytes_never : (id : Option ℕ) → None ≡ option_and_then (λ id. option_map (λ piece. Bytes id piece) None) id
+bytes_never : (id : Option ℕ) → None ≡ option_and_then (λ id. option_map (λ piece. command.Call (Bytes id piece)) None) id
 bytes_never None = refl
 bytes_never (Some id) = refl
 
@@ -139,8 +140,8 @@ text_is : (line : List ℕ) (ws : List (List ℕ)) → join_with_byte 32 ws ≡ 
 text_is line [] is some = absurd (omega arith)
 text_is line (w ∷ more) is some = ap unescaped (sym is)
 
-pub restore_line : (line : List ℕ) (image : Option (List ℕ)) → image ≡ unescaped line → option_map (λ i. Restore i) image ≡ restore_of (words line)
-restore_line line image is = ap (option_map (λ i. Restore i)) (is ∙ text_is line (words line) (joined_words line) (some_word line))
+pub restore_line : (line : List ℕ) (image : Option (List ℕ)) → image ≡ unescaped line → option_map (λ i. command.Restore i) image ≡ restore_of (words line)
+restore_line line image is = ap (option_map (λ i. command.Restore i)) (is ∙ text_is line (words line) (joined_words line) (some_word line))
 
 -- ---- the arguments of `lose` and of `spoil`
 
@@ -159,11 +160,11 @@ unfolding share_by
 share_spaced server index number rest =
     share_never (middle_number server) (index_of index) ∙ ap (share_by (middle_number server) (index_of index)) (number_spaced (2 ^ 16 - 1) number rest)
 
-lose_is : (server index line : List ℕ) (ws : List (List ℕ)) → join_with_byte 32 ws ≡ line → 0 < length ws → option_map (λ share. Lose share) (share_of server index line) ≡ lose_of (server ∷ index ∷ ws)
+lose_is : (server index line : List ℕ) (ws : List (List ℕ)) → join_with_byte 32 ws ≡ line → 0 < length ws → option_map (λ share. command.Call (Lose share)) (share_of server index line) ≡ lose_of (server ∷ index ∷ ws)
 lose_is server index line [] is some = absurd (omega arith)
-lose_is server index line (w ∷ []) is some = ap (λ l. option_map (λ share. Lose share) (share_of server index l)) (sym is)
+lose_is server index line (w ∷ []) is some = ap (λ l. option_map (λ share. command.Call (Lose share)) (share_of server index l)) (sym is)
 lose_is server index line (w ∷ v ∷ more) is some =
-    ap (option_map (λ share. Lose share)) (ap (share_of server index) (sym is) ∙ sym (share_spaced server index w (join_with_byte 32 (v ∷ more))))
+    ap (option_map (λ share. command.Call (Lose share))) (ap (share_of server index) (sym is) ∙ sym (share_spaced server index w (join_with_byte 32 (v ∷ more))))
 
 pub lose_one : (line : List ℕ) → All (λ b. b ≢ 32) line → None ≡ lose_of (words line)
 lose_one line none = ap lose_of (sym (words_one line none))
@@ -172,15 +173,15 @@ pub lose_two : (line server rest : List ℕ) → IsCutAt 32 line server rest →
 lose_two line server rest cut none = ap lose_of (sym (words_cut line server rest cut ∙ ap (λ ws. server ∷ ws) (words_one rest none)))
 
 pub lose_line : (line server rest index number : List ℕ) (share : Option Share) → IsCutAt 32 line server rest → IsCutAt 32 rest index number → share ≡ share_of server index number
-    → option_map (λ share. Lose share) share ≡ lose_of (words line)
+    → option_map (λ share. command.Call (Lose share)) share ≡ lose_of (words line)
 lose_line line server rest index number share cut1 cut2 is =
-    ap (option_map (λ share. Lose share)) is ∙ lose_is server index number (words number) (joined_words number) (some_word number)
+    ap (option_map (λ share. command.Call (Lose share))) is ∙ lose_is server index number (words number) (joined_words number) (some_word number)
     ∙ ap lose_of (sym (words_cut line server rest cut1 ∙ ap (λ ws. server ∷ ws) (words_cut rest index number cut2)))
 
 spoil_by : Option Share → Option ℕ → Option Command
-spoil_by share place = option_and_then (λ share. option_map (λ place. Spoil share place) place) share
+spoil_by share place = option_and_then (λ share. option_map (λ place. command.Call (Spoil share place)) place) share
 
-spoil_never : (share : Option Share) → option_and_then (λ share. option_map (λ place. Spoil share place) None) share ≡ None
+spoil_never : (share : Option Share) → option_and_then (λ share. option_map (λ place. command.Call (Spoil share place)) None) share ≡ None
 spoil_never None = refl
 spoil_never (Some share) = refl
 
@@ -204,7 +205,7 @@ spoil_three line server l1 index l2 cut1 cut2 none =
 
 pub spoil_line : (line server l1 index l2 number place : List ℕ) (share : Option Share) (at : Option ℕ) → IsCutAt 32 line server l1 → IsCutAt 32 l1 index l2 → IsCutAt 32 l2 number place
     → share ≡ share_of server index number → at ≡ long_number place
-    → option_and_then (λ share. option_map (λ place. Spoil share place) at) share ≡ spoil_of (words line)
+    → option_and_then (λ share. option_map (λ place. command.Call (Spoil share place)) at) share ≡ spoil_of (words line)
 unfolding spoil_by
 spoil_line line server l1 index l2 number place share at cut1 cut2 cut3 first second =
     ap (λ s. spoil_by s at) first ∙ ap (spoil_by (share_of server index number)) second ∙ spoil_is server index number place (words place) (joined_words place) (some_word place)
@@ -242,34 +243,20 @@ grid_six line k l1 n l2 s l3 room l4 secret l5 cut1 cut2 cut3 cut4 cut5 =
     six_words k n s room secret (words l5) (some_word l5)
     ∙ ap grid_of (sym (grid_words line k l1 n l2 s l3 (room ∷ secret ∷ words l5) cut1 cut2 cut3 (words_cut l3 room l4 cut4 ∙ ap (λ ws. room ∷ ws) (words_cut l4 secret l5 cut5))))
 
--- ---- verbs
+-- ---- `image`, and verbs
 
-skip : (t : Bool) (o : Option Command) → None ≡ o → None ≡ cond t None o
-skip true o none = refl
-skip false o none = none
+image_more : (ws : List (List ℕ)) → 0 < length ws → None ≡ image_of ws
+image_more [] some = absurd (omega arith)
+image_more (w ∷ ws) some = refl
 
--- another verb than `image` alone asks nothing
-pub verb_alone : (verb : List ℕ) → false ≡ bytes_eq verb (codes "image") → None ≡ asked_by (verb ∷ [])
-verb_alone verb other =
-    skip (bytes_eq verb (codes "grid")) _ (skip (bytes_eq verb (codes "restore")) _ (skip (bytes_eq verb (codes "open")) _ (skip (bytes_eq verb (codes "bytes")) _ (skip (bytes_eq verb (codes "end")) _
-    (skip (bytes_eq verb (codes "take")) _ (skip (bytes_eq verb (codes "lose")) _ (skip (bytes_eq verb (codes "spoil")) _ (ap (λ t. cond t (Some Image) None) other))))))))
+-- `image` has no arguments
+pub image_line : (line : List ℕ) → None ≡ image_of (words line)
+image_line line = image_more (words line) (some_word line)
 
--- `image` alone
-pub image_alone : (verb : List ℕ) → verb ≡ codes "image" → Some Image ≡ asked_by (verb ∷ [])
-image_alone verb is = ap (λ v. asked_by (v ∷ [])) (sym is)
+-- a line's verb is looked up
+pub looked_up : (line word rest : List ℕ) (verb : Option Verb) → IsCutAt 32 line word rest → verb ≡ verb_of word → option_and_then (λ known. asked_with known (words rest)) verb ≡ command_of line
+looked_up line word rest verb cut is = ap (option_and_then (λ known. asked_with known (words rest))) is ∙ ap asked_by (sym (words_cut line word rest cut))
 
-image_more : (t : Bool) (ws : List (List ℕ)) → 0 < length ws → None ≡ cond t (image_of ws) None
-image_more true [] some = absurd (omega arith)
-image_more true (w ∷ ws) some = refl
-image_more false ws some = refl
-
-not_this : (t : Bool) (yes_ no_ result : Option Command) → false ≡ t → result ≡ no_ → result ≡ cond t yes_ no_
-not_this t yes_ no_ result off is = is ∙ ap (λ t. cond t yes_ no_) off
-
--- another verb than these asks nothing
-pub verb_other : (verb : List ℕ) (ws : List (List ℕ)) → 0 < length ws → false ≡ bytes_eq verb (codes "grid") → false ≡ bytes_eq verb (codes "restore") → false ≡ bytes_eq verb (codes "open")
-    → false ≡ bytes_eq verb (codes "bytes") → false ≡ bytes_eq verb (codes "end") → false ≡ bytes_eq verb (codes "take") → false ≡ bytes_eq verb (codes "lose") → false ≡ bytes_eq verb (codes "spoil")
-    → None ≡ asked_by (verb ∷ ws)
-verb_other verb ws some grid restore open_ bytes end_ take_ lose spoil =
-    not_this _ _ _ _ grid (not_this _ _ _ _ restore (not_this _ _ _ _ open_ (not_this _ _ _ _ bytes (not_this _ _ _ _ end_ (not_this _ _ _ _ take_ (not_this _ _ _ _ lose (not_this _ _ _ _ spoil
-    (image_more (bytes_eq verb (codes "image")) ws some))))))))
+-- also where it is the only word
+pub looked_up_alone : (line : List ℕ) → All (λ b. b ≢ 32) line → asked_by (line ∷ []) ≡ command_of line
+looked_up_alone line none = ap asked_by (sym (words_one line none))

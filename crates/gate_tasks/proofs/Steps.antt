@@ -1,6 +1,5 @@
 -- Steps that are answered.
-use Rattle.std.proofs.Common.{◌≡◌, ℕ, ◌≤◌, List, [], ◌∷◌, ◌++◌, length, Bool, true, false, cond, Option, Some, None, refl, sym, ap, subst, ◌∙◌, append_assoc, length-append, arith}
-use Rattle.std.specs.Prelude.{◌&&◌, not}
+use Rattle.std.proofs.Common.{◌≡◌, ℕ, ◌≤◌, List, [], ◌∷◌, ◌++◌, length, true, false, Option, Some, None, refl, sym, ap, subst, ◌∙◌, append_assoc, length-append, arith}
 use Rattle.std.proofs.lemmas.List.{append-nil}
 use Rattle.chk_file.specs.World.{World}
 use Rattle.gate_core.specs.Settings.{Settings}
@@ -10,27 +9,28 @@ use Rattle.gate_core.specs.Runs.{after_entry}
 use Rattle.gate_core.specs.Rooms.{Rooms, room_after, HasRoomFor}
 use Rattle.gate_core.specs.Held.{State}
 use Rattle.gate_core.specs.Came.{Opening, Came}
-use Rattle.gate_tasks.specs.Script.{Step, is_grid, is_restore, is_call, may_stand, ends_run}
-use Rattle.gate_tasks.specs.Replies.{settings_by, opening_by, IsOpenedWith, IsOpening, IsCalm, IsReply, event_by, events_of, calls_in, AreReplies, IsFirstReply, BeginsWell, IsToldAfter, IsToldFrom, IsTold}
+use Rattle.gate_tasks.specs.Script.{Step, may_stand}
+use Rattle.gate_tasks.specs.Replies.{CallStep, settings_by, IsOpening, IsCalm, IsReply, event_by, events_of, call_of, calls_in, AreReplies, BeginsWell, IsToldAfter, IsToldFrom, IsTold}
 use Rattle.gate_tasks.specs.Running.{CameAfter, CameFrom, CameBy, IsAt, IsCalled, Answered}
 use Rattle.gate_tasks.specs.declared.command.Command.{Command}
 use Rattle.gate_tasks.specs.declared.command.Command.TheVariants as command
+use Rattle.gate_tasks.specs.declared.command.Call.{Call}
 use Rattle.gate_tasks.specs.declared.command.Grid.{Grid}
 use Rattle.gate_tasks.specs.declared.reply.Reply.{Reply}
 
--- ---- one more step
+-- ---- one more call
 
-pub events_more : (grid : Grid) (log : List Step) (step : Step) → events_of grid (log ++ step ∷ []) ≡ events_of grid log ++ event_by grid step.command step.reply
-events_more grid [] step = append-nil (event_by grid step.command step.reply)
-events_more grid (first ∷ log) step =
-    ap (λ e. event_by grid first.command first.reply ++ e) (events_more grid log step) ∙ sym (append_assoc (event_by grid first.command first.reply) (events_of grid log) (event_by grid step.command step.reply))
+pub events_more : (grid : Grid) (calls : List CallStep) (step : CallStep) → events_of grid (calls ++ step ∷ []) ≡ events_of grid calls ++ event_by grid step.call step.reply
+events_more grid [] step = append-nil (event_by grid step.call step.reply)
+events_more grid (first ∷ calls) step =
+    ap (λ e. event_by grid first.call first.reply ++ e) (events_more grid calls step) ∙ sym (append_assoc (event_by grid first.call first.reply) (events_of grid calls) (event_by grid step.call step.reply))
 
-replies_more : (grid : Grid) (opening : Opening) (events : List Event) (log : List Step) (step : Step) → AreReplies grid opening events log
-    → (IsCalm grid opening (events ++ events_of grid log) → IsReply grid opening (events ++ events_of grid log) step.command step.reply) → AreReplies grid opening events (log ++ step ∷ [])
-replies_more grid opening events [] step told reply = (subst (λ e. IsCalm grid opening e → IsReply grid opening e step.command step.reply) (append-nil events) reply, tt)
-replies_more grid opening events (first ∷ log) step told reply =
-    let e = event_by grid first.command first.reply in
-    (told.0, replies_more grid opening (events ++ e) log step told.1 (subst (λ l. IsCalm grid opening l → IsReply grid opening l step.command step.reply) (sym (append_assoc events e (events_of grid log))) reply))
+replies_more : (grid : Grid) (opening : Opening) (events : List Event) (calls : List CallStep) (step : CallStep) → AreReplies grid opening events calls
+    → (IsCalm grid opening (events ++ events_of grid calls) → IsReply grid opening (events ++ events_of grid calls) step.call step.reply) → AreReplies grid opening events (calls ++ step ∷ [])
+replies_more grid opening events [] step told reply = (subst (λ e. IsCalm grid opening e → IsReply grid opening e step.call step.reply) (append-nil events) reply, tt)
+replies_more grid opening events (first ∷ calls) step told reply =
+    let e = event_by grid first.call first.reply in
+    (told.0, replies_more grid opening (events ++ e) calls step told.1 (subst (λ l. IsCalm grid opening l → IsReply grid opening l step.call step.reply) (sym (append_assoc events e (events_of grid calls))) reply))
 
 -- ---- room for a beginning
 
@@ -60,10 +60,10 @@ grid_late [] (Some was) g grid at = cc
 grid_late (step ∷ []) was g grid at = refl
 grid_late (step ∷ next ∷ more) was g grid at = refl
 
--- nothing else does where none is
-pub call_first : (log : List Step) (was : Option Grid) (asked : Command) → IsAt log was None → is_grid asked ≡ false → may_stand log asked ≡ false
-call_first log None asked at other = ap (λ l. may_stand l asked) at ∙ other
-call_first log (Some was) asked at other = absurd at
+-- no call does where none is
+pub call_none : (log : List Step) (was : Option Grid) (asked : Call) → IsAt log was None → may_stand log (command.Call asked) ≡ false
+call_none log None asked at = ap (λ l. may_stand l (command.Call asked)) at
+call_none log (Some was) asked at = absurd at
 
 -- `restore` does only while the parameters are at hand
 pub restore_late : (log : List Step) (gateway : Option State) (image : List ℕ) → IsAt log None gateway → may_stand log (command.Restore image) ≡ false
@@ -72,149 +72,95 @@ restore_late [] (Some g) image at = absurd (omega arith)
 restore_late (step ∷ []) (Some g) image at = absurd (omega arith)
 restore_late (step ∷ next ∷ more) (Some g) image at = refl
 
-no_and : (a b : Bool) → (not a && not b) ≡ true → (a ≡ false) × (b ≡ false)
-no_and true b both = absurd cc
-no_and false true both = absurd cc
-no_and false false both = (refl, refl)
-
-call_late : (log : List Step) (was : Option Grid) (g : State) (asked : Command) → IsAt log was (Some g) → is_call asked ≡ true → may_stand log asked ≡ true
-call_late [] None g asked at is = absurd (omega arith)
-call_late [] (Some was) g asked at is = cc
-call_late (step ∷ []) was g asked at is = ap not (no_and (is_grid asked) (is_restore asked) is).0
-call_late (step ∷ next ∷ more) was g asked at is = is
-
--- a call does not end the run
-goes_on : (asked : Command) (reply : Reply) → is_call asked ≡ true → ends_run (record { command = asked; reply = reply }) ≡ false
-goes_on (command.Grid grid) reply is = absurd cc
-goes_on (command.Restore image) reply is = absurd cc
-goes_on (command.Open id secret) reply is = refl
-goes_on (command.Bytes id piece) reply is = refl
-goes_on (command.End id) reply is = refl
-goes_on (command.Take id most) reply is = refl
-goes_on (command.Lose share) reply is = refl
-goes_on (command.Spoil share place) reply is = refl
-goes_on command.Image reply is = refl
+call_late : (log : List Step) (was : Option Grid) (g : State) (asked : Call) → IsAt log was (Some g) → may_stand log (command.Call asked) ≡ true
+call_late [] None g asked at = absurd (omega arith)
+call_late [] (Some was) g asked at = cc
+call_late (step ∷ []) was g asked at = refl
+call_late (step ∷ next ∷ more) was g asked at = refl
 
 -- ---- calls and what stands before them
 
 -- a call is the last of them
-after_first : (restores : Bool) (first : Step) (log : List Step) (step : Step) → cond restores (log ++ step ∷ []) (first ∷ (log ++ step ∷ [])) ≡ cond restores log (first ∷ log) ++ step ∷ []
-after_first true first log step = refl
-after_first false first log step = refl
-
-calls_more : (log : List Step) (step : Step) → is_restore step.command ≡ false → calls_in (log ++ step ∷ []) ≡ calls_in log ++ step ∷ []
-calls_more [] step other = ap (λ b. cond b [] (step ∷ [])) other
-calls_more (first ∷ log) step other = after_first (is_restore first.command) first log step
+calls_more : (log : List Step) (asked : Call) (reply : Reply) → calls_in (log ++ record { command = command.Call asked; reply = reply } ∷ []) ≡ calls_in log ++ record { call = asked; reply = reply } ∷ []
+calls_more [] asked reply = refl
+calls_more (first ∷ log) asked reply =
+    let last : CallStep = record { call = asked; reply = reply } in
+    ap (λ calls. call_of first.command first.reply ++ calls) (calls_more log asked reply) ∙ sym (append_assoc (call_of first.command first.reply) (calls_in log) (last ∷ []))
 
 -- and with it the same stands before them
-opened_with : (grid : Grid) (asked : Command) (opening : Opening) → is_restore asked ≡ false → IsOpenedWith grid asked opening → opening ≡ opening_by grid
-opened_with grid (command.Grid other) opening no_restore opened = opened
-opened_with grid (command.Restore image) opening no_restore opened = absurd cc
-opened_with grid (command.Open id secret) opening no_restore opened = opened
-opened_with grid (command.Bytes id piece) opening no_restore opened = opened
-opened_with grid (command.End id) opening no_restore opened = opened
-opened_with grid (command.Take id most) opening no_restore opened = opened
-opened_with grid (command.Lose share) opening no_restore opened = opened
-opened_with grid (command.Spoil share place) opening no_restore opened = opened
-opened_with grid command.Image opening no_restore opened = opened
-
-opening_same : (grid : Grid) (log : List Step) (step : Step) (opening : Opening) → is_restore step.command ≡ false → IsOpening grid (log ++ step ∷ []) opening → IsOpening grid log opening
-opening_same grid [] step opening other opened = opened_with grid step.command opening other opened
-opening_same grid (first ∷ log) step opening other opened = opened
+opening_same : (grid : Grid) (log : List Step) (asked : Call) (reply : Reply) (opening : Opening) → IsOpening grid (log ++ record { command = command.Call asked; reply = reply } ∷ []) opening → IsOpening grid log opening
+opening_same grid [] asked reply opening opened = opened
+opening_same grid (first ∷ log) asked reply opening opened = opened
 
 -- ---- a call after these steps
 
 -- a call restores nothing
-first_call : (grid : Grid) (asked : Command) (reply : Reply) → is_restore asked ≡ false → IsFirstReply grid asked reply
-first_call grid (command.Grid other) reply no_restore = tt
-first_call grid (command.Restore image) reply no_restore = absurd cc
-first_call grid (command.Open id secret) reply no_restore = tt
-first_call grid (command.Bytes id piece) reply no_restore = tt
-first_call grid (command.End id) reply no_restore = tt
-first_call grid (command.Take id most) reply no_restore = tt
-first_call grid (command.Lose share) reply no_restore = tt
-first_call grid (command.Spoil share place) reply no_restore = tt
-first_call grid command.Image reply no_restore = tt
+begins_more : (grid : Grid) (log : List Step) (asked : Call) (reply : Reply) → BeginsWell grid log → BeginsWell grid (log ++ record { command = command.Call asked; reply = reply } ∷ [])
+begins_more grid [] asked reply well = tt
+begins_more grid (first ∷ log) asked reply well = well
 
-begins_more : (grid : Grid) (log : List Step) (step : Step) → is_restore step.command ≡ false → BeginsWell grid log → BeginsWell grid (log ++ step ∷ [])
-begins_more grid [] step other well = first_call grid step.command step.reply other
-begins_more grid (first ∷ log) step other well = well
+module _ (old new : State) (asked : Call) (reply : Reply) (called : IsCalled old new asked reply) where
+  abbrev step : Step
+  step = record { command = command.Call asked; reply = reply }
 
-told_after : (grid : Grid) (reply : Reply) (log : List Step) (old new : State) (step : Step) → is_restore step.command ≡ false → IsToldAfter grid reply log → CameAfter grid log old → IsCalled old new step.command step.reply
-    → IsToldAfter grid reply (log ++ step ∷ [])
-told_after grid reply log old new step other told came called = record {
-  made = told.made;
-  restored = begins_more grid log step other told.restored;
-  replies = λ opening opened.
-      let same = opening_same grid log step opening other opened in
-      subst (AreReplies grid opening []) (sym (calls_more log step other))
-      (replies_more grid opening [] (calls_in log) step (told.replies opening same) (λ calm. called.told grid opening (events_of grid (calls_in log)) came.settings came.sharing (came.calm opening same calm)));
-}
+  abbrev answered : CallStep
+  answered = record { call = asked; reply = reply }
 
-came_after : (grid : Grid) (log : List Step) (old new : State) (step : Step) → is_restore step.command ≡ false → CameAfter grid log old → IsCalled old new step.command step.reply → CameAfter grid (log ++ step ∷ []) new
-came_after grid log old new step other came called = record {
-  settings = called.settings ∙ came.settings;
-  sharing = came.sharing;
-  calm = λ opening opened calm.
-      let same = opening_same grid log step opening other opened in
-      let more : events_of grid (calls_in (log ++ step ∷ [])) ≡ events_of grid (calls_in log) ++ event_by grid step.command step.reply = ap (events_of grid) (calls_more log step other) ∙ events_more grid (calls_in log) step in
-      let all = subst (IsCalm grid opening) more calm in
-      let first = calm_first grid opening (events_of grid (calls_in log)) (event_by grid step.command step.reply) all in
-      subst (Came opening new) (sym more) (called.came grid opening (events_of grid (calls_in log)) came.settings (came.calm opening same first) all);
-}
+  told_after : (grid : Grid) (first : Reply) (log : List Step) → IsToldAfter grid first log → CameAfter grid log old → IsToldAfter grid first (log ++ step ∷ [])
+  told_after grid first log told came = record {
+    made = told.made;
+    restored = begins_more grid log asked reply told.restored;
+    replies = λ opening opened.
+        let same = opening_same grid log asked reply opening opened in
+        subst (AreReplies grid opening []) (sym (calls_more log asked reply))
+        (replies_more grid opening [] (calls_in log) answered (told.replies opening same) (λ calm. called.told grid opening (events_of grid (calls_in log)) came.settings came.sharing (came.calm opening same calm)));
+  }
 
-told_from : (asked : Command) (reply : Reply) (log : List Step) (old new : State) (step : Step) → is_restore step.command ≡ false → IsToldFrom asked reply log → CameFrom asked log old → IsCalled old new step.command step.reply
-    → IsToldFrom asked reply (log ++ step ∷ [])
-told_from (command.Grid grid) reply log old new step other told came called = told_after grid reply log old new step other told came called
-told_from (command.Restore image) reply log old new step other told came called = told
-told_from (command.Open id secret) reply log old new step other told came called = told
-told_from (command.Bytes id piece) reply log old new step other told came called = told
-told_from (command.End id) reply log old new step other told came called = told
-told_from (command.Take id most) reply log old new step other told came called = told
-told_from (command.Lose share) reply log old new step other told came called = told
-told_from (command.Spoil share place) reply log old new step other told came called = told
-told_from command.Image reply log old new step other told came called = told
+  came_after : (grid : Grid) (log : List Step) → CameAfter grid log old → CameAfter grid (log ++ step ∷ []) new
+  came_after grid log came = record {
+    settings = called.settings ∙ came.settings;
+    sharing = came.sharing;
+    calm = λ opening opened calm.
+        let same = opening_same grid log asked reply opening opened in
+        let before = events_of grid (calls_in log) in
+        let more : events_of grid (calls_in (log ++ step ∷ [])) ≡ before ++ event_by grid asked reply = ap (events_of grid) (calls_more log asked reply) ∙ events_more grid (calls_in log) answered in
+        let all = subst (IsCalm grid opening) more calm in
+        let first = calm_first grid opening before (event_by grid asked reply) all in
+        subst (Came opening new) (sym more) (called.came grid opening before came.settings (came.calm opening same first) all);
+  }
 
-came_from : (asked : Command) (log : List Step) (old new : State) (step : Step) → is_restore step.command ≡ false → CameFrom asked log old → IsCalled old new step.command step.reply → CameFrom asked (log ++ step ∷ []) new
-came_from (command.Grid grid) log old new step other came called = came_after grid log old new step other came called
-came_from (command.Restore image) log old new step other came called = came
-came_from (command.Open id secret) log old new step other came called = came
-came_from (command.Bytes id piece) log old new step other came called = came
-came_from (command.End id) log old new step other came called = came
-came_from (command.Take id most) log old new step other came called = came
-came_from (command.Lose share) log old new step other came called = came
-came_from (command.Spoil share place) log old new step other came called = came
-came_from command.Image log old new step other came called = came
+  told_from : (first : Command) (answer : Reply) (log : List Step) → IsToldFrom first answer log → CameFrom first log old → IsToldFrom first answer (log ++ step ∷ [])
+  told_from (command.Grid grid) answer log told came = told_after grid answer log told came
+  told_from (command.Restore image) answer log told came = told
+  told_from (command.Call call) answer log told came = told
 
-came_by : (log : List Step) (was : Option Grid) (g : State) → IsAt log was (Some g) → CameBy log g
-came_by log None g at = at.1
-came_by log (Some was) g at = at.1
+  came_from : (first : Command) (log : List Step) → CameFrom first log old → CameFrom first (log ++ step ∷ []) new
+  came_from (command.Grid grid) log came = came_after grid log came
+  came_from (command.Restore image) log came = came
+  came_from (command.Call call) log came = came
 
-call_told : (log : List Step) (old new : State) (step : Step) → is_restore step.command ≡ false → IsTold log → CameBy log old → IsCalled old new step.command step.reply → IsTold (log ++ step ∷ [])
-call_told [] old new step other told came called = absurd came
-call_told (first ∷ log) old new step other told came called = told_from first.command first.reply log old new step other told came called
+  call_told : (log : List Step) → IsTold log → CameBy log old → IsTold (log ++ step ∷ [])
+  call_told [] told came = absurd came
+  call_told (first ∷ log) told came = told_from first.command first.reply log told came
 
-call_came : (log : List Step) (old new : State) (step : Step) → is_restore step.command ≡ false → CameBy log old → IsCalled old new step.command step.reply → CameBy (log ++ step ∷ []) new
-call_came [] old new step other came called = absurd came
-call_came (first ∷ log) old new step other came called = came_from first.command log old new step other came called
+  call_came : (log : List Step) → CameBy log old → CameBy (log ++ step ∷ []) new
+  call_came [] came = absurd came
+  call_came (first ∷ log) came = came_from first.command log came
 
-some_step : (log : List Step) (g : State) (step : Step) → CameBy log g → 2 ≤ length (log ++ step ∷ [])
-some_step [] g step came = absurd came
-some_step (first ∷ log) g step came = omega (arith, length-append log (step ∷ []))
+  some_step : (log : List Step) → CameBy log old → 2 ≤ length (log ++ step ∷ [])
+  some_step [] came = absurd came
+  some_step (first ∷ log) came = omega (arith, length-append log (step ∷ []))
 
-pub call_answered : (log : List Step) (was : Option Grid) (old new : State) (asked : Command) (reply : Reply) → is_call asked ≡ true → IsAt log was (Some old) → IsTold log → IsCalled old new asked reply
-    → Answered log asked (Some reply) None (Some new)
-call_answered log was old new asked reply is at told called =
-    let step : Step = record { command = asked; reply = reply } in
-    let other = (no_and (is_grid asked) (is_restore asked) is).1 in
-    let came = came_by log was old at in
-    record {
-      stands = call_late log was old asked at is;
-      told = call_told log old new step other told came called;
-      ends = goes_on asked reply is;
-      at = λ _. (some_step log old step came, call_came log old new step other came called);
-    }
+  came_by : (log : List Step) (was : Option Grid) → IsAt log was (Some old) → CameBy log old
+  came_by log None at = at.1
+  came_by log (Some was) at = at.1
 
--- no call is made where there is no gateway
-pub call_none : (log : List Step) (was : Option Grid) (asked : Command) → is_call asked ≡ true → IsAt log was None → may_stand log asked ≡ false
-call_none log was asked is at = call_first log was asked at (no_and (is_grid asked) (is_restore asked) is).0
+  pub call_answered : (log : List Step) (was : Option Grid) → IsAt log was (Some old) → IsTold log → Answered log (command.Call asked) (Some reply) None (Some new)
+  call_answered log was at told =
+      let came = came_by log was at in
+      record {
+        stands = call_late log was old asked at;
+        told = call_told log told came;
+        ends = refl;
+        at = λ _. (some_step log came, call_came log came);
+      }

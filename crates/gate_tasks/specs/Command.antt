@@ -1,12 +1,15 @@
 -- What a line of a script asks.
 use Rattle.std.specs.Prelude.{ℕ, ◌-◌, ◌^◌, ◌==◌, nat_le, List, [], ◌∷◌, length, if◌then◌else◌, Option, Some, None, Result, Ok, Err, option_and_then, codes}
 use Rattle.std.specs.Option.{option_map}
-use Rattle.std.specs.List.{slice_split, join_with_byte}
+use Rattle.std.specs.List.{slice_split, join_with_byte, find}
 use Rattle.std.specs.Str.{bytes_eq}
 use Rattle.base32_text.specs.Reading.{reading}
 use Rattle.gate_tasks.specs.declared.command.Share.{Share}
 use Rattle.gate_tasks.specs.declared.command.Command.{Command}
-use Rattle.gate_tasks.specs.declared.command.Command.TheVariants.{Grid as GridLine, Restore, Open, Bytes, End, Take, Lose, Spoil, Image}
+use Rattle.gate_tasks.specs.declared.command.Command.TheVariants as command
+use Rattle.gate_tasks.specs.declared.command.Call.TheVariants.{Open, Bytes, End, Take, Lose, Spoil, Image}
+use Rattle.gate_tasks.specs.declared.verb.Verb.{Verb}
+use Rattle.gate_tasks.specs.declared.verb.Verb.TheVariants as verb
 use Rattle.octets.specs.Decimal.{number_to}
 use Rattle.gate_tasks.specs.Text.{unescaped}
 
@@ -55,7 +58,7 @@ share_of server index number =
 abbrev pub grid_of : List (List ℕ) → Option Command
 grid_of (k ∷ n ∷ servers ∷ room ∷ secret ∷ []) =
     option_and_then (λ k. option_and_then (λ n. option_and_then (λ servers. option_and_then (λ room. option_map (λ secret.
-    GridLine (record { k = k; n = n; servers = servers; room = room; secret = secret }))
+    command.Grid (record { k = k; n = n; servers = servers; room = room; secret = secret }))
     (secret_of secret)) (long_number room)) (servers_of servers)) (short_number n)) (short_number k)
 grid_of arguments = None
 
@@ -66,60 +69,81 @@ text_of (word ∷ more) = unescaped (join_with_byte 32 (word ∷ more))
 
 -- restore TEXT
 abbrev pub restore_of : List (List ℕ) → Option Command
-restore_of arguments = option_map (λ image. Restore image) (text_of arguments)
+restore_of arguments = option_map (λ image. command.Restore image) (text_of arguments)
 
 -- open ID, or open ID SECRET
 abbrev pub open_of : List (List ℕ) → Option Command
-open_of (id ∷ []) = option_map (λ id. Open id None) (long_number id)
-open_of (id ∷ secret ∷ []) = option_and_then (λ id. option_map (λ secret. Open id (Some secret)) (secret_of secret)) (long_number id)
+open_of (id ∷ []) = option_map (λ id. command.Call (Open id None)) (long_number id)
+open_of (id ∷ secret ∷ []) = option_and_then (λ id. option_map (λ secret. command.Call (Open id (Some secret))) (secret_of secret)) (long_number id)
 open_of arguments = None
 
 -- bytes ID TEXT
 abbrev pub bytes_of : List (List ℕ) → Option Command
 bytes_of [] = None
-bytes_of (id ∷ text) = option_and_then (λ id. option_map (λ piece. Bytes id piece) (text_of text)) (long_number id)
+bytes_of (id ∷ text) = option_and_then (λ id. option_map (λ piece. command.Call (Bytes id piece)) (text_of text)) (long_number id)
 
 -- end ID
 abbrev pub end_of : List (List ℕ) → Option Command
-end_of (id ∷ []) = option_map (λ id. End id) (long_number id)
+end_of (id ∷ []) = option_map (λ id. command.Call (End id)) (long_number id)
 end_of arguments = None
 
 -- take ID MAX
 abbrev pub take_of : List (List ℕ) → Option Command
-take_of (id ∷ most ∷ []) = option_and_then (λ id. option_map (λ most. Take id most) (middle_number most)) (long_number id)
+take_of (id ∷ most ∷ []) = option_and_then (λ id. option_map (λ most. command.Call (Take id most)) (middle_number most)) (long_number id)
 take_of arguments = None
 
 -- lose SERVER SI NUMBER
 abbrev pub lose_of : List (List ℕ) → Option Command
-lose_of (server ∷ index ∷ number ∷ []) = option_map (λ share. Lose share) (share_of server index number)
+lose_of (server ∷ index ∷ number ∷ []) = option_map (λ share. command.Call (Lose share)) (share_of server index number)
 lose_of arguments = None
 
 -- spoil SERVER SI NUMBER PLACE
 abbrev pub spoil_of : List (List ℕ) → Option Command
 spoil_of (server ∷ index ∷ number ∷ place ∷ []) =
-    option_and_then (λ share. option_map (λ place. Spoil share place) (long_number place)) (share_of server index number)
+    option_and_then (λ share. option_map (λ place. command.Call (Spoil share place)) (long_number place)) (share_of server index number)
 spoil_of arguments = None
 
 -- image
 abbrev pub image_of : List (List ℕ) → Option Command
-image_of [] = Some Image
+image_of [] = Some (command.Call Image)
 image_of (word ∷ more) = None
 
--- what follows each verb
-abbrev pub arguments_of : List (List ℕ × (List (List ℕ) → Option Command))
-arguments_of =
-    (codes "grid", grid_of) ∷ (codes "restore", restore_of)
-    ∷ (codes "open", open_of) ∷ (codes "bytes", bytes_of) ∷ (codes "end", end_of) ∷ (codes "take", take_of)
-    ∷ (codes "lose", lose_of) ∷ (codes "spoil", spoil_of) ∷ (codes "image", image_of) ∷ []
+-- the word that names each verb
+abbrev pub name_of : Verb → List ℕ
+name_of verb.Grid = codes "grid"
+name_of verb.Restore = codes "restore"
+name_of verb.Open = codes "open"
+name_of verb.Bytes = codes "bytes"
+name_of verb.End = codes "end"
+name_of verb.Take = codes "take"
+name_of verb.Lose = codes "lose"
+name_of verb.Spoil = codes "spoil"
+name_of verb.Image = codes "image"
 
--- the first of these verbs that this is
-abbrev pub asked_among : List (List ℕ × (List (List ℕ) → Option Command)) → List ℕ → List (List ℕ) → Option Command
-asked_among [] verb arguments = None
-asked_among (known ∷ more) verb arguments = if bytes_eq verb known.0 then known.1 arguments else asked_among more verb arguments
+-- all verbs
+abbrev pub verbs : List Verb
+verbs = verb.Grid ∷ verb.Restore ∷ verb.Open ∷ verb.Bytes ∷ verb.End ∷ verb.Take ∷ verb.Lose ∷ verb.Spoil ∷ verb.Image ∷ []
 
+-- the verb that a word names, or none
+abbrev pub verb_of : List ℕ → Option Verb
+verb_of word = find (λ known. bytes_eq (name_of known) word) verbs
+
+-- the command of a verb with these arguments
+abbrev pub asked_with : Verb → List (List ℕ) → Option Command
+asked_with verb.Grid arguments = grid_of arguments
+asked_with verb.Restore arguments = restore_of arguments
+asked_with verb.Open arguments = open_of arguments
+asked_with verb.Bytes arguments = bytes_of arguments
+asked_with verb.End arguments = end_of arguments
+asked_with verb.Take arguments = take_of arguments
+asked_with verb.Lose arguments = lose_of arguments
+asked_with verb.Spoil arguments = spoil_of arguments
+asked_with verb.Image arguments = image_of arguments
+
+-- a verb and its arguments
 abbrev pub asked_by : List (List ℕ) → Option Command
 asked_by [] = None
-asked_by (verb ∷ arguments) = asked_among arguments_of verb arguments
+asked_by (word ∷ arguments) = option_and_then (λ known. asked_with known arguments) (verb_of word)
 
 -- the command that a line gives, or none where it is a bad line
 abbrev pub command_of : List ℕ → Option Command

@@ -22,12 +22,19 @@ use Rattle.gate_core.specs.Came.{Opening, IsRoomy}
 use Rattle.gate_core.specs.declared.fault.GatewayFault.TheVariants.{Known, NotOpen, BadParameters}
 use Rattle.gate_tasks.specs.declared.command.Command.{Command}
 use Rattle.gate_tasks.specs.declared.command.Command.TheVariants as command
+use Rattle.gate_tasks.specs.declared.command.Call.{Call}
+use Rattle.gate_tasks.specs.declared.command.Call.TheVariants as call
 use Rattle.gate_tasks.specs.declared.command.Grid.{Grid}
 use Rattle.gate_tasks.specs.declared.reply.Reply.{Reply}
 use Rattle.gate_tasks.specs.declared.reply.Reply.TheVariants.{Done, Refused, GridRefused, Given, Imaged, Answered}
-use Rattle.gate_tasks.specs.Script.{Step, is_restore}
+use Rattle.gate_tasks.specs.Script.{Step}
 
 -- ---- a run
+
+-- a call, and what it was answered
+pub record CallStep : Type 0 where
+  pub call : Call
+  pub reply : Reply
 
 -- what the line `grid` sets a gateway up with
 abbrev pub settings_by : Grid → Settings
@@ -128,34 +135,30 @@ IsImageReply grid opening events reply =
 abbrev pub opened_reply : Option (List ℕ) → Reply
 opened_reply secret = if nat_lt 256 (length (unwrap_or secret [])) then Refused BadParameters else Done
 
--- the reply to a command after these calls
-abbrev pub IsReply : Grid → Opening → List Event → Command → Reply → Type 0
-IsReply grid opening events (command.Grid other) reply = ⊥
-IsReply grid opening events (command.Restore image) reply = ⊥
-IsReply grid opening events (command.Open id secret) reply = reply ≡ (if is_known id events then Refused Known else opened_reply secret)
-IsReply grid opening events (command.Bytes id piece) reply = reply ≡ (if is_going id events then Done else Refused NotOpen)
-IsReply grid opening events (command.End id) reply = reply ≡ (if is_going id events then Done else Refused NotOpen)
-IsReply grid opening events (command.Take id most) reply = IsTaken grid opening events id most reply
-IsReply grid opening events (command.Lose share) reply =
+-- the reply to a call after these calls
+abbrev pub IsReply : Grid → Opening → List Event → Call → Reply → Type 0
+IsReply grid opening events (call.Open id secret) reply = reply ≡ (if is_known id events then Refused Known else opened_reply secret)
+IsReply grid opening events (call.Bytes id piece) reply = reply ≡ (if is_going id events then Done else Refused NotOpen)
+IsReply grid opening events (call.End id) reply = reply ≡ (if is_going id events then Done else Refused NotOpen)
+IsReply grid opening events (call.Take id most) reply = IsTaken grid opening events id most reply
+IsReply grid opening events (call.Lose share) reply =
     reply ≡ at_server grid share.server (is_some (shown (world_by grid opening events).marks share.server (share.index, share.number)))
-IsReply grid opening events (command.Spoil share place) reply =
+IsReply grid opening events (call.Spoil share place) reply =
     reply ≡ at_server grid share.server (nat_lt place (length (unwrap_or (shown (world_by grid opening events).marks share.server (share.index, share.number)) [])))
-IsReply grid opening events command.Image reply = IsImageReply grid opening events reply
+IsReply grid opening events call.Image reply = IsImageReply grid opening events reply
 
--- the call of a command that gave these bytes: a connection without a secret of its own takes the gateway's
-abbrev pub event_of : Grid → Command → List ℕ → List Event
-event_of own (command.Grid grid) given = []
-event_of own (command.Restore image) given = []
-event_of own (command.Open id secret) given = Open id (unwrap_or secret own.secret) ∷ []
-event_of own (command.Bytes id piece) given = Bytes id piece ∷ []
-event_of own (command.End id) given = End id ∷ []
-event_of own (command.Take id most) given = Take id given ∷ []
-event_of own (command.Lose share) given = Lose share.server (share.index, share.number) ∷ []
-event_of own (command.Spoil share place) given = Spoil share.server (share.index, share.number) place ∷ []
-event_of own command.Image given = []
+-- the event of a call that gave these bytes: a connection without a secret of its own takes the gateway's
+abbrev pub event_of : Grid → Call → List ℕ → List Event
+event_of own (call.Open id secret) given = Open id (unwrap_or secret own.secret) ∷ []
+event_of own (call.Bytes id piece) given = Bytes id piece ∷ []
+event_of own (call.End id) given = End id ∷ []
+event_of own (call.Take id most) given = Take id given ∷ []
+event_of own (call.Lose share) given = Lose share.server (share.index, share.number) ∷ []
+event_of own (call.Spoil share place) given = Spoil share.server (share.index, share.number) place ∷ []
+event_of own call.Image given = []
 
--- the call of a step: a refused one is none
-abbrev pub event_by : Grid → Command → Reply → List Event
+-- the event of a call with this reply: a refused one is none
+abbrev pub event_by : Grid → Call → Reply → List Event
 event_by own asked Done = event_of own asked []
 event_by own asked (Refused fault) = []
 event_by own asked (GridRefused fault) = []
@@ -163,16 +166,16 @@ event_by own asked (Given given) = event_of own asked given
 event_by own asked (Imaged image) = []
 event_by own asked (Answered answer) = event_of own asked []
 
-abbrev pub events_of : Grid → List Step → List Event
+abbrev pub events_of : Grid → List CallStep → List Event
 events_of grid [] = []
-events_of grid (step ∷ log) = event_by grid step.command step.reply ++ events_of grid log
+events_of grid (step ∷ calls) = event_by grid step.call step.reply ++ events_of grid calls
 
--- Each step, after these calls, is answered as the calls so far say, where the stores have the room for what those
--- bring. What this step and later ones bring is no premise of its reply.
-abbrev pub AreReplies : Grid → Opening → List Event → List Step → Type 0
+-- Each of these calls, after these events, is answered as the calls so far say, where the stores have the room for what
+-- those bring. What this call and later ones bring is no premise of its reply.
+abbrev pub AreReplies : Grid → Opening → List Event → List CallStep → Type 0
 AreReplies grid opening events [] = ⊤
-AreReplies grid opening events (step ∷ log) =
-    (IsCalm grid opening events → IsReply grid opening events step.command step.reply) × AreReplies grid opening (events ++ event_by grid step.command step.reply) log
+AreReplies grid opening events (step ∷ calls) =
+    (IsCalm grid opening events → IsReply grid opening events step.call step.reply) × AreReplies grid opening (events ++ event_by grid step.call step.reply) calls
 
 -- ---- all steps
 
@@ -196,10 +199,14 @@ abbrev pub IsOpening : Grid → List Step → Opening → Type 0
 IsOpening grid [] opening = opening ≡ opening_by grid
 IsOpening grid (step ∷ log) opening = IsOpenedWith grid step.command opening
 
--- the steps after `grid` that are calls: all, or all but the first where it restores an image
-abbrev pub calls_in : List Step → List Step
+-- the calls among the steps after `grid`: all of them, or all but the first where it restores an image (`may_stand`)
+abbrev pub call_of : Command → Reply → List CallStep
+call_of (command.Call asked) reply = record { call = asked; reply = reply } ∷ []
+call_of _ reply = []
+
+abbrev pub calls_in : List Step → List CallStep
 calls_in [] = []
-calls_in (step ∷ log) = if is_restore step.command then log else step ∷ log
+calls_in (step ∷ log) = call_of step.command step.reply ++ calls_in log
 
 -- After the line `grid` and its answer: an image is restored or called bad for cause, and from what stands then, be it nothing
 -- or what the image brought, the written answers decide each reply before which the stores had the room.

@@ -13,6 +13,7 @@ use Rattle.gate_tasks.specs.Script.{Step, End, Ended, Stopped, may_stand, allowe
 use Rattle.gate_tasks.specs.Replies.{settings_by, IsOpening, IsCalm, IsReply, event_by, events_of, calls_in, IsTold}
 use Rattle.gate_tasks.specs.declared.command.Command.{Command}
 use Rattle.gate_tasks.specs.declared.command.Command.TheVariants as command
+use Rattle.gate_tasks.specs.declared.command.Call.{Call}
 use Rattle.gate_tasks.specs.declared.command.Grid.{Grid}
 use Rattle.gate_tasks.specs.declared.reply.Reply.{Reply}
 use Rattle.gate_tasks.specs.declared.reply.Reply.TheVariants.{Done}
@@ -42,8 +43,8 @@ IsAt log None (Some g) = (2 ≤ length log) × CameBy log g
 IsAt log (Some grid) None = ⊥
 IsAt log (Some grid) (Some g) = (log ≡ record { command = command.Grid grid; reply = Done } ∷ []) × CameBy log g
 
--- a call that a command asks for was made, with this reply
-pub record IsCalled (old new : State) (asked : Command) (reply : Reply) : Type 0 where
+-- this call was carried out, with this reply
+pub record IsCalled (old new : State) (asked : Call) (reply : Reply) : Type 0 where
   pub settings : new.settings ≡ old.settings
   pub told : (grid : Grid) (opening : Opening) (events : List Event) → old.settings ≡ settings_by grid → IsSharing grid.k grid.n → Came opening old events → IsReply grid opening events asked reply
   pub came : (grid : Grid) (opening : Opening) (events : List Event) → old.settings ≡ settings_by grid → Came opening old events → IsCalm grid opening (events ++ event_by grid asked reply)

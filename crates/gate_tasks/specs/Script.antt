@@ -61,7 +61,8 @@ is_restore _ = false
 
 -- a call of a gateway that there is
 abbrev pub is_call : Command → Bool
-is_call asked = not (is_grid asked) && not (is_restore asked)
+is_call (command.Call call) = true
+is_call _ = false
 
 abbrev pub is_refusal : Reply → Bool
 is_refusal (Refused fault) = true

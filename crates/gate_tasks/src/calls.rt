@@ -1,10 +1,9 @@
-//! The calls of a gateway that commands ask for.
-ghost use Rattle.std.specs.Prelude.{◌≡◌, ℕ, IfOk, true, option_copied};
+//! The calls of a gateway that lines ask for.
+ghost use Rattle.std.specs.Prelude.{◌≡◌, ℕ, IfOk, option_copied};
 ghost use Rattle.grid.specs.GridState.{held_at, size_at};
 ghost use Rattle.gate_tasks.specs.Running.{IsCalled};
-ghost use Rattle.gate_tasks.specs.Script.{is_call};
 
-use crate::command::{Command, Share};
+use crate::command::{Call, Share};
 use crate::reply::Reply;
 use gate_core::Gateway;
 use grid::GridFault;
@@ -22,27 +21,24 @@ pub fn held_is_what_stands(gateway: &MemGateway)
     let _servers = gateway.servers();
 }
 
-/// Makes the call that a command asks for.
-pub fn call(alloc: Global, gateway: &mut MemGateway, command: &Command) -> Result<Reply, AllocError>
-    requires { is_call command.now ≡ true }
-    ensures { IfOk result (λ reply. IsCalled gateway.old gateway.new command.now reply) }
+/// Carries out a call, and says what it is answered.
+pub fn carry_out(alloc: Global, gateway: &mut MemGateway, call: &Call) -> Result<Reply, AllocError>
+    ensures { IfOk result (λ reply. IsCalled gateway.old gateway.new call.now reply) }
 {
-    match command {
-        Command::Open(id, secret) => open(gateway, *id, secret),
-        Command::Bytes(id, piece) => bytes(gateway, *id, piece.as_slice()),
-        Command::End(id) => end(gateway, *id),
-        Command::Take(id, most) => take(gateway, *id, *most),
-        Command::Lose(share) => lose(gateway, share),
-        Command::Spoil(share, place) => spoil(gateway, share, *place),
-        Command::Image => image(alloc, gateway),
-        Command::Grid(_) => Err(AllocError),
-        Command::Restore(_) => Err(AllocError),
+    match call {
+        Call::Open(id, secret) => open(gateway, *id, secret),
+        Call::Bytes(id, piece) => bytes(gateway, *id, piece.as_slice()),
+        Call::End(id) => end(gateway, *id),
+        Call::Take(id, most) => take(gateway, *id, *most),
+        Call::Lose(share) => lose(gateway, share),
+        Call::Spoil(share, place) => spoil(gateway, share, *place),
+        Call::Image => image(alloc, gateway),
     }
 }
 
 fn open(gateway: &mut MemGateway, id: u64, secret: &Option<Bytes>) -> Result<Reply, AllocError>
     ensures { IfOk result (λ reply.
-        IsCalled gateway.old gateway.new (Command.Open id secret.now) reply) }
+        IsCalled gateway.old gateway.new (Call.Open id secret.now) reply) }
 {
     match gateway.open(id, lent(secret)) {
         Ok(()) => Ok(Reply::Done),
@@ -62,7 +58,7 @@ fn lent(secret: &Option<Bytes>) -> Option<&[u8]>
 
 fn bytes(gateway: &mut MemGateway, id: u64, piece: &[u8]) -> Result<Reply, AllocError>
     ensures { IfOk result (λ reply.
-        IsCalled gateway.old gateway.new (Command.Bytes id piece.now) reply) }
+        IsCalled gateway.old gateway.new (Call.Bytes id piece.now) reply) }
 {
     gateway.no_store_failed();
     let done = gateway.bytes(id, piece);
@@ -74,7 +70,7 @@ fn bytes(gateway: &mut MemGateway, id: u64, piece: &[u8]) -> Result<Reply, Alloc
 }
 
 fn end(gateway: &mut MemGateway, id: u64) -> Result<Reply, AllocError>
-    ensures { IfOk result (λ reply. IsCalled gateway.old gateway.new (Command.End id) reply) }
+    ensures { IfOk result (λ reply. IsCalled gateway.old gateway.new (Call.End id) reply) }
 {
     match gateway.end(id) {
         Ok(()) => Ok(Reply::Done),
@@ -83,7 +79,7 @@ fn end(gateway: &mut MemGateway, id: u64) -> Result<Reply, AllocError>
 }
 
 fn take(gateway: &mut MemGateway, id: u64, most: u32) -> Result<Reply, AllocError>
-    ensures { IfOk result (λ reply. IsCalled gateway.old gateway.new (Command.Take id most) reply) }
+    ensures { IfOk result (λ reply. IsCalled gateway.old gateway.new (Call.Take id most) reply) }
 {
     gate_core::laws::kept_answers_are_verified();
     match gateway.take(id, most as usize) {
@@ -94,7 +90,7 @@ fn take(gateway: &mut MemGateway, id: u64, most: u32) -> Result<Reply, AllocErro
 
 fn lose(gateway: &mut MemGateway, share: &Share) -> Result<Reply, AllocError>
     ensures { IfOk result
-        (λ reply. IsCalled gateway.old gateway.new (Command.Lose share.now) reply) }
+        (λ reply. IsCalled gateway.old gateway.new (Call.Lose share.now) reply) }
 {
     gateway.no_store_failed();
     let lost = gateway.lose(share.server as usize, share.index, share.number);
@@ -107,7 +103,7 @@ fn lose(gateway: &mut MemGateway, share: &Share) -> Result<Reply, AllocError>
 
 fn spoil(gateway: &mut MemGateway, share: &Share, place: u64) -> Result<Reply, AllocError>
     ensures { IfOk result (λ reply.
-        IsCalled gateway.old gateway.new (Command.Spoil share.now place) reply) }
+        IsCalled gateway.old gateway.new (Call.Spoil share.now place) reply) }
 {
     gateway.no_store_failed();
     let spoiled = gateway.spoil(share.server as usize, share.index, share.number, place);
@@ -119,7 +115,7 @@ fn spoil(gateway: &mut MemGateway, share: &Share, place: u64) -> Result<Reply, A
 }
 
 fn image(alloc: Global, gateway: &mut MemGateway) -> Result<Reply, AllocError>
-    ensures { IfOk result (λ reply. IsCalled gateway.old gateway.new Command.Image reply) }
+    ensures { IfOk result (λ reply. IsCalled gateway.old gateway.new Call.Image reply) }
 {
     let mut image = Vec::new(alloc);
     match gateway.image(&mut image) {

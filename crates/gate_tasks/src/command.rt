@@ -1,10 +1,15 @@
-//! A line of a script.
+//! A line of a script: its verb is looked up, and the reader of that verb takes what stands behind it.
+//!
+//! A new line has its verb and the word for it in `verb.rt`; here its case in `Command` or `Call` and its reader, with a
+//! definition in specs/Command.antt; and where it is a call, its reply and event in specs/Replies.antt, and what carries
+//! it out in `calls.rt`.
 ghost use Rattle.std.specs.Prelude.{◌≡◌, [], ◌∷◌, None, IfOk};
 ghost use Rattle.std.specs.Option.{option_map};
-ghost use Rattle.gate_tasks.specs.Command.{words, servers_of, secret_of, index_of, share_of, grid_of, restore_of, open_of, bytes_of, end_of, take_of, lose_of, spoil_of, command_of, asked_by, short_number, long_number};
+ghost use Rattle.gate_tasks.specs.Command.{words, servers_of, secret_of, index_of, share_of, grid_of, restore_of, open_of, bytes_of, end_of, take_of, lose_of, spoil_of, command_of, asked_by, asked_with, short_number, long_number};
 
 use crate::spelling::read_spelled;
 use crate::text::unescape;
+use crate::verb::{Verb, read_verb};
 use octets::{Bytes, read_number, split_at_byte};
 use std::alloc::{AllocError, Global};
 
@@ -34,13 +39,9 @@ pub struct Share {
     pub number: u16,
 }
 
-/// What a line asks of the gateway.
+/// A call of the gateway that there is.
 #[derive(Debug, Drop)]
-pub enum Command {
-    /// A gateway with these parameters.
-    Grid(Grid),
-    /// That gateway, with the shares of this image.
-    Restore(Bytes),
+pub enum Call {
     /// A connection with this id begins, with a secret of its own or none.
     Open(u64, Option<Bytes>),
     /// The next bytes of a connection.
@@ -57,48 +58,55 @@ pub enum Command {
     Image,
 }
 
+/// What a line asks.
+#[derive(Debug, Drop)]
+pub enum Command {
+    /// A gateway with these parameters.
+    Grid(Grid),
+    /// That gateway, with the shares of this image.
+    Restore(Bytes),
+    /// A call of it.
+    Call(Call),
+}
+
 /// What a line asks, or `None` where it is a bad line.
 pub fn read_command(alloc: Global, line: &[u8]) -> Result<Option<Command>, AllocError>
     ensures { IfOk result (λ command. command ≡ command_of line.now) }
 {
-    let Some((verb, arguments)) = split_at_byte(line, b' ') else {
-        return Ok(read_verb(line));
+    let Some((word, arguments)) = split_at_byte(line, b' ') else {
+        return Ok(read_word(line));
     };
-    if verb == b"grid".as_slice() {
-        return read_grid(alloc, arguments);
-    }
-    if verb == b"restore".as_slice() {
-        return read_restore(alloc, arguments);
-    }
-    if verb == b"open".as_slice() {
-        return read_open(alloc, arguments);
-    }
-    if verb == b"bytes".as_slice() {
-        return read_bytes(alloc, arguments);
-    }
-    if verb == b"end".as_slice() {
-        return Ok(read_end(arguments));
-    }
-    if verb == b"take".as_slice() {
-        return Ok(read_take(arguments));
-    }
-    if verb == b"lose".as_slice() {
-        return read_lose(alloc, arguments);
-    }
-    if verb == b"spoil".as_slice() {
-        return read_spoil(alloc, arguments);
-    }
-    Ok(None)
+    let Some(verb) = read_verb(word) else {
+        return Ok(None);
+    };
+    let command = read_with(alloc, verb, arguments)?;
+    Ok(command)
 }
 
-/// What a line without arguments asks.
-fn read_verb(line: &[u8]) -> Option<Command>
-    ensures { result ≡ asked_by (line.now ∷ []) }
+/// What a line of one word asks.
+fn read_word(word: &[u8]) -> Option<Command>
+    ensures { result ≡ asked_by (word.now ∷ []) }
 {
-    if line == b"image".as_slice() {
-        Some(Command::Image)
-    } else {
-        None
+    match read_verb(word)? {
+        Verb::Image => Some(Command::Call(Call::Image)),
+        _ => None,
+    }
+}
+
+/// What a verb asks with the arguments that stand behind it.
+fn read_with(alloc: Global, verb: Verb, arguments: &[u8]) -> Result<Option<Command>, AllocError>
+    ensures { IfOk result (λ command. command ≡ asked_with verb (words arguments.now)) }
+{
+    match verb {
+        Verb::Grid => read_grid(alloc, arguments),
+        Verb::Restore => read_restore(alloc, arguments),
+        Verb::Open => read_open(alloc, arguments),
+        Verb::Bytes => read_bytes(alloc, arguments),
+        Verb::End => Ok(read_end(arguments)),
+        Verb::Take => Ok(read_take(arguments)),
+        Verb::Lose => read_lose(alloc, arguments),
+        Verb::Spoil => read_spoil(alloc, arguments),
+        Verb::Image => Ok(None),
     }
 }
 
@@ -211,15 +219,15 @@ fn read_open(alloc: Global, arguments: &[u8]) -> Result<Option<Command>, AllocEr
     let Some(secret) = read_secret(alloc, secret)? else {
         return Ok(None);
     };
-    Ok(Some(Command::Open(id, Some(secret))))
+    Ok(Some(Command::Call(Call::Open(id, Some(secret)))))
 }
 
 /// The argument of `open` without a secret: ID.
 fn read_bare_open(word: &[u8]) -> Option<Command>
-    ensures { result ≡ option_map (λ id. Command.Open id None) (long_number word.now) }
+    ensures { result ≡ option_map (λ id. Command.Call (Call.Open id None)) (long_number word.now) }
 {
     let id = read_number(word, u64::MAX)?;
-    Some(Command::Open(id, None))
+    Some(Command::Call(Call::Open(id, None)))
 }
 
 /// The arguments of `bytes`: ID and TEXT, which may hold spaces.
@@ -235,7 +243,7 @@ fn read_bytes(alloc: Global, arguments: &[u8]) -> Result<Option<Command>, AllocE
     let Some(piece) = unescape(alloc, text)? else {
         return Ok(None);
     };
-    Ok(Some(Command::Bytes(id, piece)))
+    Ok(Some(Command::Call(Call::Bytes(id, piece))))
 }
 
 /// The argument of `end`: ID.
@@ -243,7 +251,7 @@ fn read_end(arguments: &[u8]) -> Option<Command>
     ensures { result ≡ end_of (words arguments.now) }
 {
     let id = read_number(arguments, u64::MAX)?;
-    Some(Command::End(id))
+    Some(Command::Call(Call::End(id)))
 }
 
 /// The arguments of `take`: ID and MAX.
@@ -253,7 +261,7 @@ fn read_take(arguments: &[u8]) -> Option<Command>
     let (id, most) = split_at_byte(arguments, b' ')?;
     let id = read_number(id, u64::MAX)?;
     let most = read_number(most, u32::MAX as u64)?;
-    Some(Command::Take(id, most as u32))
+    Some(Command::Call(Call::Take(id, most as u32)))
 }
 
 /// The argument of `restore`: TEXT, which may hold spaces.
@@ -279,7 +287,7 @@ fn read_lose(alloc: Global, arguments: &[u8]) -> Result<Option<Command>, AllocEr
     let Some(share) = read_share(alloc, server, index, number)? else {
         return Ok(None);
     };
-    Ok(Some(Command::Lose(share)))
+    Ok(Some(Command::Call(Call::Lose(share))))
 }
 
 /// The arguments of `spoil`: SERVER, SI, NUMBER and PLACE.
@@ -301,7 +309,7 @@ fn read_spoil(alloc: Global, arguments: &[u8]) -> Result<Option<Command>, AllocE
     let Some(place) = read_number(place, u64::MAX) else {
         return Ok(None);
     };
-    Ok(Some(Command::Spoil(share, place)))
+    Ok(Some(Command::Call(Call::Spoil(share, place))))
 }
 
 /// The share that SERVER, SI and NUMBER name.

@@ -32,6 +32,8 @@ mod status;
 mod stores;
 /// Bytes as text.
 mod text;
+/// The verbs of lines.
+mod verb;
 
 pub use arguments::{Service, Task, read_task};
 pub use calls::MemGateway;

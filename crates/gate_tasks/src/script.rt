@@ -1,13 +1,13 @@
 //! The run of a script: a line at a time.
-ghost use Rattle.std.specs.Prelude.{◌≡◌, ℕ, List, IfOk, OnOk, IfSome, OnSome, Err, true};
+ghost use Rattle.std.specs.Prelude.{◌≡◌, ℕ, List, IfOk, OnOk, IfSome, OnSome, Err};
 ghost use Rattle.std.specs.Io.KnownBytes.{IsAtEnd};
 ghost use Rattle.gate_tasks.specs.Lines.{LacksLf};
-ghost use Rattle.gate_tasks.specs.Script.{Step, Ended, Stopped, is_call};
+ghost use Rattle.gate_tasks.specs.Script.{Step, Ended, Stopped};
 ghost use Rattle.gate_tasks.specs.Replies.{IsTold};
 ghost use Rattle.gate_tasks.specs.Running.{IsAt, Answered, LineRuns, StopsAfter, Answers, AnswersSome, IsOneLine, RunEnds};
 
-use crate::calls::{MemGateway, call, held_is_what_stands};
-use crate::command::{Command, Grid, read_command};
+use crate::calls::{MemGateway, carry_out, held_is_what_stands};
+use crate::command::{Call, Command, Grid, read_command};
 use crate::fault::ScriptFault;
 use crate::lines::read_line;
 use crate::reply::Reply;
@@ -144,7 +144,7 @@ fn answer(
     match command {
         Command::Grid(grid) => begin(alloc, grid, progress),
         Command::Restore(image) => restore(alloc, image.as_slice(), progress),
-        command => go_on(alloc, &command, progress),
+        Command::Call(call) => go_on(alloc, &call, progress),
     }
 }
 
@@ -210,20 +210,15 @@ fn restore(
 }
 
 /// Makes a call of the gateway, if there is one.
-fn go_on(
-    alloc: Global,
-    command: &Command,
-    progress: &mut Progress,
-) -> Result<Option<Reply>, AllocError>
-    requires { is_call command.now ≡ true }
+fn go_on(alloc: Global, call: &Call, progress: &mut Progress) -> Result<Option<Reply>, AllocError>
     ensures { IfOk result (λ reply. (log : List Step) →
         IsAt log progress.old.grid progress.old.gateway → IsTold log →
-        Answered log command.now reply progress.new.grid progress.new.gateway) }
+        Answered log (Command.Call call.now) reply progress.new.grid progress.new.gateway) }
 {
     let Some(gateway) = &mut progress.gateway else {
         return Ok(None);
     };
-    let reply = call(alloc, gateway, command)?;
+    let reply = carry_out(alloc, gateway, call)?;
     progress.grid = None;
     Ok(Some(reply))
 }

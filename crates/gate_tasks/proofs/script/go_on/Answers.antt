@@ -6,9 +6,9 @@ use Rattle.gate_tasks.proofs.script.go_on.Goals as goal
 pub returns-in_default : goal.returns-in_default
 returns-in_default c log at told =
     let was = c.args.progress.now.grid in
-    call_none log was c.args.command.now c.requires (subst (IsAt log was) c.in_default.is at)
+    call_none log was c.args.call.now (subst (IsAt log was) c.in_default.is at)
 
 pub returns : goal.returns
 returns c log at told =
     let was = c.args.progress.now.grid in
-    call_answered log was c.in-Some.gateway c.call.new.gateway c.args.command.now c.in_ok-reply.reply c.requires (subst (IsAt log was) c.in-Some.is at) told c.in_ok-reply.ensures
+    call_answered c.in-Some.gateway c.carry_out.new.gateway c.args.call.now c.in_ok-reply.reply c.in_ok-reply.ensures log was (subst (IsAt log was) c.in-Some.is at) told
