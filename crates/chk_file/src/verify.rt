@@ -28,8 +28,8 @@ use share_store::Store;
 use std::alloc::Global;
 use std::rc::RcSlice;
 
-/// The k good shares of a file that are read of those that the stores have, and the crypttext that they are of. Where the
-/// shares of the k lowest numbers are good, no store is asked for the bytes of another.
+/// The k good shares of a file that are read of those that the stores have, and the crypttext that they are of. Where
+/// those of the numbers below k are good, no store is asked for the bytes of another.
 pub(crate) fn verify<S: Store>(
     alloc: Global,
     grid: &mut Grid<S>,
@@ -65,7 +65,7 @@ pub(crate) fn verify<S: Store>(
     }
 }
 
-/// The same where the shares of the k lowest numbers give them. Where they don't, nothing is said of all shares.
+/// The same where the shares of the numbers below k give them. Where they don't, nothing is said of all shares.
 fn verify_low<S: Store>(
     alloc: Global,
     grid: &mut Grid<S>,
