@@ -78,11 +78,16 @@ impl Link for Played {
 }
 
 /// What a shelf has to know of its server.
-fn settings(alloc: Global, password: Option<Bytes>, rest: u64) -> Result<Settings, AllocError> {
+fn settings(
+    alloc: Global,
+    longest: u32,
+    password: Option<Bytes>,
+    rest: u64,
+) -> Result<Settings, AllocError> {
     Ok(Settings {
         grid: Bytes::from_slice(alloc, b"g:")?,
         password,
-        longest: 6,
+        longest,
         rest,
     })
 }
@@ -112,7 +117,7 @@ fn made(alloc: Global, case: &Case<'_>) -> Result<RedisShelf<Played>, NoAnswer> 
         true => None,
         false => Some(Bytes::from_vec(password)),
     };
-    let settings = settings(alloc, password, case.number(3)?)?;
+    let settings = settings(alloc, 6, password, case.number(3)?)?;
     Ok(RedisShelf::new(alloc, server_of(alloc, case)?, settings))
 }
 

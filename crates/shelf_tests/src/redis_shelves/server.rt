@@ -23,10 +23,13 @@ struct Server {
     is_done: bool,
 }
 
+/// How many bytes a share has, at most.
+const LONGEST: u32 = 32768;
+
 /// How large a command may be.
 const COMMANDS: Limits = Limits {
     line: 64,
-    bulk: 64,
+    bulk: LONGEST,
     elements: 8,
 };
 
@@ -149,7 +152,7 @@ fn put<L: Link + Drop>(
 }
 
 /// Whether a share has these bytes, or there is none.
-fn is_share(share: &Option<RcSlice<u8>>, wanted: Option<&'static [u8]>) -> bool {
+fn is_share(share: &Option<RcSlice<u8>>, wanted: Option<&[u8]>) -> bool {
     match (share, wanted) {
         (Some(share), Some(bytes)) => share.as_slice() == bytes,
         (None, None) => true,
@@ -158,8 +161,8 @@ fn is_share(share: &Option<RcSlice<u8>>, wanted: Option<&'static [u8]>) -> bool 
 }
 
 /// Whether what stands after each of some changes, one of the link's calls failing, is what stood before or what is to
-/// stand after it, and the latter where the change was answered.
-fn holds(alloc: Global, at: u64, is_done: bool) -> Result<bool, AllocError> {
+/// stand after it, and the latter where the change was answered. One share is long.
+fn holds(alloc: Global, at: u64, is_done: bool, long: &[u8]) -> Result<bool, AllocError> {
     let link = Server {
         alloc,
         kept: None,
@@ -167,9 +170,9 @@ fn holds(alloc: Global, at: u64, is_done: bool) -> Result<bool, AllocError> {
         left: at,
         is_done,
     };
-    let mut shelf = RedisShelf::new(alloc, link, settings(alloc, None, 0)?);
-    let mut stands: Option<&'static [u8]> = None;
-    let changes: [Option<&'static [u8]>; 4] = [Some(b"one"), Some(b"two"), None, Some(b"three")];
+    let mut shelf = RedisShelf::new(alloc, link, settings(alloc, LONGEST, None, 0)?);
+    let mut stands: Option<&[u8]> = None;
+    let changes: [Option<&[u8]>; 4] = [Some(b"one"), Some(long), None, Some(b"three")];
     for next in changes {
         let changed = match next {
             Some(bytes) => put(alloc, &mut shelf, bytes)?,
@@ -203,8 +206,9 @@ pub(super) fn whichever_fails(
     calls: u64,
     is_done: bool,
 ) -> Result<String, NoAnswer> {
+    let long = vec![in alloc; 7; 20000]?;
     for at in 0..calls {
-        if !holds(alloc, at, is_done)? {
+        if !holds(alloc, at, is_done, &long)? {
             return Ok(format!(in alloc; "not at {at}")?);
         }
     }
