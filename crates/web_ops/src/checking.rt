@@ -8,7 +8,7 @@ ghost use Rattle.web_ops.specs.Answers.{health_reply, check_reply};
 ghost use Rattle.web_ops.specs.Replied.{IsHealth, IsAnsweredFrom};
 ghost use Rattle.web_ops.specs.Calls.{IsFound};
 
-use crate::failed::{Failure, failure};
+use crate::failed::{Failure, failure_reply};
 use crate::node::walk_refused;
 use crate::replies::json_reply;
 use crate::reply::Reply;
@@ -36,7 +36,7 @@ pub fn check<S: Store>(
         (λ look. check_reply look cap.now names.now verify) result grid.old grid.new }
 {
     if leads_nowhere(cap, names) {
-        return failure(alloc, Failure::NotReadable);
+        return failure_reply(alloc, Failure::NotReadable);
     }
     match walk(alloc, grid, cache, cap, names) {
         Ok(end) => health(alloc, grid, &end, verify),

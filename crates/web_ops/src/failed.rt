@@ -29,7 +29,7 @@ pub enum Failure {
 
 /// The reply to a request that can't be met: the status and the words of its failure, with a line feed. Refused only
 /// where memory is.
-pub fn failure(alloc: Global, failure: Failure) -> Result<Reply, AllocError>
+pub fn failure_reply(alloc: Global, failure: Failure) -> Result<Reply, AllocError>
     ensures { IfOk result (λ reply. reply ≡ failure_reply failure) }
 {
     let (status, line): (Status, &[u8]) = match failure {

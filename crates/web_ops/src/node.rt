@@ -7,7 +7,7 @@ ghost use Rattle.web_ops.specs.Answers.{walk_reply, content_reply, listing_reply
 ghost use Rattle.web_ops.specs.Replied.{IsContent, IsNodeJson, IsNode, IsAnsweredFrom};
 ghost use Rattle.web_ops.specs.Calls.{IsFound};
 
-use crate::failed::{Failure, failure};
+use crate::failed::{Failure, failure_reply};
 use crate::replies::{bytes_reply, download_reply, json_reply};
 use crate::reply::Reply;
 use caps::{Cap, is_verify_cap};
@@ -36,7 +36,7 @@ pub fn get<S: Store>(
         (λ look. get_reply look.gives cap.now names.now json range) result grid.old grid.new }
 {
     if is_verify_cap(cap) {
-        return failure(alloc, Failure::NotReadable);
+        return failure_reply(alloc, Failure::NotReadable);
     }
     match walk(alloc, grid, cache, cap, names) {
         Ok(end) => node(alloc, grid, cache, end, json, range),
@@ -50,9 +50,9 @@ pub fn walk_refused(alloc: Global, fault: &WalkFault) -> Result<Reply, AllocErro
         (fault.now ≢ NoMemory) × (reply ≡ walk_reply fault.now)) }
 {
     match fault {
-        WalkFault::NoChild(_) => failure(alloc, Failure::NoChild),
-        WalkFault::NotDirectory => failure(alloc, Failure::NotDirectory),
-        WalkFault::NotEnoughShares => failure(alloc, Failure::NotEnoughShares),
+        WalkFault::NoChild(_) => failure_reply(alloc, Failure::NoChild),
+        WalkFault::NotDirectory => failure_reply(alloc, Failure::NotDirectory),
+        WalkFault::NotEnoughShares => failure_reply(alloc, Failure::NotEnoughShares),
         WalkFault::NoMemory => Err(AllocError),
     }
 }
@@ -93,12 +93,12 @@ fn content<S: Store>(
     match cap {
         Cap::Chk(fields) => match begin(alloc, grid, cache, &fields) {
             Ok(download) => download_reply(alloc, range, fields.size, download),
-            Err(ReadFault::NotEnoughShares) => failure(alloc, Failure::NotEnoughShares),
+            Err(ReadFault::NotEnoughShares) => failure_reply(alloc, Failure::NotEnoughShares),
             Err(ReadFault::NoMemory) => Err(AllocError),
         },
         Cap::Lit(bytes) => bytes_reply(alloc, range, bytes),
-        Cap::DirChk(_) | Cap::DirLit(_) => failure(alloc, Failure::NeedsJson),
-        Cap::ChkVerify(_) | Cap::DirChkVerify(_) => failure(alloc, Failure::NotReadable),
+        Cap::DirChk(_) | Cap::DirLit(_) => failure_reply(alloc, Failure::NeedsJson),
+        Cap::ChkVerify(_) | Cap::DirChkVerify(_) => failure_reply(alloc, Failure::NotReadable),
     }
 }
 
@@ -117,11 +117,11 @@ fn node_json<S: Store>(
         Cap::Chk(_) | Cap::Lit(_) => Ok(json_reply(file_json(alloc, cap)?)),
         Cap::DirChk(fields) => match read(alloc, grid, cache, fields) {
             Ok(bytes) => listing(alloc, cap, &bytes),
-            Err(ReadFault::NotEnoughShares) => failure(alloc, Failure::NotEnoughShares),
+            Err(ReadFault::NotEnoughShares) => failure_reply(alloc, Failure::NotEnoughShares),
             Err(ReadFault::NoMemory) => Err(AllocError),
         },
         Cap::DirLit(bytes) => listing(alloc, cap, bytes.as_slice()),
-        Cap::ChkVerify(_) | Cap::DirChkVerify(_) => failure(alloc, Failure::NotReadable),
+        Cap::ChkVerify(_) | Cap::DirChkVerify(_) => failure_reply(alloc, Failure::NotReadable),
     }
 }
 
@@ -133,6 +133,6 @@ fn listing(alloc: Global, cap: &Cap, bytes: &[u8]) -> Result<Reply, AllocError>
     match decode(alloc, bytes) {
         Ok(directory) => Ok(json_reply(dir_json(alloc, cap, &directory)?)),
         Err(fault) if is_memory(&fault) => Err(AllocError),
-        Err(_) => failure(alloc, Failure::NotDirectory),
+        Err(_) => failure_reply(alloc, Failure::NotDirectory),
     }
 }

@@ -11,7 +11,7 @@ ghost use Rattle.web_ops.specs.Replies.{cap_reply};
 ghost use Rattle.web_ops.specs.Replied.{IsStored};
 ghost use Rattle.web_ops.specs.Calls.{IsCarriedOut, IsPerformed};
 
-use crate::failed::{Failure, failure};
+use crate::failed::{Failure, failure_reply};
 use crate::replies::cap_reply;
 use crate::reply::Reply;
 use caps::Cap;
@@ -58,7 +58,7 @@ pub fn make_directory<S: Store>(
             store(alloc, grid, k, n, secret, text, true)
         }
         Err(fault) if is_memory(&fault) => Err(AllocError),
-        Err(_) => failure(alloc, Failure::BadChildren),
+        Err(_) => failure_reply(alloc, Failure::BadChildren),
     }
 }
 
@@ -84,8 +84,8 @@ fn store<S: Store>(
             let named = named(cap, directory);
             cap_reply(alloc, &named)
         }
-        Err(GridFault::Full(_)) => failure(alloc, Failure::StoreFull),
-        Err(GridFault::Down(_)) => failure(alloc, Failure::StoreDown),
+        Err(GridFault::Full(_)) => failure_reply(alloc, Failure::StoreFull),
+        Err(GridFault::Down(_)) => failure_reply(alloc, Failure::StoreDown),
         Err(GridFault::NoMemory) => Err(AllocError),
         Err(GridFault::NoServer) => unreachable!(),
         Err(GridFault::BadImage(_)) => unreachable!(),

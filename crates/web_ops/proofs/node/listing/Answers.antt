@@ -12,5 +12,5 @@ returns-in_ok-dir_json-in-Ok c =
 
 pub returns-in-Err-2 : goal.returns-in-Err-2
 returns-in-Err-2 c =
-    IfOk-weaker c.failure.result _ _ (λ reply is. is ∙ ap (children_reply c.args.cap.now) (sym (none_of _ _ c.in-Err.fault (λ entries. c.texts_and_entries_belong_together.ensures.children entries c.args.bytes.now)
-    (c.in-Err.ensures.refused (not_met c.is_memory.result _ c.is_memory.ensures c.if-is_memory.false))))) c.failure.ensures
+    IfOk-weaker c.failure_reply.result _ _ (λ reply is. is ∙ ap (children_reply c.args.cap.now) (sym (none_of _ _ c.in-Err.fault (λ entries. c.texts_and_entries_belong_together.ensures.children entries c.args.bytes.now)
+    (c.in-Err.ensures.refused (not_met c.is_memory.result _ c.is_memory.ensures c.if-is_memory.false))))) c.failure_reply.ensures

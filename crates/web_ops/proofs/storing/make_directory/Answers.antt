@@ -13,6 +13,6 @@ returns-in-Err-clause-done g c = not_begun (encoding_of c.args.k c.args.n c.args
 
 pub returns-in-Err-2-clause-done : goal.returns-in-Err-2-clause-done
 returns-in-Err-2-clause-done g c =
-    no_directory (encoding_of c.args.k c.args.n c.args.secret.now) c.args.json.now c.failure.result c.args.grid.now
+    no_directory (encoding_of c.args.k c.args.n c.args.secret.now) c.args.json.now c.failure_reply.result c.args.grid.now
     (none_of _ _ c.in-Err.fault (λ entries. c.made_children_are_named.ensures entries c.args.json.now) (c.in-Err.ensures.refused (not_met c.is_memory.result _ c.is_memory.ensures c.if-is_memory.false)))
-    c.failure.ensures
+    c.failure_reply.ensures
