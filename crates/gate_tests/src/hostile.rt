@@ -79,26 +79,29 @@ fn two_are_told(gateway: &mut Gateway<FailAt>, rows: &[Row<'_>]) -> Result<(), F
     are_told(gateway, rows)
 }
 
-/// A row, the rows before it, with how many calls of the store they make, and the reply where a call fails.
+/// A row, the rows before it, the reply where a call of the store fails, and how many calls both make where none does.
 struct Trial {
     before: &'static [Row<'static>],
-    calls: u64,
+    calls_before: u64,
     row: Row<'static>,
+    calls: u64,
     refusal: &'static [u8],
 }
 
-/// The file of letters is put, which takes ten calls, and got.
+/// The file of letters is put, by ten calls, and got, by one for the numbers of its shares and three for their bytes.
 const TRIALS: &[Trial] = &[
     Trial {
         before: &[],
-        calls: 0,
+        calls_before: 0,
         row: STORED,
+        calls: 10,
         refusal: STORE_DOWN,
     },
     Trial {
         before: &[STORED],
-        calls: 10,
+        calls_before: 10,
         row: FOUND,
+        calls: 4,
         refusal: NOT_ENOUGH,
     },
 ];
@@ -113,12 +116,15 @@ fn each_failure_of_a_store_is_told(rt: HostRuntime) -> Result<(), Fail> {
     Ok(())
 }
 
-/// A trial holds whichever call of its store fails, from the first on until none does, which is after ten.
+/// A trial holds whichever call of its store fails, from the first on until none does, which is after the calls of its row.
 fn holds_at_each_failure(alloc: Global, trial: &Trial, for_good: bool) -> Result<(), Fail> {
     for at in 1..100 {
-        let mut gateway = failing(alloc, trial.calls.saturating_add(at), for_good)?;
+        let mut gateway = failing(alloc, trial.calls_before.saturating_add(at), for_good)?;
         if !fails_in(&mut gateway, trial, for_good)? {
-            return holds(at > 10, "fewer calls");
+            return holds(
+                at == trial.calls.saturating_add(1),
+                "another number of calls",
+            );
         }
     }
     holds(false, "no end of calls")
