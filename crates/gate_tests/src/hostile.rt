@@ -116,7 +116,7 @@ fn each_failure_of_a_store_is_told(rt: HostRuntime) -> Result<(), Fail> {
     Ok(())
 }
 
-/// A trial holds whichever call of its store fails, from the first on until none does, which is after the calls of its row.
+/// A trial holds whichever call of its store fails, from the first on until none does, which is after those of its row.
 fn holds_at_each_failure(alloc: Global, trial: &Trial, for_good: bool) -> Result<(), Fail> {
     for at in 1..100 {
         let mut gateway = failing(alloc, trial.calls_before.saturating_add(at), for_good)?;
