@@ -33,9 +33,9 @@ returns-in-Err-Full-clause-done g c =
 pub returns-in-Err-Down-clause-done : goal.returns-in-Err-Down-clause-done
 returns-in-Err-Down-clause-done g c =
     let was = c.in-Err-Down.is ∙ ap Err c.in-Err-Down.field-0-is in
-    stopped (uploaded c.args.k c.args.n c.args.secret.now c.args.bytes.items) _ c.failure_reply-2.result c.args.grid.now c.upload.new.grid c.upload.ensures.leaves (subst AreBytes c.deref.ensures.value c.are_bytes.ensures) (λ few. (c.upload.ensures.short few).0)
-    (IfOk-weaker c.failure_reply-2.result _ _ (λ reply is. inr (inr is)) c.failure_reply-2.ensures)
-    (IfOk-weaker c.failure_reply-2.result _ _ (λ reply is. down_tells _ _ reply _ _ is (c.upload.ensures.stops_down _ was) ((c.upload.ensures.down _).0 was)) c.failure_reply-2.ensures)
+    stopped (uploaded c.args.k c.args.n c.args.secret.now c.args.bytes.items) _ c.failure_reply-in-Err-Down.result c.args.grid.now c.upload.new.grid c.upload.ensures.leaves (subst AreBytes c.deref.ensures.value c.are_bytes.ensures) (λ few. (c.upload.ensures.short few).0)
+    (IfOk-weaker c.failure_reply-in-Err-Down.result _ _ (λ reply is. inr (inr is)) c.failure_reply-in-Err-Down.ensures)
+    (IfOk-weaker c.failure_reply-in-Err-Down.result _ _ (λ reply is. down_tells _ _ reply _ _ is (c.upload.ensures.stops_down _ was) ((c.upload.ensures.down _).0 was)) c.failure_reply-in-Err-Down.ensures)
     c.in-Err-Down.ensures.begun
     (λ honest room calm. absurd (rose c.args.grid.now c.upload.new.grid _ ((c.upload.ensures.down _).0 was) calm))
     (λ few. absurd (down_is_not_memory _ (unless c.upload.result _ _ was (c.upload.ensures.short few).1)))
