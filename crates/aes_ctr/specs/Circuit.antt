@@ -1,6 +1,7 @@
 -- SubBytes as a circuit over bits: 115 gates and four complements (Boyar and Peralta, "A New Combinational Logic
 -- Minimization Technique with Applications to Cryptology", 2010), whose gates keep their published names. It takes the
 -- bits of a byte, the lowest first, or numbers that each have one bit of several bytes at each place.
+-- For private clauses.
 use Rattle.std.specs.Prelude.{ℕ, ◌-◌, List, [], ◌∷◌, bit_xor, bit_and, slice_index}
 
 infixl 70 ◌⊕◌

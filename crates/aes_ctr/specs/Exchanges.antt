@@ -1,5 +1,6 @@
 -- A transposition of 8 by 8 bits by exchanges, in three rounds, at distances 1, 2 and 4. Of two rows that lie a distance
 -- apart, the first gives the bits of its upper places, and takes those of the second's lower places for them.
+-- For private clauses.
 use Rattle.std.specs.Prelude.{ℕ, ◌≡◌, ◌+◌, ◌-◌, ◌/◌, ◌%◌, ◌⊎◌, Bool, List, cond, map, nat_eq}
 use Rattle.std.specs.List.{range_with_len}
 use Rattle.aes_ctr.specs.Planes.{byte_of, lanes}

@@ -1,5 +1,5 @@
 -- Eight states bit by bit, in eight vectors of 16 bytes: plane b has, at bit j of byte i, bit b of byte i of state j. So
--- what is done to one plane's bits, or between planes, is done to 128 bytes at once.
+-- what is done to one plane's bits, or between planes, is done to 128 bytes at once; for private clauses.
 use Rattle.std.specs.Prelude.{◌≡◌, ℕ, ◌+◌, ◌*◌, ◌%◌, ◌<◌, List, [], ◌∷◌, map, slice_index, slice_index_or}
 use Rattle.std.specs.List.{range_with_len}
 use Rattle.std.specs.Int.{bit_at}

@@ -21,7 +21,7 @@ pub record Spells (text bytes : List ℕ) : Type 0 where
 unfoldable pub spelling : List ℕ → List ℕ
 spelling bytes = map letter_of (groups 5 ((8 * length bytes + 4) / 5) (joined 8 bytes ++ replicate 4 0))
 
--- a text, and letters after it
+-- a text, and letters after it; for private clauses
 pub record HasMore (text more : List ℕ) : Type 0 where
   pub letters : List ℕ
   pub follows : more ≡ text ++ letters

@@ -16,7 +16,7 @@ field_fault BadLength = BadField
 field_fault LooseBits = BadField
 field_fault b32.NoMemory = NoMemory
 
--- a field that was to be so many bytes
+-- a field that was to be so many bytes; for private clauses
 abbrev pub RefusesCount : CapFault → ℕ → List ℕ → Type 0
 RefusesCount UnknownKind count text = ⊥
 RefusesCount Mutable count text = ⊥
@@ -24,7 +24,7 @@ RefusesCount BadField count text = (bytes : List ℕ) → Spells text bytes → 
 RefusesCount BadNumber count text = ⊥
 RefusesCount NoMemory count text = Unit {0}
 
--- a field that was to be bytes
+-- a field that was to be bytes; for private clauses
 abbrev pub RefusesBytes : CapFault → List ℕ → Type 0
 RefusesBytes UnknownKind text = ⊥
 RefusesBytes Mutable text = ⊥
@@ -32,7 +32,7 @@ RefusesBytes BadField text = LacksBytes text
 RefusesBytes BadNumber text = ⊥
 RefusesBytes NoMemory text = Unit {0}
 
--- what was to be five fields
+-- what was to be five fields; for private clauses
 abbrev pub RefusesFields : CapFault → List ℕ → Type 0
 RefusesFields UnknownKind text = ⊥
 RefusesFields Mutable text = ⊥
@@ -40,7 +40,7 @@ RefusesFields BadField text = LacksFields text
 RefusesFields BadNumber text = LacksNumbers text
 RefusesFields NoMemory text = Unit {0}
 
--- what follows the beginning of a kind
+-- what follows the beginning of a kind; for private clauses
 abbrev pub RefusesRest : CapFault → Kind → List ℕ → Type 0
 RefusesRest UnknownKind kind rest = ⊥
 RefusesRest Mutable kind rest = ⊥

@@ -23,7 +23,7 @@ use Rattle.share_codec.specs.Segments.{block_size, segment_count, segment_length
 use Rattle.share_codec.specs.Texts.{Texts, share_text}
 use Rattle.share_codec.specs.Shares.{blocks, roots_of}
 use Rattle.share_codec.specs.GoodShare.{GoodShare, good_share}
-use Rattle.chk_file.specs.Row.{Row, Place, places, first_good, good_at, good_shares}
+use Rattle.chk_file.specs.Row.{ShareTable, Place, places, first_good, good_at, good_shares}
 use Rattle.chk_file.specs.Taken.{AreTaken}
 use Rattle.chk_file.specs.Fit.{blocks_at, decoded_at, segment_from, has_zeros, has_padding, has_root, is_of, crypttext_from, given_by, fit_in}
 use Rattle.chk_file.specs.IsFit.{IsByteRow, IsGivenBy}
@@ -89,7 +89,7 @@ module _ (read : ReadFrom) (p : ParamsValue) (ueb : List ℕ) where
   place_bytes server None are = tt
   place_bytes server (Some s) are = are
 
-  pub row_bytes : (row : Row) → IsByteRow row → All HasBytes (good_shares p ueb row)
+  pub row_bytes : (row : ShareTable) → IsByteRow row → All HasBytes (good_shares p ueb row)
   row_bytes row are =
       All-filter_map HasBytes (good_at p ueb row) (range_with_len 0 p.n)
       (λ number. first_bytes number (places row number)
@@ -207,7 +207,7 @@ top_of p c (suc k) (share ∷ shares) some top =
     (All-nil (λ (s : GoodShare). (roots_of p c).crypttext_root ≡ s.ueb.crypttext_root))
 
 module _ (read : ReadFrom) (is_cut : GoodIsCut) (count : DecodedCount) (are : DecodedBlocks) (back : DecodedGiven) (cut : JoinedCut) (twice : Twice) (is : CryptIs) (long : CryptLength)
-    (p : ParamsValue) (sharing : IsSharing p.k p.n) (key ueb : List ℕ) (row : Row) (row_are : IsByteRow row) (bytes : List ℕ) where
+    (p : ParamsValue) (sharing : IsSharing p.k p.n) (key ueb : List ℕ) (row : ShareTable) (row_are : IsByteRow row) (bytes : List ℕ) where
   given_enough : p.k ≤ length (good_shares p ueb row) → given_by p key (take p.k (good_shares p ueb row)) ≡ Some bytes → IsGivenBy p key (good_shares p ueb row) bytes
   given_enough enough e =
       let all = good_shares p ueb row in

@@ -11,7 +11,7 @@ use Rattle.grid.specs.Leaves.{Leaves}
 use Rattle.grid.specs.Stamped.{IsStamped}
 use Rattle.caps.specs.Fields.{ReadValue}
 use Rattle.caps.specs.StorageIndex.{index_of}
-use Rattle.chk_file.specs.Row.{Row, row_of}
+use Rattle.chk_file.specs.Row.{ShareTable, row_of}
 use Rattle.chk_file.specs.Fit.{fit}
 use Rattle.chk_file.specs.Cached.{CacheEntry, IsWithin, IsWithinOr, IsCurrent, IsFresh}
 
@@ -26,7 +26,7 @@ current_stays old new left stamped entry current =
       low = omega (arith, current.low, stamped.rises si);
       counts = λ all is fits.
           let stayed : raised_at new si ≡ raised_at old si = omega (arith, current.low, stamped.rises si, is) in
-          ap (λ (row : Row). fit row entry.0) (row_stays old new left stamped si all stayed (λ last. fits (sym is ∙ last)))
+          ap (λ (row : ShareTable). fit row entry.0) (row_stays old new left stamped si all stayed (λ last. fits (sym is ∙ last)))
           ∙ current.counts (left.was_honest all) (sym stayed ∙ is) fits;
     }
 
@@ -69,7 +69,7 @@ fresh_kept cache kept old new f stamp bytes left stamped calm is read within fre
       low = omega (arith, told.0, stamped.rises si);
       counts = λ all present fits.
           let stayed : raised_at new si ≡ raised_at old si = present ∙ sym told.0 in
-          ap (λ (row : Row). fit row f) (row_stays old new left stamped si all stayed (λ last. fits (sym present ∙ last)))
+          ap (λ (row : ShareTable). fit row f) (row_stays old new left stamped si all stayed (λ last. fits (sym present ∙ last)))
           ∙ read (left.was_honest all) calm;
     } in
     elim (within entry there) [

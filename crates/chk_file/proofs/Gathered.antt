@@ -16,7 +16,7 @@ use Rattle.grid.specs.FoundLaws.{FoundLaws}
 use Rattle.grid.specs.Standing.{standing}
 use Rattle.share_codec.specs.Params.{ParamsValue}
 use Rattle.share_codec.specs.GoodShare.{GoodShare}
-use Rattle.chk_file.specs.Row.{Row, row_of, most_servers, Place, places, first_good, good_at}
+use Rattle.chk_file.specs.Row.{ShareTable, row_of, most_servers, Place, places, first_good, good_at}
 use Rattle.chk_file.specs.Check.{is_some_place, standing_numbers, bad_places}
 use Rattle.chk_file.specs.Gathered.{Found, of_number, by_number, good_below, bad_below, some_below}
 use Rattle.chk_file.proofs.Tools.{true_or_false, mapped_alike, kept_alike, flat_alike, filter_alike, none_past, begun}
@@ -96,7 +96,7 @@ of_standing laws number maps index few =
 
 -- ---- what is made of the rows is made of the row of which they are
 
-module _ (found : List Found) (row : Row) (same : (number : ℕ) → of_number number found ≡ places row number) (n : ℕ) where
+module _ (found : List Found) (row : ShareTable) (same : (number : ℕ) → of_number number found ≡ places row number) (n : ℕ) where
   abbrev rows : List (List Place)
   rows = by_number n found
 
@@ -121,7 +121,7 @@ module _ (found : List Found) (row : Row) (same : (number : ℕ) → of_number n
 -- ---- what was gathered of low numbers alone
 
 -- where it is what stands there, its good shares are the first of those of the row
-pub low_are_first : (found : List Found) (row : Row) (limit : ℕ) → ((number : ℕ) → number < limit → of_number number found ≡ places row number)
+pub low_are_first : (found : List Found) (row : ShareTable) (limit : ℕ) → ((number : ℕ) → number < limit → of_number number found ≡ places row number)
     → ((number : ℕ) → limit ≤ number → of_number number found ≡ []) → (n : ℕ) (p : ParamsValue) (ueb : List ℕ)
     → (more : List GoodShare) × (filter_map (good_at p ueb row) (range_with_len 0 n) ≡ good_below p ueb (by_number n found) n ++ more)
 low_are_first found row limit same past n p ueb =

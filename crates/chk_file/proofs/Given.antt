@@ -15,7 +15,7 @@ use Rattle.octets.specs.Sharing.{IsSharing}
 use Rattle.share_codec.specs.Segments.{segment_count, segment_length}
 use Rattle.share_codec.specs.Shares.{blocks, roots_of}
 use Rattle.share_codec.specs.GoodShare.{GoodShare}
-use Rattle.chk_file.specs.Row.{Row, good_shares}
+use Rattle.chk_file.specs.Row.{ShareTable, good_shares}
 use Rattle.chk_file.specs.Fit.{blocks_at, segment_from, has_zeros, has_padding, has_root, is_of, crypttext_from, given_by, fit_in}
 use Rattle.chk_file.specs.IsFit.{IsGivenBy}
 use Rattle.chk_file.proofs.Tools.{pairs_taken}
@@ -61,7 +61,7 @@ module _ (p : ParamsValue) (crypttext : List ℕ) where
       (bytes_decides (roots_of p crypttext).crypttext_root share.ueb.crypttext_root).1 (All-head (λ (s : GoodShare). (roots_of p crypttext).crypttext_root ≡ s.ueb.crypttext_root) share [] all)
 
 module _ (read : ReadFrom) (is_cut : GoodIsCut) (decodes : Decodes) (padded : Padded) (twice : Twice) (is : CryptIs) (long : CryptLength) (stay : CryptBytes)
-    (p : ParamsValue) (sharing : IsSharing p.k p.n) (key ueb : List ℕ) (row : Row) (bytes : List ℕ) (key_bytes : AreBytes key) (are : AreBytes bytes) (given : IsGivenBy p key (good_shares p ueb row) bytes) where
+    (p : ParamsValue) (sharing : IsSharing p.k p.n) (key ueb : List ℕ) (row : ShareTable) (bytes : List ℕ) (key_bytes : AreBytes key) (are : AreBytes bytes) (given : IsGivenBy p key (good_shares p ueb row) bytes) where
   pub given_is_fit : fit_in p key (good_shares p ueb row) ≡ Some bytes
   given_is_fit =
       let goods = good_shares p ueb row in

@@ -14,7 +14,7 @@ use Rattle.share_codec.specs.Segments.{segment_count, block_length}
 use Rattle.share_codec.specs.Tags.{extension_hash}
 use Rattle.share_codec.specs.GoodShare.{GoodShare, IsCut}
 use Rattle.share_codec.specs.GoodShare.{good_share}
-use Rattle.chk_file.specs.Row.{Row, Place, places, first_good, good_at, good_shares}
+use Rattle.chk_file.specs.Row.{ShareTable, Place, places, first_good, good_at, good_shares}
 use Rattle.chk_file.specs.Check.{if_bad, bad_places}
 use Rattle.chk_file.specs.Taken.{AreTaken}
 use Rattle.chk_file.specs.Fit.{blocks_at}
@@ -187,7 +187,7 @@ module _ (p : ParamsValue) (ueb : List ℕ) (number : ℕ) where
 
 -- ---- the good shares of a row
 
-module _ (read : ReadFrom) (is_cut : GoodIsCut) (p : ParamsValue) (ueb : List ℕ) (row : Row) where
+module _ (read : ReadFrom) (is_cut : GoodIsCut) (p : ParamsValue) (ueb : List ℕ) (row : ShareTable) where
   pub row_known : All (IsKnown read is_cut p ueb) (good_shares p ueb row)
   row_known = all_known read is_cut p ueb (good_at p ueb row) (λ number. of_first read is_cut p ueb number (places row number)) p.n
 

@@ -11,7 +11,7 @@ use Rattle.grid.specs.Found.{found_below, AllBut}
 use Rattle.grid.specs.FoundLaws.{FoundLaws}
 use Rattle.grid.specs.GridState.{GridState, maps_of, failures_at}
 use Rattle.grid.specs.Standing.{standing}
-use Rattle.chk_file.specs.Row.{Row, most_servers, Place, places}
+use Rattle.chk_file.specs.Row.{ShareTable, most_servers, Place, places}
 use Rattle.chk_file.specs.Reached.{IsReached}
 use Rattle.chk_file.specs.Gathered.{Found, of_number}
 use Rattle.chk_file.proofs.Tools.{none_past}
@@ -117,7 +117,7 @@ all_at old index number = filter_map (placed_at (stands_at old index number)) (r
 
 -- a row that was reached, in which this stands of each number
 record IsListed (old new : GridState) (index : List ℕ) (lists : ℕ → List Place) : Type 0 where
-  pub row : Row
+  pub row : ShareTable
   pub reached : IsReached old new index row
   pub is : (number : ℕ) → lists number ≡ places row number
 
@@ -146,7 +146,7 @@ module _ (old new : GridState) (index : List ℕ) (few : length old.stores ≤ 2
 
 -- a row that was reached, and what was gathered is what stands in it
 pub record IsGathered (old new : GridState) (index : List ℕ) (found : List Found) : Type 0 where
-  pub row : Row
+  pub row : ShareTable
   pub reached : IsReached old new index row
   pub is : (number : ℕ) → of_number number found ≡ places row number
 
@@ -201,7 +201,7 @@ high_dropped number limit high (f ∷ fs) = by_case (nat_lt f.1 limit) refl (hig
 
 -- a row that was reached, and what was gathered is what stands in it of the numbers below a limit
 pub record IsGatheredBelow (limit : ℕ) (old new : GridState) (index : List ℕ) (found : List Found) : Type 0 where
-  pub row : Row
+  pub row : ShareTable
   pub reached : IsReached old new index row
   pub is : (number : ℕ) → number < limit → of_number number found ≡ places row number
   pub past : (number : ℕ) → limit ≤ number → of_number number found ≡ []

@@ -16,11 +16,11 @@ CacheEntry = ReadValue × (ℕ × List ℕ)
 abbrev pub AreBound : List CacheEntry → Type 0
 AreBound entries = (fields : ReadValue) (stamp : ℕ) (bytes : List ℕ) → Contains entries (fields, (stamp, bytes)) → Bound fields bytes
 
--- each entry of the new list stands in the old one
+-- each entry of the new list stands in the old one; for private clauses
 abbrev pub IsWithin : List CacheEntry → List CacheEntry → Type 0
 IsWithin old new = (entry : CacheEntry) → Contains new entry → Contains old entry
 
--- each entry of the new list stands in the old one, or is the one that was put
+-- each entry of the new list stands in the old one, or is the one that was put; for private clauses
 abbrev pub IsWithinOr : List CacheEntry → List CacheEntry → CacheEntry → Type 0
 IsWithinOr old new put = (entry : CacheEntry) → Contains new entry → Contains old entry ⊎ (entry ≡ put)
 

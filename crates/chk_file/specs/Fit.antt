@@ -10,7 +10,7 @@ use Rattle.share_codec.specs.Shares.{roots_of}
 use Rattle.share_codec.specs.GoodShare.{GoodShare}
 use Rattle.caps.specs.Fields.{ReadValue}
 use Rattle.chk_file.specs.Numbers.{params_of}
-use Rattle.chk_file.specs.Row.{Row, good_shares}
+use Rattle.chk_file.specs.Row.{ShareTable, good_shares}
 
 -- the blocks of a segment in these shares, numbered
 abbrev pub blocks_at : List GoodShare → ℕ → List (ℕ × List ℕ)
@@ -52,5 +52,5 @@ given_by p key shares = if is_of p (crypttext_from p shares) shares then Some (c
 abbrev pub fit_in : ParamsValue → List ℕ → List GoodShare → Option (List ℕ)
 fit_in p key shares = if nat_le p.k (length shares) then given_by p key (take p.k shares) else None
 
-abbrev pub fit : Row → ReadValue → Option (List ℕ)
+abbrev pub fit : ShareTable → ReadValue → Option (List ℕ)
 fit row f = let p = params_of f.k f.n f.size in fit_in p f.key (good_shares p f.ueb row)

@@ -7,7 +7,7 @@ use Rattle.share_codec.specs.Shares.{blocks, roots_of}
 use Rattle.share_codec.specs.GoodShare.{GoodShare}
 use Rattle.caps.specs.Fields.{ReadValue}
 use Rattle.chk_file.specs.Numbers.{params_of}
-use Rattle.chk_file.specs.Row.{Row, good_shares}
+use Rattle.chk_file.specs.Row.{ShareTable, good_shares}
 
 -- bytes of the size whose crypttext has, in the first k of these shares, the blocks that stand there, and whose
 -- crypttext root is that of the first
@@ -18,8 +18,8 @@ pub record IsGivenBy (p : ParamsValue) (key : List ℕ) (shares : List GoodShare
   pub top : All (λ (share : GoodShare). (roots_of p (crypt key bytes)).crypttext_root ≡ share.ueb.crypttext_root) (take 1 shares)
 
 -- what stands in a row are bytes
-abbrev pub IsByteRow : Row → Type 0
+abbrev pub IsByteRow : ShareTable → Type 0
 IsByteRow row = (server number : ℕ) → IfSome (row server number) AreBytes
 
-abbrev pub IsFit : Row → ReadValue → List ℕ → Type 0
+abbrev pub IsFit : ShareTable → ReadValue → List ℕ → Type 0
 IsFit row f bytes = let p = params_of f.k f.n f.size in IsGivenBy p f.key (good_shares p f.ueb row) bytes

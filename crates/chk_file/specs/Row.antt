@@ -10,11 +10,11 @@ use Rattle.grid.specs.Standing.{Standing}
 use Rattle.share_codec.specs.GoodShare.{good_share}
 
 -- what stands at each server under each number
-abbrev pub Row : Type 0
-Row = ℕ → ℕ → Option (List ℕ)
+abbrev pub ShareTable : Type 0
+ShareTable = ℕ → ℕ → Option (List ℕ)
 
 -- of what stands in a grid, the row of a storage index
-abbrev pub row_of : Standing → List ℕ → Row
+abbrev pub row_of : Standing → List ℕ → ShareTable
 row_of standing index server number = standing server (index, number)
 
 -- more servers there aren't
@@ -26,7 +26,7 @@ abbrev pub Place : Type 0
 Place = ℕ × List ℕ
 
 -- the places at which something stands of a number, in the order of the servers
-abbrev pub places : Row → ℕ → List Place
+abbrev pub places : ShareTable → ℕ → List Place
 places row number = filter_map (λ server. option_map (λ s. (server, s)) (row server number)) (range_with_len 0 most_servers)
 
 -- the first good share among the places of a number
@@ -35,17 +35,17 @@ first_good p ueb number [] = None
 first_good p ueb number (place ∷ more) = option_or (good_share place.1 number p ueb) (first_good p ueb number more)
 
 -- the good share of a number, at the least server that has one
-abbrev pub good_at : ParamsValue → List ℕ → Row → ℕ → Option GoodShare
+abbrev pub good_at : ParamsValue → List ℕ → ShareTable → ℕ → Option GoodShare
 good_at p ueb row number = first_good p ueb number (places row number)
 
 -- those of all numbers that have one, in the order of the numbers
-abbrev pub good_shares : ParamsValue → List ℕ → Row → List GoodShare
+abbrev pub good_shares : ParamsValue → List ℕ → ShareTable → List GoodShare
 good_shares p ueb row = filter_map (good_at p ueb row) (range_with_len 0 p.n)
 
 -- what is hashed to verify what stands at a place
-abbrev pub place_uses : ParamsValue → Row → ℕ → ℕ → List Use
+abbrev pub place_uses : ParamsValue → ShareTable → ℕ → ℕ → List Use
 place_uses p row number server = option_map_or (λ s. meets_uses s number p) (row server number) []
 
 -- and all that stands in a row
-unfoldable pub row_uses : ParamsValue → Row → List Use
+unfoldable pub row_uses : ParamsValue → ShareTable → List Use
 row_uses p row = flat_map (λ number. flat_map (place_uses p row number) (range_with_len 0 most_servers)) (range_with_len 0 p.n)

@@ -60,8 +60,8 @@ abbrev pub shares_of : Upload → List (List ℕ)
 shares_of u = map (share_of u) (range_with_len 0 u.n)
 
 -- its cap: short bytes stand in the cap itself
-abbrev pub cap_of : Upload → Cap
-cap_of u = if nat_lt 55 (length u.bytes) then Chk (fields u) else Lit u.bytes
+abbrev pub upload_cap : Upload → Cap
+upload_cap u = if nat_lt 55 (length u.bytes) then Chk (fields u) else Lit u.bytes
 
 -- what an upload can be
 pub record IsUpload (u : Upload) : Type 0 where

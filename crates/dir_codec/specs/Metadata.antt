@@ -14,9 +14,11 @@ json_of bytes = if is_utf8 bytes then read bytes else None
 abbrev pub is_whole : Data → ℕ → Bool
 is_whole d levels = not (has_float d) && nat_le (depth d) levels
 
+-- for private clauses
 abbrev pub items_are_whole : Items → ℕ → Bool
 items_are_whole ds levels = not (items_have_float ds) && nat_le (items_depth ds) levels
 
+-- for private clauses
 abbrev pub members_are_whole : Members → ℕ → Bool
 members_are_whole ms levels = not (members_have_float ms) && nat_le (members_depth ms) levels
 

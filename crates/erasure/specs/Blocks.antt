@@ -10,7 +10,7 @@ abbrev pub mul_below : ℕ → (ℕ → ℕ) → ℕ
 mul_below zero f = 1
 mul_below (suc n) f = mul_of (mul_below n f) (f n)
 
--- how far x is from each of the points, multiplied
+-- how far x is from each of the points, multiplied; for private clauses
 abbrev pub whole_distance_of : List ℕ → ℕ → ℕ
 whole_distance_of places x = mul_below (length places) (λ m. bit_xor x (slice_index places m))
 

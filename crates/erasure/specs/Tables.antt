@@ -1,4 +1,4 @@
--- Products of one element with whole blocks.
+-- Products of one element with whole blocks; for private clauses.
 use Rattle.std.specs.Prelude.{◌≡◌, ◌*◌, ◌%◌, ◌<◌, ◌≤◌, ℕ, List, slice_index, bit_xor}
 use Rattle.gf_field.specs.Field.{mul_of}
 

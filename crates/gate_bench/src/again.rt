@@ -76,10 +76,10 @@ pub(crate) fn make_each(alloc: Global) -> Outcome {
 fn reserved(alloc: Global) -> Result<Room, AllocError> {
     let file = counted_bytes(alloc, SIZE)?;
     Ok(Room {
-        put: joined(alloc, &[PUT, &file])?,
-        get: joined(alloc, &[b"GET /uri/", CAP, b" HTTP/1.1\r\nHost: g\r\n\r\n"])?,
-        stored: joined(alloc, &[STORED, CAP])?,
-        given: joined(alloc, &[GIVEN, &file])?,
+        put: join(alloc, &[PUT, &file])?,
+        get: join(alloc, &[b"GET /uri/", CAP, b" HTTP/1.1\r\nHost: g\r\n\r\n"])?,
+        stored: join(alloc, &[STORED, CAP])?,
+        given: join(alloc, &[GIVEN, &file])?,
         reply: Vec::with_capacity(alloc, 2 * SIZE)?,
         image: Vec::with_capacity(alloc, 8 * SIZE)?,
         begun: Vec::with_capacity(alloc, 8 * SIZE)?,
@@ -87,7 +87,7 @@ fn reserved(alloc: Global) -> Result<Room, AllocError> {
     })
 }
 
-fn joined(alloc: Global, parts: &[&[u8]]) -> Result<Vec<u8>, AllocError> {
+fn join(alloc: Global, parts: &[&[u8]]) -> Result<Vec<u8>, AllocError> {
     let mut bytes = Vec::new(alloc);
     for part in parts {
         bytes.extend_from_slice(*part)?;

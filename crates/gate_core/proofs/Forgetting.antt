@@ -16,7 +16,7 @@ use Rattle.gate_core.specs.declared.fault.GatewayFault.{GatewayFault}
 use Rattle.gate_core.specs.declared.fault.GatewayFault.TheVariants.{NotOpen, NoMemory}
 use Rattle.gate_core.specs.Events.{Event, Take}
 use Rattle.gate_core.specs.Came.{Opening, Came, GoesOn}
-use Rattle.gate_core.specs.Held.{Held, Connections, State, IsBare, held_at, waiting, waiting_in, is_closed_in, bytes_refusal, take_refusal, forget_refusal, going_refusal}
+use Rattle.gate_core.specs.Held.{Held, Connections, State, IsBare, connection_at, waiting, waiting_in, is_closed_in, bytes_refusal, take_refusal, forget_refusal, going_refusal}
 use Rattle.gate_core.specs.Lefts.{with_held, taken}
 use Rattle.gate_core.specs.Forgotten.{gone, gone_in, gone_at, with_gone}
 use Rattle.gate_core.proofs.Maps.{get_viewed, written, insert_same, get-insert_other, Changed}
@@ -152,18 +152,18 @@ pub gone_closed : (b : Bool) → is_closed_in (cond b (Some gone) None) ≡ b
 gone_closed true = or_true (is_left_closed (part_of []))
 gone_closed false = refl
 
-module _ (g h : State) (id : ℕ) (ids : set.FinSet nat_cmp) (unheld : held_at g id ≡ gone_in ids id) where
-  pub unheld_refused : (P : Type 0) (Q : GatewayFault → Type 0) → Q NotOpen → h ≡ g → MatchOption (bytes_refusal (held_at g id)) P (λ e. Q e × (h ≡ g))
+module _ (g h : State) (id : ℕ) (ids : set.FinSet nat_cmp) (unheld : connection_at g id ≡ gone_in ids id) where
+  pub unheld_refused : (P : Type 0) (Q : GatewayFault → Type 0) → Q NotOpen → h ≡ g → MatchOption (bytes_refusal (connection_at g id)) P (λ e. Q e × (h ≡ g))
   unheld_refused P Q refused same = subst (λ o. MatchOption o P (λ e. Q e × (h ≡ g))) (sym (ap bytes_refusal unheld ∙ no_bytes (set.contains ids id))) (refused, same)
 
   pub unheld_waits : waiting g id ≡ []
   unheld_waits = ap waiting_in unheld ∙ nothing_waits (set.contains ids id)
 
-  pub unheld_closed : set.contains ids id ≡ is_closed_in (held_at g id)
+  pub unheld_closed : set.contains ids id ≡ is_closed_in (connection_at g id)
   unheld_closed = sym (ap is_closed_in unheld ∙ gone_closed (set.contains ids id))
 
   -- what waits of it is taken, which is nothing
-  pub unheld_taken : (max : ℕ) (held : Held) → held_at g id ≡ Some held → h ≡ g → h ≡ with_held g id (taken max held)
+  pub unheld_taken : (max : ℕ) (held : Held) → connection_at g id ≡ Some held → h ≡ g → h ≡ with_held g id (taken max held)
   unheld_taken max held found same =
       let is : taken max held ≡ gone = ap (taken max) (sym (gone_is (set.contains ids id) held (sym unheld ∙ found))) ∙ taken_gone max in
       same ∙ same_state (with_held g id (taken max held)) g refl
@@ -171,7 +171,7 @@ module _ (g h : State) (id : ℕ) (ids : set.FinSet nat_cmp) (unheld : held_at g
 
   -- what an id without an entry is answered
   pub unheld_answer : {T : Type 0} (r : Result T GatewayFault) (f : Option Held → Option GatewayFault) → MatchOption (f (gone_in ids id)) (IsOk r) (λ e. r ≡ Err e)
-      → MatchOption (f (held_at g id)) (IsOkUnless r NoMemory) (λ e. r ≡ Err e)
+      → MatchOption (f (connection_at g id)) (IsOkUnless r NoMemory) (λ e. r ≡ Err e)
   unheld_answer r f answer =
       subst (λ o. MatchOption (f o) (IsOkUnless r NoMemory) (λ e. r ≡ Err e)) (sym unheld)
       (elim (f (gone_in ids id)) as (λ o. MatchOption o (IsOk r) (λ e. r ≡ Err e) → MatchOption o (IsOkUnless r NoMemory) (λ e. r ≡ Err e)) [
@@ -181,12 +181,12 @@ module _ (g h : State) (id : ℕ) (ids : set.FinSet nat_cmp) (unheld : held_at g
 
   -- taking from it goes on
   pub unheld_came : {T : Type 0} (items : T → List ℕ) (r : Result T GatewayFault) (max : ℕ) → h ≡ g
-      → ((opening : Opening) (g : State) (events : List Event) (id max : ℕ) (held : Held) → Came opening g events → held_at g id ≡ Some held → Came opening (with_held g id (taken max held)) (events ++ Take id (take max held.waiting) ∷ []))
+      → ((opening : Opening) (g : State) (events : List Event) (id max : ℕ) (held : Held) → Came opening g events → connection_at g id ≡ Some held → Came opening (with_held g id (taken max held)) (events ++ Take id (take max held.waiting) ∷ []))
       → MatchOption (take_refusal (gone_in ids id)) (IsOk r) (λ e. r ≡ Err e) → IfOk r (λ x. items x ≡ []) → IfOk r (λ x. GoesOn g h (Take id (items x)))
   unheld_came items r max same law answer given =
       elim (set.contains ids id) as (λ b. set.contains ids id ≡ b → MatchOption (take_refusal (cond b (Some gone) None)) (IsOk r) (λ e. r ≡ Err e) → IfOk r (λ x. GoesOn g h (Take id (items x)))) [
         | true ↦ λ there _.
-            let found : held_at g id ≡ Some gone = unheld ∙ ap (λ b. cond b (Some gone) None) there in
+            let found : connection_at g id ≡ Some gone = unheld ∙ ap (λ b. cond b (Some gone) None) there in
             IfOk-weaker r _ _ (λ x none opening events came.
             subst (λ w. Came opening h (events ++ Take id w ∷ [])) (take-nil max ∙ sym none)
             (subst (λ s. Came opening s (events ++ Take id (take max gone.waiting) ∷ [])) (sym (unheld_taken max gone found same)) (law opening g events id max gone came found))) given
@@ -195,23 +195,23 @@ module _ (g h : State) (id : ℕ) (ids : set.FinSet nat_cmp) (unheld : held_at g
 
 -- ---- `forget`
 
-module _ (g : State) (id : ℕ) (old : Held) (found : held_at g id ≡ Some old) where
-  pub forgettable : (o : Option GatewayFault) (P : Type 0) (Q : GatewayFault → Type 0) → going_refusal old.stage ≡ o → MatchOption o P Q → MatchOption (forget_refusal (held_at g id)) P Q
+module _ (g : State) (id : ℕ) (old : Held) (found : connection_at g id ≡ Some old) where
+  pub forgettable : (o : Option GatewayFault) (P : Type 0) (Q : GatewayFault → Type 0) → going_refusal old.stage ≡ o → MatchOption o P Q → MatchOption (forget_refusal (connection_at g id)) P Q
   forgettable o P Q is answer = subst (λ x. MatchOption x P Q) (sym (ap forget_refusal found ∙ is)) answer
 
   -- of one that was cut nothing waits
-  pub cut_forgotten : (held : Held) → held_at g id ≡ Some held → IsBare old → old.stage ≡ stage.Cut → g ≡ with_held g id (taken (length held.waiting) held)
+  pub cut_forgotten : (held : Held) → connection_at g id ≡ Some held → IsBare old → old.stage ≡ stage.Cut → g ≡ with_held g id (taken (length held.waiting) held)
   cut_forgotten held there bare cut =
-      let is = meant (held_at g id) old held found there in
+      let is = meant (connection_at g id) old held found there in
       let none : held.waiting ≡ [] = subst (λ x. x.waiting ≡ []) is (bare.cut cut) in
       let same : taken (length held.waiting) held ≡ held = λ i. record { secret = held.secret; conn = held.conn; stage = held.stage; waiting = (drop-length held.waiting ∙ sym none) i } in
       same_state (with_held g id (taken (length held.waiting) held)) g refl (sym (insert_same g.connections id (taken (length held.waiting) held) (there ∙ ap Some (sym same)))) refl
 
   -- one that ended is put away
-  pub ended_forgotten : (h : State) (held : Held) → held_at g id ≡ Some held → IsBare old → old.stage ≡ stage.Ended
+  pub ended_forgotten : (h : State) (held : Held) → connection_at g id ≡ Some held → IsBare old → old.stage ≡ stage.Ended
       → h.settings ≡ g.settings → h.connections ≡ map.insert g.connections id gone → h.grid ≡ g.grid → h ≡ with_held g id (taken (length held.waiting) held)
   ended_forgotten h held there bare ended settings put grid =
-      let is = meant (held_at g id) old held found there in
+      let is = meant (connection_at g id) old held found there in
       let kept : (held.secret ≡ None) × (held.conn ≡ part_of []) = subst (λ x. (x.secret ≡ None) × (x.conn ≡ part_of [])) is (bare.ended ended) in
       let over : held.stage ≡ stage.Ended = subst (λ x. x.stage ≡ stage.Ended) is ended in
       let same : gone ≡ taken (length held.waiting) held = λ i. record { secret = sym kept.0 i; conn = sym kept.1 i; stage = sym over i; waiting = sym (drop-length held.waiting) i } in
@@ -221,22 +221,22 @@ both_ways : {T E : Type 0} (r : Result T E) (X : Type 0) → OnOk r X → OnErr 
 both_ways (Ok x) X ok err = ok
 both_ways (Err e) X ok err = err
 
-module _ (g h : State) (id : ℕ) (r : Result (Unit {0}) GatewayFault) (answer : MatchOption (forget_refusal (held_at g id)) (IsOkUnless r NoMemory) (λ e. r ≡ Err e))
-    (left : (held : Held) → held_at g id ≡ Some held → OnOk r (h ≡ with_held g id (taken (length held.waiting) held))) where
-  where_forgotten : (X : Type 0) → ((held : Held) → held_at g id ≡ Some held → h ≡ with_held g id (taken (length held.waiting) held) → X) → OnOk r X
+module _ (g h : State) (id : ℕ) (r : Result (Unit {0}) GatewayFault) (answer : MatchOption (forget_refusal (connection_at g id)) (IsOkUnless r NoMemory) (λ e. r ≡ Err e))
+    (left : (held : Held) → connection_at g id ≡ Some held → OnOk r (h ≡ with_held g id (taken (length held.waiting) held))) where
+  where_forgotten : (X : Type 0) → ((held : Held) → connection_at g id ≡ Some held → h ≡ with_held g id (taken (length held.waiting) held) → X) → OnOk r X
   where_forgotten X step =
-      elim (held_at g id) as (λ o. held_at g id ≡ o → MatchOption (forget_refusal o) (IsOkUnless r NoMemory) (λ e. r ≡ Err e) → OnOk r X) [
+      elim (connection_at g id) as (λ o. connection_at g id ≡ o → MatchOption (forget_refusal o) (IsOkUnless r NoMemory) (λ e. r ≡ Err e) → OnOk r X) [
         | None ↦ λ _ err. subst (λ x. OnOk x X) (sym err) tt
         | Some held ↦ λ found _. on_ok_weaker r (step held found) (left held found)
       ] refl answer
 
-  pub forgotten_others : OnErr r (h ≡ g) → (other : ℕ) → other ≢ id → held_at h other ≡ held_at g other
+  pub forgotten_others : OnErr r (h ≡ g) → (other : ℕ) → other ≢ id → connection_at h other ≡ connection_at g other
   forgotten_others err other apart =
       both_ways r _
-      (where_forgotten (held_at h other ≡ held_at g other) (λ held found is. ap (λ s. held_at s other) is ∙ get-insert_other g.connections id other (taken (length held.waiting) held) apart))
-      (on_err_weaker r (ap (λ s. held_at s other)) err)
+      (where_forgotten (connection_at h other ≡ connection_at g other) (λ held found is. ap (λ s. connection_at s other) is ∙ get-insert_other g.connections id other (taken (length held.waiting) held) apart))
+      (on_err_weaker r (ap (λ s. connection_at s other)) err)
 
-  pub forgotten_came : ((opening : Opening) (g : State) (events : List Event) (id max : ℕ) (held : Held) → Came opening g events → held_at g id ≡ Some held → Came opening (with_held g id (taken max held)) (events ++ Take id (take max held.waiting) ∷ []))
+  pub forgotten_came : ((opening : Opening) (g : State) (events : List Event) (id max : ℕ) (held : Held) → Came opening g events → connection_at g id ≡ Some held → Came opening (with_held g id (taken max held)) (events ++ Take id (take max held.waiting) ∷ []))
       → OnOk r (GoesOn g h (Take id (waiting g id)))
   forgotten_came law =
       where_forgotten (GoesOn g h (Take id (waiting g id))) (λ held found is opening events came.

@@ -11,7 +11,7 @@ use Rattle.grid.proofs.Puts.{put_none}
 use Rattle.chk_file.specs.Upload.{Upload, index, shares_of}
 use Rattle.chk_file.specs.Marks.{shown}
 use Rattle.chk_file.specs.World.{World, after_upload}
-use Rattle.chk_file.specs.Look.{found_in}
+use Rattle.chk_file.specs.Look.{look_in}
 use Rattle.web_request.specs.declared.head.Head.{Head as WebHead}
 use Rattle.web_request.specs.declared.request.Request.{Request}
 use Rattle.web_request.specs.declared.fault.WebFault.{WebFault}
@@ -83,7 +83,7 @@ room_for (Some u) old w rooms shows fits = λ s. fit_in (new_bytes (length old.s
 
 performed : {E : Type 0} (e : Encoding) (request : Request) (r : Result Reply E) (old new : GridState) → Leaves old new
     → IfOk r (λ reply. IsReply e request reply)
-    → (IsHonest old → HasRoomFor old (upload_in e request) → NoneFailed old new → IfOk r (λ reply. reply ≡ request_reply e (found_in (stood old)) request))
+    → (IsHonest old → HasRoomFor old (upload_in e request) → NoneFailed old new → IfOk r (λ reply. reply ≡ request_reply e (look_in (stood old)) request))
     → (IsHonest old → HasRoomFor old (upload_in e request) → NoneFailed old new → OnOk r (IsStoredIn (upload_in e request) old new))
     → (IsHonest old → HasRoomFor old (upload_in e request) → NoneFailed old new → OnOk r (Follows (upload_in e request) old new))
     → OnOk r (BringsBytes (upload_in e request))
@@ -96,7 +96,7 @@ performed e request (Ok reply) old new leaves fits written stored follows bytes 
   calm = λ w rooms shows brings none.
       let room : HasRoomFor old (upload_in e request) = room_for (upload_in e request) old w rooms shows brings in
       record {
-        written = written shows.honest room none ∙ ap (λ st. request_reply e (found_in st) request) shows.stand;
+        written = written shows.honest room none ∙ ap (λ st. request_reply e (look_in st) request) shows.stand;
         stores = Shows-stored (upload_in e request) old new w rooms leaves (stored shows.honest room none) (follows shows.honest room none) shows;
       };
 }
@@ -115,7 +115,7 @@ pub carried_out : {E : Type 0} (e : Encoding) (k n : ℕ) (secret : List ℕ) (h
     → k ≡ e.k → n ≡ e.n → secret ≡ e.secret
     → same ≡ web_head head → interpreted same body ≡ Ok request → Leaves old new
     → IfOk r (λ reply. IsReply (encoding_of k n secret) request reply)
-    → (IsHonest old → HasRoomFor old (upload_in (encoding_of k n secret) request) → NoneFailed old new → IfOk r (λ reply. reply ≡ request_reply (encoding_of k n secret) (found_in (stood old)) request))
+    → (IsHonest old → HasRoomFor old (upload_in (encoding_of k n secret) request) → NoneFailed old new → IfOk r (λ reply. reply ≡ request_reply (encoding_of k n secret) (look_in (stood old)) request))
     → (IsHonest old → HasRoomFor old (upload_in (encoding_of k n secret) request) → NoneFailed old new → OnOk r (IsStoredIn (upload_in (encoding_of k n secret) request) old new))
     → (IsHonest old → HasRoomFor old (upload_in (encoding_of k n secret) request) → NoneFailed old new → OnOk r (Follows (upload_in (encoding_of k n secret) request) old new))
     → OnOk r (BringsBytes (upload_in (encoding_of k n secret) request))

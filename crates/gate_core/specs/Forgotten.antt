@@ -11,7 +11,7 @@ use Rattle.gate_core.specs.Held.{Held, Connections}
 abbrev pub gone : Held
 gone = record { secret = None; conn = part_of []; stage = Ended; waiting = [] }
 
--- what they see of an id without an entry
+-- what they see of an id without an entry; for private clauses
 abbrev pub gone_in : set.FinSet nat_cmp → ℕ → Option Held
 gone_in ids id = if set.contains ids id then Some gone else None
 

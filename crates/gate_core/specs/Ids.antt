@@ -12,7 +12,7 @@ unfoldable pub is_among : Turns → ℕ → Bool
 is_among turns zero = unwrap_or (turns zero) false
 is_among turns (suc n) = unwrap_or (turns (suc n)) (is_among turns n)
 
--- whether the number before it is, and before 0 none is
+-- whether the number before it is, and before 0 none is; for private clauses
 abbrev pub is_before : Turns → ℕ → Bool
 is_before turns zero = false
 is_before turns (suc n) = is_among turns n

@@ -3,7 +3,7 @@ use Rattle.std.proofs.Common.{◌≡◌, ◌≢◌, ℕ, suc, ◌≤◌, ◌⊎�
 use Rattle.std.specs.Prelude.{IsTrue, ◌↔◌, MatchBool, min}
 use Rattle.std.proofs.lemmas.List.{length-take}
 use Rattle.gate_core.specs.Events.{Event, End, Take}
-use Rattle.gate_core.specs.Held.{State, waiting, held_at, is_closed_in, bytes_refusal}
+use Rattle.gate_core.specs.Held.{State, waiting, connection_at, is_closed_in, bytes_refusal}
 use Rattle.gate_core.specs.Came.{GoesOn}
 use Rattle.gate_flow.specs.declared.want.Want.{Want}
 use Rattle.gate_flow.specs.declared.want.Want.TheVariants.{Read, Advance, Write, Nothing}
@@ -35,13 +35,13 @@ module _ (old : FlowState) (id : ℕ) (piece portion : List ℕ) (ended : Bool) 
     advances : (h : State) → ((now : IsMoved id g h piece left portion portion) × AreInParts id now.calls g h piece left) → Advances old (after left portion want) g h
     advances h (now, parts) = subst (λ o. Advances o (after left portion want) g h) is record { id = refl; moved = now; parts = parts }
 
-    calmly : (h : State) (more : List ℕ) (next : Want) → IsEnough left (held_at m id)
+    calmly : (h : State) (more : List ℕ) (next : Want) → IsEnough left (connection_at m id)
         → ((now : IsMovedCalmly id g h piece left portion more) × ((parts : AreInParts id now.moved.calls g h piece left) × (parts.at ≡ m))) → AdvancesCalmly old (after left more next) g h
     calmly h more next enough (now, (parts, at)) = subst (λ o. AdvancesCalmly o (after left more next) g h) is record {
       id = refl;
       moved = now;
       parts = parts;
-      enough = subst (λ (s : State). IsEnough left (held_at s id)) (sym at) enough;
+      enough = subst (λ (s : State). IsEnough left (connection_at s id)) (sym at) enough;
     }
 
     pub failing : ((now : IsMoved id g m piece left [] []) × AreInParts id now.calls g m piece left) → Advances old (after left portion want) g m
@@ -55,11 +55,11 @@ module _ (old : FlowState) (id : ℕ) (piece portion : List ℕ) (ended : Bool) 
       pub failing_then : (h : State) → h ≡ m → Advances old (after left portion want) g h
       failing_then h same = subst (λ s. Advances old (after left portion want) g s) (sym same) (advances m (behind.0.moved, behind.1.0))
 
-      module _ (enough : IsEnough left (held_at m id)) where
+      module _ (enough : IsEnough left (connection_at m id)) where
         pub staying : (next : Want) → AdvancesCalmly old (after left portion next) g m
         staying next = calmly m portion next enough behind
 
-        pub writing : Beginnings → (h : State) (given items : List ℕ) → given ≡ items → portion ≡ [] → bytes_refusal (held_at h id) ≡ bytes_refusal (held_at m id) → IsLed id (Take id items ∷ []) m h → GoesOn m h (Take id items) → AdvancesCalmly old (after left given Write) g h
+        pub writing : Beginnings → (h : State) (given items : List ℕ) → given ≡ items → portion ≡ [] → bytes_refusal (connection_at h id) ≡ bytes_refusal (connection_at m id) → IsLed id (Take id items ∷ []) m h → GoesOn m h (Take id items) → AdvancesCalmly old (after left given Write) g h
         writing begins h given items same none stays led on = subst (λ (gs : List ℕ). AdvancesCalmly old (after left gs Write) g h) (sym same)
             (calmly h items Write enough (parts_taken id g m piece left portion brought begins h items stays led on none))
 

@@ -15,8 +15,8 @@ use Rattle.gate_core.specs.declared.stage.Stage.TheVariants as stage
 use Rattle.gate_core.specs.declared.fault.GatewayFault.{GatewayFault}
 use Rattle.gate_core.specs.declared.fault.GatewayFault.TheVariants.{Known, NotOpen, Cut, BadParameters, StillOpen, NoMemory}
 use Rattle.gate_core.specs.Settings.{Settings}
-use Rattle.gate_core.specs.Events.{Event, Open, Bytes, End, Take, caller_of, piece_of, given_by, is_caller, is_of, calls_of, joined, handed}
-use Rattle.gate_core.specs.Held.{Held, State, held_at, waiting, waiting_in, is_over, is_closed_in, stage_refusal, cut_refusal, open_refusal, bytes_refusal, take_refusal}
+use Rattle.gate_core.specs.Events.{Event, Open, Bytes, End, Take, caller_of, piece_of, given_by, is_caller, is_of, calls_of, bytes_of_calls, handed}
+use Rattle.gate_core.specs.Held.{Held, State, connection_at, waiting, waiting_in, is_over, is_closed_in, stage_refusal, cut_refusal, open_refusal, bytes_refusal, take_refusal}
 use Rattle.gate_core.specs.Lefts.{with_held, with_grid, opened, taken, ended, cut}
 use Rattle.gate_core.specs.Served.{IsReceived}
 use Rattle.gate_core.specs.Came.{Opening, Came, IsRoomy, GoesOn}
@@ -36,7 +36,7 @@ none_between a b c first second none s = between (failures_at a s) (failures_at 
 
 -- ---- bytes of calls
 
-pub joined_more : (id : ℕ) (a b : List Event) → joined id (a ++ b) ≡ joined id a ++ joined id b
+pub joined_more : (id : ℕ) (a b : List Event) → bytes_of_calls id (a ++ b) ≡ bytes_of_calls id a ++ bytes_of_calls id b
 joined_more id a b = ap (flat_map piece_of) (filter-append (is_of id) a b) ∙ flat_map-append piece_of (calls_of id a) (calls_of id b)
 
 pub handed_more : (id : ℕ) (a b : List Event) → handed id (a ++ b) ≡ handed id a ++ handed id b
@@ -45,7 +45,7 @@ handed_more id a b = ap (flat_map given_by) (filter-append (is_of id) a b) ∙ f
 pub calls_of_one : (id : ℕ) (e : Event) → caller_of e ≡ Some id → calls_of id (e ∷ []) ≡ e ∷ []
 calls_of_one id e mine = ap (λ b. cond b (e ∷ []) []) (ap (is_caller id) mine ∙ eq-eqb id id refl)
 
-pub joined_one : (id : ℕ) (e : Event) → caller_of e ≡ Some id → joined id (e ∷ []) ≡ piece_of e
+pub joined_one : (id : ℕ) (e : Event) → caller_of e ≡ Some id → bytes_of_calls id (e ∷ []) ≡ piece_of e
 joined_one id e mine = ap (flat_map piece_of) (calls_of_one id e mine) ∙ append-nil (piece_of e)
 
 pub handed_one : (id : ℕ) (e : Event) → caller_of e ≡ Some id → handed id (e ∷ []) ≡ given_by e
@@ -90,7 +90,7 @@ calm_on g h e on opening events came roomy none = on opening events came
 -- ---- single calls
 
 -- one that left the grid as it was
-led_held : (id : ℕ) (calls : List Event) (g h : State) (held : Held) → h ≡ with_held g id held → ((other : ℕ) → other ≢ id → held_at h other ≡ held_at g other)
+led_held : (id : ℕ) (calls : List Event) (g h : State) (held : Held) → h ≡ with_held g id held → ((other : ℕ) → other ≢ id → connection_at h other ≡ connection_at g other)
     → ((events : List Event) → Faithful g events → Faithful (with_held g id held) (events ++ calls)) → IsLed id calls g h
 led_held id calls g h held is others told = record {
   settings = ap (λ (s : State). s.settings) is;
@@ -104,8 +104,8 @@ pub unopened : (held : Option Held) (n : ℕ) (P : Type 0) (Q : GatewayFault →
 unopened None n P Q never answer = refl
 unopened (Some h) n P Q never answer = absurd (never Known answer)
 
-pub opened_led : ((g : State) (events : List Event) (id : ℕ) (secret : Option (List ℕ)) → Faithful g events → held_at g id ≡ None → Faithful (with_held g id (opened secret)) (events ++ Open id (unwrap_or secret g.settings.secret) ∷ []))
-    → (id : ℕ) (secret : Option (List ℕ)) (g h : State) → held_at g id ≡ None → h ≡ with_held g id (opened secret) → ((other : ℕ) → other ≢ id → held_at h other ≡ held_at g other)
+pub opened_led : ((g : State) (events : List Event) (id : ℕ) (secret : Option (List ℕ)) → Faithful g events → connection_at g id ≡ None → Faithful (with_held g id (opened secret)) (events ++ Open id (unwrap_or secret g.settings.secret) ∷ []))
+    → (id : ℕ) (secret : Option (List ℕ)) (g h : State) → connection_at g id ≡ None → h ≡ with_held g id (opened secret) → ((other : ℕ) → other ≢ id → connection_at h other ≡ connection_at g other)
     → IsLed id (Open id (unwrap_or secret g.settings.secret) ∷ []) g h
 opened_led law id secret g h none is others = led_held id (Open id (unwrap_or secret g.settings.secret) ∷ []) g h (opened secret) is others (λ events told. law g events id secret told none)
 
@@ -129,12 +129,12 @@ giving : (held : Option Held) (P : Type 0) (Q : GatewayFault → Type 0) → ((e
 giving None P Q never answer = absurd (never NotOpen answer)
 giving (Some h) P Q never answer = (h, refl, uncut_stage h.stage P Q never answer)
 
-pub bytes_led : ((g h : State) (events : List Event) (id : ℕ) (held : Held) (piece : List ℕ) → Faithful g events → held_at g id ≡ Some held → held.stage ≡ stage.Open → IsReceived g h id held piece → Faithful h (events ++ Bytes id piece ∷ []))
-    → (id : ℕ) (piece : List ℕ) (g h : State) (P : Type 0) (Q : GatewayFault → Type 0) → ((e : GatewayFault) → Q e → ⊥) → MatchOption (bytes_refusal (held_at g id)) P Q
-    → ((held : Held) → held_at g id ≡ Some held → IsReceived g h id held piece) → ((other : ℕ) → other ≢ id → held_at h other ≡ held_at g other) → Leaves g.grid h.grid
+pub bytes_led : ((g h : State) (events : List Event) (id : ℕ) (held : Held) (piece : List ℕ) → Faithful g events → connection_at g id ≡ Some held → held.stage ≡ stage.Open → IsReceived g h id held piece → Faithful h (events ++ Bytes id piece ∷ []))
+    → (id : ℕ) (piece : List ℕ) (g h : State) (P : Type 0) (Q : GatewayFault → Type 0) → ((e : GatewayFault) → Q e → ⊥) → MatchOption (bytes_refusal (connection_at g id)) P Q
+    → ((held : Held) → connection_at g id ≡ Some held → IsReceived g h id held piece) → ((other : ℕ) → other ≢ id → connection_at h other ≡ connection_at g other) → Leaves g.grid h.grid
     → IsLed id (Bytes id piece ∷ []) g h
 bytes_led law id piece g h P Q never answer received others leaves =
-    let was = taking (held_at g id) P Q never answer in
+    let was = taking (connection_at g id) P Q never answer in
     record {
       settings = (received was.0 was.1).settings;
       leaves = leaves;
@@ -142,22 +142,22 @@ bytes_led law id piece g h P Q never answer received others leaves =
       told = λ events told. law g h events id was.0 piece told was.1 was.2 (received was.0 was.1);
     }
 
-pub taken_led : ((g : State) (events : List Event) (id max : ℕ) (held : Held) → Faithful g events → held_at g id ≡ Some held → cut_refusal held.stage ≡ None → Faithful (with_held g id (taken max held)) (events ++ Take id (take max held.waiting) ∷ []))
-    → (id max : ℕ) (given : List ℕ) (g h : State) (P : Type 0) (Q : GatewayFault → Type 0) → ((e : GatewayFault) → Q e → ⊥) → MatchOption (take_refusal (held_at g id)) P Q
-    → given ≡ take max (waiting g id) → ((held : Held) → held_at g id ≡ Some held → h ≡ with_held g id (taken max held)) → ((other : ℕ) → other ≢ id → held_at h other ≡ held_at g other)
+pub taken_led : ((g : State) (events : List Event) (id max : ℕ) (held : Held) → Faithful g events → connection_at g id ≡ Some held → cut_refusal held.stage ≡ None → Faithful (with_held g id (taken max held)) (events ++ Take id (take max held.waiting) ∷ []))
+    → (id max : ℕ) (given : List ℕ) (g h : State) (P : Type 0) (Q : GatewayFault → Type 0) → ((e : GatewayFault) → Q e → ⊥) → MatchOption (take_refusal (connection_at g id)) P Q
+    → given ≡ take max (waiting g id) → ((held : Held) → connection_at g id ≡ Some held → h ≡ with_held g id (taken max held)) → ((other : ℕ) → other ≢ id → connection_at h other ≡ connection_at g other)
     → IsLed id (Take id given ∷ []) g h
 taken_led law id max given g h P Q never answer is left others =
-    let was = giving (held_at g id) P Q never answer in
+    let was = giving (connection_at g id) P Q never answer in
     let given_is : given ≡ take max was.0.waiting = is ∙ ap (λ o. take max (waiting_in o)) was.1 in
     led_held id (Take id given ∷ []) g h (taken max was.0) (left was.0 was.1) others
     (λ events told. subst (λ bs. Faithful (with_held g id (taken max was.0)) (events ++ Take id bs ∷ [])) (sym given_is) (law g events id max was.0 told was.1 was.2))
 
-pub ended_led : ((g : State) (events : List Event) (id : ℕ) (held : Held) → Faithful g events → held_at g id ≡ Some held → held.stage ≡ stage.Open → Faithful (with_held g id (ended held)) (events ++ End id ∷ []))
-    → (id : ℕ) (g h : State) (P : Type 0) (Q : GatewayFault → Type 0) → ((e : GatewayFault) → Q e → ⊥) → MatchOption (bytes_refusal (held_at g id)) P Q
-    → ((held : Held) → held_at g id ≡ Some held → h ≡ with_held g id (ended held)) → ((other : ℕ) → other ≢ id → held_at h other ≡ held_at g other)
+pub ended_led : ((g : State) (events : List Event) (id : ℕ) (held : Held) → Faithful g events → connection_at g id ≡ Some held → held.stage ≡ stage.Open → Faithful (with_held g id (ended held)) (events ++ End id ∷ []))
+    → (id : ℕ) (g h : State) (P : Type 0) (Q : GatewayFault → Type 0) → ((e : GatewayFault) → Q e → ⊥) → MatchOption (bytes_refusal (connection_at g id)) P Q
+    → ((held : Held) → connection_at g id ≡ Some held → h ≡ with_held g id (ended held)) → ((other : ℕ) → other ≢ id → connection_at h other ≡ connection_at g other)
     → IsLed id (End id ∷ []) g h
 ended_led law id g h P Q never answer left others =
-    let was = taking (held_at g id) P Q never answer in
+    let was = taking (connection_at g id) P Q never answer in
     led_held id (End id ∷ []) g h (ended was.0) (left was.0 was.1) others (λ events told. law g events id was.0 told was.1 was.2)
 
 no_memory : (r : Result (Unit {0}) GatewayFault) (fault : GatewayFault) → r ≡ Err fault → IsOkUnless r NoMemory → r ≡ Err NoMemory
@@ -165,17 +165,17 @@ no_memory (Ok u) fault is only = cc
 no_memory (Err e) fault is only = cc
 
 -- bytes that were refused are no call, nor are those for which memory ran out
-pub refused_led : ((g : State) (events : List Event) (id : ℕ) (held : Held) (grid : GridState) → Faithful g events → held_at g id ≡ Some held → Faithful (with_grid (with_held g id cut) grid) events)
+pub refused_led : ((g : State) (events : List Event) (id : ℕ) (held : Held) (grid : GridState) → Faithful g events → connection_at g id ≡ Some held → Faithful (with_grid (with_held g id cut) grid) events)
     → (id : ℕ) (fault : GatewayFault) (r : Result (Unit {0}) GatewayFault) (g h : State) → r ≡ Err fault
-    → MatchOption (bytes_refusal (held_at g id)) (IsOkUnless r NoMemory) (λ e. (r ≡ Err e) × (h ≡ g))
-    → (r ≡ Err NoMemory → h ≡ with_grid (with_held g id cut) h.grid) → ((other : ℕ) → other ≢ id → held_at h other ≡ held_at g other) → Leaves g.grid h.grid
+    → MatchOption (bytes_refusal (connection_at g id)) (IsOkUnless r NoMemory) (λ e. (r ≡ Err e) × (h ≡ g))
+    → (r ≡ Err NoMemory → h ≡ with_grid (with_held g id cut) h.grid) → ((other : ℕ) → other ≢ id → connection_at h other ≡ connection_at g other) → Leaves g.grid h.grid
     → IsLed id [] g h
-refused_led law id fault r g h is answer left others leaves = by (held_at g id) refl answer
+refused_led law id fault r g h is answer left others leaves = by (connection_at g id) refl answer
   where
     same : h ≡ g → IsLed id [] g h
     same back = subst (IsLed id [] g) (sym back) (led_none id g)
 
-    gone : (held : Held) → held_at g id ≡ Some held → IsOkUnless r NoMemory → IsLed id [] g h
+    gone : (held : Held) → connection_at g id ≡ Some held → IsOkUnless r NoMemory → IsLed id [] g h
     gone held found only =
         let now = left (no_memory r fault is only) in
         record {
@@ -185,12 +185,12 @@ refused_led law id fault r g h is answer left others leaves = by (held_at g id) 
           told = λ events told. subst (λ s. Faithful s (events ++ [])) (sym now) (subst (Faithful (with_grid (with_held g id cut) h.grid)) (sym (append-nil events)) (law g events id held h.grid told found));
         }
 
-    at : (st : Stage) (held : Held) → held_at g id ≡ Some held → MatchOption (stage_refusal st) (IsOkUnless r NoMemory) (λ e. (r ≡ Err e) × (h ≡ g)) → IsLed id [] g h
+    at : (st : Stage) (held : Held) → connection_at g id ≡ Some held → MatchOption (stage_refusal st) (IsOkUnless r NoMemory) (λ e. (r ≡ Err e) × (h ≡ g)) → IsLed id [] g h
     at stage.Open held found answer = gone held found answer
     at stage.Ended held found answer = same answer.1
     at stage.Cut held found answer = same answer.1
 
-    by : (held : Option Held) → held_at g id ≡ held → MatchOption (bytes_refusal held) (IsOkUnless r NoMemory) (λ e. (r ≡ Err e) × (h ≡ g)) → IsLed id [] g h
+    by : (held : Option Held) → connection_at g id ≡ held → MatchOption (bytes_refusal held) (IsOkUnless r NoMemory) (λ e. (r ≡ Err e) × (h ≡ g)) → IsLed id [] g h
     by None found answer = same answer.1
     by (Some held) found answer = at held.stage held found answer
 
@@ -210,24 +210,24 @@ pub end_same : (g h : State) (r : Result (Unit {0}) GatewayFault) (fault : Gatew
 end_same g h r fault None is answer = absurd (no_end r fault is answer)
 end_same g h r fault (Some e) is answer = answer.1
 
-pub end_waits : (id : ℕ) (g h : State) (P : Type 0) (Q : GatewayFault → Type 0) → ((e : GatewayFault) → Q e → ⊥) → MatchOption (bytes_refusal (held_at g id)) P Q
-    → ((held : Held) → held_at g id ≡ Some held → h ≡ with_held g id (ended held)) → waiting h id ≡ waiting g id
+pub end_waits : (id : ℕ) (g h : State) (P : Type 0) (Q : GatewayFault → Type 0) → ((e : GatewayFault) → Q e → ⊥) → MatchOption (bytes_refusal (connection_at g id)) P Q
+    → ((held : Held) → connection_at g id ≡ Some held → h ≡ with_held g id (ended held)) → waiting h id ≡ waiting g id
 end_waits id g h P Q never answer left =
-    let was = taking (held_at g id) P Q never answer in
+    let was = taking (connection_at g id) P Q never answer in
     waiting_held g h id (ended was.0) (left was.0 was.1) ∙ sym (ap waiting_in was.1)
 
 -- ---- what is held after a call
 
-pub held_after : (g h : State) (id : ℕ) (held : Held) → h ≡ with_held g id held → held_at h id ≡ Some held
-held_after g h id held is = ap (λ (s : State). held_at s id) is ∙ here g.connections id held
+pub held_after : (g h : State) (id : ℕ) (held : Held) → h ≡ with_held g id held → connection_at h id ≡ Some held
+held_after g h id held is = ap (λ (s : State). connection_at s id) is ∙ here g.connections id held
 
 -- the gateway takes bytes of a connection after it took some
-pub bytes_open : (id : ℕ) (piece : List ℕ) (g h : State) (P : Type 0) (Q : GatewayFault → Type 0) → ((e : GatewayFault) → Q e → ⊥) → MatchOption (bytes_refusal (held_at g id)) P Q
-    → ((held : Held) → held_at g id ≡ Some held → IsReceived g h id held piece) → TakesBytes (held_at h id)
+pub bytes_open : (id : ℕ) (piece : List ℕ) (g h : State) (P : Type 0) (Q : GatewayFault → Type 0) → ((e : GatewayFault) → Q e → ⊥) → MatchOption (bytes_refusal (connection_at g id)) P Q
+    → ((held : Held) → connection_at g id ≡ Some held → IsReceived g h id held piece) → TakesBytes (connection_at h id)
 bytes_open id piece g h P Q never answer received =
-    let was = taking (held_at g id) P Q never answer in
+    let was = taking (connection_at g id) P Q never answer in
     let now = received was.0 was.1 in
-    let found : held_at h id ≡ Some now.after = ap (λ m. map.get m id) now.connections ∙ here g.connections id now.after in
+    let found : connection_at h id ≡ Some now.after = ap (λ m. map.get m id) now.connections ∙ here g.connections id now.after in
     ap bytes_refusal found ∙ ap stage_refusal (ap (λ (s : Held). s.stage) now.fed.left ∙ was.2)
 
 -- why bytes are refused, or none
@@ -241,19 +241,19 @@ bytes_refused held fault r Q is other answer takes =
     same_fault none = cc
 
 -- bytes that wait are taken, and what is left waits still
-pub take_splits : (id max : ℕ) (given : List ℕ) (g h : State) (P : Type 0) (Q : GatewayFault → Type 0) → ((e : GatewayFault) → Q e → ⊥) → MatchOption (take_refusal (held_at g id)) P Q
-    → given ≡ take max (waiting g id) → ((held : Held) → held_at g id ≡ Some held → h ≡ with_held g id (taken max held)) → waiting g id ≡ given ++ waiting h id
+pub take_splits : (id max : ℕ) (given : List ℕ) (g h : State) (P : Type 0) (Q : GatewayFault → Type 0) → ((e : GatewayFault) → Q e → ⊥) → MatchOption (take_refusal (connection_at g id)) P Q
+    → given ≡ take max (waiting g id) → ((held : Held) → connection_at g id ≡ Some held → h ≡ with_held g id (taken max held)) → waiting g id ≡ given ++ waiting h id
 take_splits id max given g h P Q never answer is left =
-    let was = giving (held_at g id) P Q never answer in
+    let was = giving (connection_at g id) P Q never answer in
     let before : waiting g id ≡ was.0.waiting = ap waiting_in was.1 in
     let after : waiting h id ≡ drop max was.0.waiting = waiting_held g h id (taken max was.0) (left was.0 was.1) in
     before ∙ sym (take-append-drop max was.0.waiting) ∙ ap (λ r. r ++ drop max was.0.waiting) (sym (is ∙ ap (take max) before)) ∙ ap (λ r. given ++ r) (sym after)
 
 -- and the gateway takes bytes as it did before
-pub take_stays : (id max : ℕ) (g h : State) (P : Type 0) (Q : GatewayFault → Type 0) → ((e : GatewayFault) → Q e → ⊥) → MatchOption (take_refusal (held_at g id)) P Q
-    → ((held : Held) → held_at g id ≡ Some held → h ≡ with_held g id (taken max held)) → bytes_refusal (held_at h id) ≡ bytes_refusal (held_at g id)
+pub take_stays : (id max : ℕ) (g h : State) (P : Type 0) (Q : GatewayFault → Type 0) → ((e : GatewayFault) → Q e → ⊥) → MatchOption (take_refusal (connection_at g id)) P Q
+    → ((held : Held) → connection_at g id ≡ Some held → h ≡ with_held g id (taken max held)) → bytes_refusal (connection_at h id) ≡ bytes_refusal (connection_at g id)
 take_stays id max g h P Q never answer left =
-    let was = giving (held_at g id) P Q never answer in
+    let was = giving (connection_at g id) P Q never answer in
     ap bytes_refusal (held_after g h id (taken max was.0) (left was.0 was.1)) ∙ sym (ap bytes_refusal was.1)
 
 uncut : (st : Stage) → stage_refusal st ≡ None → cut_refusal st ≡ None
@@ -276,11 +276,11 @@ take_refused held fault r Q is other answer takes =
     same_fault none = cc
 
 -- after its end the gateway takes no bytes of a connection
-pub end_over : (id : ℕ) (g h : State) (P : Type 0) (Q : GatewayFault → Type 0) → ((e : GatewayFault) → Q e → ⊥) → MatchOption (bytes_refusal (held_at g id)) P Q
-    → ((held : Held) → held_at g id ≡ Some held → h ≡ with_held g id (ended held)) → bytes_refusal (held_at h id) ≢ None
+pub end_over : (id : ℕ) (g h : State) (P : Type 0) (Q : GatewayFault → Type 0) → ((e : GatewayFault) → Q e → ⊥) → MatchOption (bytes_refusal (connection_at g id)) P Q
+    → ((held : Held) → connection_at g id ≡ Some held → h ≡ with_held g id (ended held)) → bytes_refusal (connection_at h id) ≢ None
 end_over id g h P Q never answer left =
-    let was = taking (held_at g id) P Q never answer in
-    let closed : bytes_refusal (held_at h id) ≡ Some NotOpen = ap bytes_refusal (held_after g h id (ended was.0) (left was.0 was.1)) in
+    let was = taking (connection_at g id) P Q never answer in
+    let closed : bytes_refusal (connection_at h id) ≡ Some NotOpen = ap bytes_refusal (held_after g h id (ended was.0) (left was.0 was.1)) in
     λ takes. cc
 
 -- an end is refused only where the gateway takes no bytes
@@ -289,9 +289,9 @@ end_refused g h None fault r is answer = absurd (no_end r fault is answer)
 end_refused g h (Some e) fault r is answer = λ takes. cc
 
 pub end_still_over : (id : ℕ) (g h : State) (fault : GatewayFault) (r : Result (Unit {0}) GatewayFault) → r ≡ Err fault
-    → MatchOption (bytes_refusal (held_at g id)) (IsOk r) (λ e. (r ≡ Err e) × (h ≡ g)) → bytes_refusal (held_at h id) ≢ None
+    → MatchOption (bytes_refusal (connection_at g id)) (IsOk r) (λ e. (r ≡ Err e) × (h ≡ g)) → bytes_refusal (connection_at h id) ≢ None
 end_still_over id g h fault r is answer =
-    subst (λ (s : State). bytes_refusal (held_at s id) ≢ None) (sym (end_same g h r fault (bytes_refusal (held_at g id)) is answer)) (end_refused g h (bytes_refusal (held_at g id)) fault r is answer)
+    subst (λ (s : State). bytes_refusal (connection_at s id) ≢ None) (sym (end_same g h r fault (bytes_refusal (connection_at g id)) is answer)) (end_refused g h (bytes_refusal (connection_at g id)) fault r is answer)
 
 -- why a call is refused, as a flow tells it
 pub call_fault : (held : Option Held) (fault : GatewayFault) (made : FlowFault) → made ≡ flow_of fault → (fault ≢ NoMemory → bytes_refusal held ≢ None) → IsCallFault held made
@@ -325,8 +325,8 @@ unfolding rest
 none_closes = refl
 
 -- what is held tells whether an item that closes was completed
-pub unclosed : (g : State) (id : ℕ) (events : List Event) → is_closed_in (held_at g id) ≡ false → Faithful g events → IsUnclosed id events
-unclosed g id events none told = at (held_at g id) none (told.each id)
+pub unclosed : (g : State) (id : ℕ) (events : List Event) → is_closed_in (connection_at g id) ≡ false → Faithful g events → IsUnclosed id events
+unclosed g id events none told = at (connection_at g id) none (told.each id)
   where
     at : (held : Option Held) → is_closed_in held ≡ false → FaithfulAt g.settings id held events → IsUnclosed id events
     at None none told = ap (λ bytes. is_left_closed (rest bytes)) told.read ∙ none_closes

@@ -4,11 +4,11 @@ use Rattle.std.specs.Prelude.{All, IsTrue, ◌↔◌, ◌||◌, Result, Ok, Err,
 use Rattle.gate_flow.specs.declared.fault.FlowFault.{FlowFault}
 use Rattle.std.proofs.lemmas.List.{append-nil}
 use Rattle.std.proofs.lemmas.List.Elements.{All-append, All-nil, All-cons}
-use Rattle.gate_core.specs.Events.{Event, Open, Bytes, End, Take, caller_of, piece_of, given_by, is_end, is_of, calls_of, joined, handed, has_ended}
+use Rattle.gate_core.specs.Events.{Event, Open, Bytes, End, Take, caller_of, piece_of, given_by, is_end, is_of, calls_of, bytes_of_calls, handed, has_ended}
 use Rattle.std.specs.List.{list_any}
 use Rattle.std.proofs.lemmas.List.Elements.{filter-append}
 use Rattle.std.proofs.lemmas.List.Folds.{list_any-append}
-use Rattle.gate_core.specs.Held.{State, held_at, waiting, bytes_refusal, is_closed_in}
+use Rattle.gate_core.specs.Held.{State, connection_at, waiting, bytes_refusal, is_closed_in}
 use Rattle.gate_core.specs.Came.{GoesOn}
 use Rattle.gate_core.specs.Faithful.{Faithful}
 use Rattle.gate_flow.specs.Parts.{IsPart}
@@ -55,7 +55,7 @@ moved_none id g h piece left portion more same still kept = record {
     handed_out = kept ∙ sym (append-nil portion);
   };
   calm = subst (IsLedCalmly [] g) (sym same) (calm_none g);
-  takes = λ takes. subst (λ (s : State). TakesBytes (held_at s id)) (sym same) takes;
+  takes = λ takes. subst (λ (s : State). TakesBytes (connection_at s id)) (sym same) takes;
 }
 
 -- a call that was refused after it changed this connection, or nothing at all
@@ -72,7 +72,7 @@ moved_still id g h piece left portion more led still kept = record {
 
 -- one call
 moved_one : (id : ℕ) (e : Event) (g h : State) (piece left portion more : List ℕ) → caller_of e ≡ Some id → is_end e ≡ false
-    → ((events : List Event) → Faithful g events → IsTimely id events e) → (TakesBytes (held_at g id) → TakesBytes (held_at h id)) → IsLed id (e ∷ []) g h → IsLedCalmly (e ∷ []) g h
+    → ((events : List Event) → Faithful g events → IsTimely id events e) → (TakesBytes (connection_at g id) → TakesBytes (connection_at h id)) → IsLed id (e ∷ []) g h → IsLedCalmly (e ∷ []) g h
     → piece ≡ piece_of e ++ left → more ≡ portion ++ given_by e → IsMovedCalmly id g h piece left portion more
 moved_one id e g h piece left portion more mine none timely takes led calm brought given = record {
   moved = record {
@@ -90,12 +90,12 @@ moved_one id e g h piece left portion more mine none timely takes led calm broug
 
 -- the first bytes of a piece were brought
 pub moved_bytes : (id n : ℕ) (g h : State) (piece left part : List ℕ) → part ≡ take n piece → left ≡ drop n piece
-    → is_closed_in (held_at g id) ≡ false → TakesBytes (held_at h id) → IsLed id (Bytes id part ∷ []) g h → IsLedCalmly (Bytes id part ∷ []) g h → IsMovedCalmly id g h piece left [] []
+    → is_closed_in (connection_at g id) ≡ false → TakesBytes (connection_at h id) → IsLed id (Bytes id part ∷ []) g h → IsLedCalmly (Bytes id part ∷ []) g h → IsMovedCalmly id g h piece left [] []
 moved_bytes id n g h piece left part first rest none takes led calm =
     moved_one id (Bytes id part) g h piece left [] [] refl refl (λ events told. unclosed g id events none told) (λ was. takes) led calm
     (sym (take-append-drop n piece) ∙ ap (λ r. r ++ drop n piece) (sym first) ∙ ap (λ r. part ++ r) (sym rest)) refl
 
-pub moved_take : (id : ℕ) (g h : State) (piece portion given : List ℕ) → bytes_refusal (held_at h id) ≡ bytes_refusal (held_at g id) → IsLed id (Take id given ∷ []) g h → GoesOn g h (Take id given) → portion ≡ [] → IsMovedCalmly id g h piece piece portion given
+pub moved_take : (id : ℕ) (g h : State) (piece portion given : List ℕ) → bytes_refusal (connection_at h id) ≡ bytes_refusal (connection_at g id) → IsLed id (Take id given ∷ []) g h → GoesOn g h (Take id given) → portion ≡ [] → IsMovedCalmly id g h piece piece portion given
 moved_take id g h piece portion given stays led on none =
     moved_one id (Take id given) g h piece piece portion given refl refl (λ events told. tt) (λ takes. stays ∙ takes) led (calm_on g h (Take id given) on) refl (ap (λ r. r ++ given) (sym none))
 
@@ -108,7 +108,7 @@ module _ (id : ℕ) (g h k : State) (a b c p q r : List ℕ) where
     going = going_more id first.calls second.calls first.going second.going;
     timely = λ events told. timely_more id events first.calls second.calls (first.timely events told) (second.timely (events ++ first.calls) (first.led.told events told));
     led = led_more id first.calls second.calls g h k first.led second.led;
-    brought = first.brought ∙ ap (λ s. joined id first.calls ++ s) second.brought ∙ sym (append_assoc (joined id first.calls) (joined id second.calls) c)
+    brought = first.brought ∙ ap (λ s. bytes_of_calls id first.calls ++ s) second.brought ∙ sym (append_assoc (bytes_of_calls id first.calls) (bytes_of_calls id second.calls) c)
         ∙ ap (λ s. s ++ c) (sym (joined_more id first.calls second.calls));
     handed_out = second.handed_out ∙ ap (λ s. s ++ handed id second.calls) first.handed_out ∙ append_assoc p (handed id first.calls) (handed id second.calls)
         ∙ ap (λ s. p ++ s) (sym (handed_more id first.calls second.calls));
@@ -146,12 +146,12 @@ brought_more id [] b g m h p q r first second = subst (λ (s : State). AreBrough
 brought_more id (e ∷ a) b g m h p q r (k, behind, one, others) second = (k, behind, one, brought_more id a b k m h behind q r others second)
 
 -- parts, and then calls that bring nothing
-in_parts : (id : ℕ) (a b : List Event) (g m h : State) (p q : List ℕ) → AreBrought id a g m p q → IsLed id b m h → joined id b ≡ [] → AreInParts id (a ++ b) g h p q
+in_parts : (id : ℕ) (a b : List Event) (g m h : State) (p q : List ℕ) → AreBrought id a g m p q → IsLed id b m h → bytes_of_calls id b ≡ [] → AreInParts id (a ++ b) g h p q
 in_parts id a b g m h p q brought after bare = record { parts = a; others = b; all = refl; at = m; brought = brought; after = after; bare = bare }
 
 -- one part
 pub part_moves : (id n : ℕ) (g h : State) (piece left part : List ℕ) → part ≡ take n piece → left ≡ drop n piece → IsPart piece n → waiting g id ≡ []
-    → is_closed_in (held_at g id) ≡ false → TakesBytes (held_at h id) → IsLed id (Bytes id part ∷ []) g h → IsLedCalmly (Bytes id part ∷ []) g h
+    → is_closed_in (connection_at g id) ≡ false → TakesBytes (connection_at h id) → IsLed id (Bytes id part ∷ []) g h → IsLedCalmly (Bytes id part ∷ []) g h
     → (now : IsMovedCalmly id g h piece left [] []) × AreBrought id now.moved.calls g h piece left
 unfolding moved_bytes moved_one
 part_moves id n g h piece left part first rest cut quiet none takes led calm = (
@@ -206,7 +206,7 @@ module _ (id : ℕ) (g m : State) (piece left portion : List ℕ) where
     )
 
     -- what waits was taken
-    pub parts_taken : Beginnings → (h : State) (given : List ℕ) → bytes_refusal (held_at h id) ≡ bytes_refusal (held_at m id) → IsLed id (Take id given ∷ []) m h → GoesOn m h (Take id given) → portion ≡ []
+    pub parts_taken : Beginnings → (h : State) (given : List ℕ) → bytes_refusal (connection_at h id) ≡ bytes_refusal (connection_at m id) → IsLed id (Take id given ∷ []) m h → GoesOn m h (Take id given) → portion ≡ []
         → (now : IsMovedCalmly id g h piece left portion given) × ((parts : AreInParts id now.moved.calls g h piece left) × (parts.at ≡ m))
     unfolding moved_more moved_then moved_calmly_behind moved_behind moved_take moved_one in_parts
     parts_taken begins h given stays led on none = (
@@ -223,11 +223,11 @@ pub record IsEnding (id : ℕ) (g h : State) : Type 0 where
   pub timely : (events : List Event) → AreTimely id events calls
   pub led : IsLed id calls g h
   pub calm : IsLedCalmly calls g h
-  pub brings : joined id calls ≡ []
+  pub brings : bytes_of_calls id calls ≡ []
   pub dropped : waiting g id ≡ handed id calls ++ waiting h id
-  pub ends : TakesBytes (held_at g id) → has_ended id calls ≡ true
+  pub ends : TakesBytes (connection_at g id) → has_ended id calls ≡ true
 
-nothing_called : (id : ℕ) (g h : State) → h ≡ g → bytes_refusal (held_at g id) ≢ None → IsEnding id g h
+nothing_called : (id : ℕ) (g h : State) → h ≡ g → bytes_refusal (connection_at g id) ≢ None → IsEnding id g h
 nothing_called id g h same over = record {
   calls = [];
   own = own_none id;
@@ -252,11 +252,11 @@ end_called id g h same led calm = record {
 }
 
 pub end_gives : (id : ℕ) (g m : State) (r : Result (Unit {0}) FlowFault) → OnOk r (IsLed id (End id ∷ []) g m) → OnOk r (IsLedCalmly (End id ∷ []) g m) → OnErr r (m ≡ g) → waiting m id ≡ waiting g id
-    → OnErr r (bytes_refusal (held_at g id) ≢ None) → IsEnding id g m
+    → OnErr r (bytes_refusal (connection_at g id) ≢ None) → IsEnding id g m
 end_gives id g m (Ok u) led calm same waits over = end_called id g m waits led calm
 end_gives id g m (Err e) led calm same waits over = nothing_called id g m same over
 
-given_up_here : (id : ℕ) (g m h : State) → IsEnding id g m → bytes_refusal (held_at m id) ≢ None → h ≡ m → IsGivenUp id g h
+given_up_here : (id : ℕ) (g m h : State) → IsEnding id g m → bytes_refusal (connection_at m id) ≢ None → h ≡ m → IsGivenUp id g h
 given_up_here id g m h ending over same = subst (IsGivenUp id g) (sym same) record {
   calls = ending.calls;
   own = ending.own;
@@ -273,15 +273,15 @@ ended_more : (id : ℕ) (a b : List Event) → has_ended id a ≡ true → has_e
 ended_more id a b ended =
     ap (list_any is_end) (filter-append (is_of id) a b) ∙ list_any-append is_end (calls_of id a) (calls_of id b) ∙ ap (λ r. r || has_ended id b) ended
 
-given_up_then : Beginnings → (id : ℕ) (g m h : State) (given : List ℕ) → IsEnding id g m → bytes_refusal (held_at m id) ≢ None → IsLed id (Take id given ∷ []) m h → GoesOn m h (Take id given)
-    → waiting m id ≡ given ++ waiting h id → bytes_refusal (held_at h id) ≡ bytes_refusal (held_at m id) → IsGivenUp id g h
+given_up_then : Beginnings → (id : ℕ) (g m h : State) (given : List ℕ) → IsEnding id g m → bytes_refusal (connection_at m id) ≢ None → IsLed id (Take id given ∷ []) m h → GoesOn m h (Take id given)
+    → waiting m id ≡ given ++ waiting h id → bytes_refusal (connection_at h id) ≡ bytes_refusal (connection_at m id) → IsGivenUp id g h
 given_up_then begins id g m h given ending over led on splits stays = record {
   calls = ending.calls ++ Take id given ∷ [];
   own = own_more id ending.calls (Take id given ∷ []) ending.own (own_one id (Take id given) refl);
   timely = λ events. timely_more id events ending.calls (Take id given ∷ []) (ending.timely events) (tt, tt);
   led = led_more id ending.calls (Take id given ∷ []) g m h ending.led led;
   calm = calm_more begins id ending.calls (Take id given ∷ []) g m h ending.led led ending.calm (calm_on m h (Take id given) on);
-  brings = joined_more id ending.calls (Take id given ∷ []) ∙ ap (λ r. r ++ joined id (Take id given ∷ [])) ending.brings ∙ joined_one id (Take id given) refl;
+  brings = joined_more id ending.calls (Take id given ∷ []) ∙ ap (λ r. r ++ bytes_of_calls id (Take id given ∷ [])) ending.brings ∙ joined_one id (Take id given) refl;
   dropped = ending.dropped ∙ ap (λ r. handed id ending.calls ++ r) splits ∙ sym (append_assoc (handed id ending.calls) given (waiting h id))
       ∙ ap (λ r. r ++ waiting h id) (ap (λ r. handed id ending.calls ++ r) (sym (handed_one id (Take id given) refl)) ∙ sym (handed_more id ending.calls (Take id given ∷ [])));
   ends = λ takes. ended_more id ending.calls (Take id given ∷ []) (ending.ends takes);
@@ -289,8 +289,8 @@ given_up_then begins id g m h given ending over led on splits stays = record {
 }
 
 -- bytes that waited were taken, or not
-pub take_gives : Beginnings → {V : Type 0} (id : ℕ) (g m h : State) (t : Result V FlowFault) (items : V → List ℕ) → IsEnding id g m → bytes_refusal (held_at m id) ≢ None
+pub take_gives : Beginnings → {V : Type 0} (id : ℕ) (g m h : State) (t : Result V FlowFault) (items : V → List ℕ) → IsEnding id g m → bytes_refusal (connection_at m id) ≢ None
     → IfOk t (λ v. IsLed id (Take id (items v) ∷ []) m h) → IfOk t (λ v. GoesOn m h (Take id (items v))) → IfOk t (λ v. waiting m id ≡ items v ++ waiting h id)
-    → OnOk t (bytes_refusal (held_at h id) ≡ bytes_refusal (held_at m id)) → OnErr t (h ≡ m) → IsGivenUp id g h
+    → OnOk t (bytes_refusal (connection_at h id) ≡ bytes_refusal (connection_at m id)) → OnErr t (h ≡ m) → IsGivenUp id g h
 take_gives begins id g m h (Ok v) items ending over led on splits stays same = given_up_then begins id g m h (items v) ending over led on splits stays
 take_gives begins id g m h (Err e) items ending over led on splits stays same = given_up_here id g m h ending over same

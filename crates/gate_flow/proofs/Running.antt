@@ -10,8 +10,8 @@ use Rattle.std.proofs.lemmas.List.Folds.{list_any-append}
 use Rattle.http_edge.specs.Left.{rest, is_closed as is_left_closed}
 use Rattle.gate_core.specs.declared.stage.Stage.{Stage}
 use Rattle.gate_core.specs.declared.stage.Stage.TheVariants as stage
-use Rattle.gate_core.specs.Events.{Event, Open, is_end, is_of, calls_of, joined, handed, has_ended}
-use Rattle.gate_core.specs.Held.{Held, State, held_at, waiting, waiting_in, is_over, is_closed_in, stage_refusal, bytes_refusal}
+use Rattle.gate_core.specs.Events.{Event, Open, is_end, is_of, calls_of, bytes_of_calls, handed, has_ended}
+use Rattle.gate_core.specs.Held.{Held, State, connection_at, waiting, waiting_in, is_over, is_closed_in, stage_refusal, bytes_refusal}
 use Rattle.gate_core.specs.Faithful.{Faithful, FaithfulAt}
 use Rattle.gate_flow.specs.declared.fault.FlowFault.{FlowFault}
 use Rattle.gate_flow.specs.declared.fault.FlowFault.TheVariants.{Refused, ReadFailed, WriteFailed, NoMemory}
@@ -29,7 +29,7 @@ use Rattle.gate_flow.proofs.Standing.{read_stands, wrote_stands, advanced_stands
 
 -- ---- it is opened
 
-pub run_begins : (id : ℕ) (secret : List ℕ) (g h : State) (r w : Option (List ℕ)) → IsLed id (Open id secret ∷ []) g h → IsLedCalmly (Open id secret ∷ []) g h → TakesBytes (held_at h id)
+pub run_begins : (id : ℕ) (secret : List ℕ) (g h : State) (r w : Option (List ℕ)) → IsLed id (Open id secret ∷ []) g h → IsLedCalmly (Open id secret ∷ []) g h → TakesBytes (connection_at h id)
     → HasRunCalmly id secret g h (opened_flow id) r r w w
 run_begins id secret g h r w led calm takes = record {
   run = record {
@@ -41,7 +41,7 @@ run_begins id secret g h r w led calm takes = record {
     led = led;
     bytes = [];
     out = [];
-    flowed = record { all_read = sym (append-nil (joined id (Open id secret ∷ [])) ∙ joined_one id (Open id secret) refl); all_written = handed_one id (Open id secret) refl };
+    flowed = record { all_read = sym (append-nil (bytes_of_calls id (Open id secret ∷ [])) ∙ joined_one id (Open id secret) refl); all_written = handed_one id (Open id secret) refl };
     taken = Consumes-nil r;
     put = Appends-nil w;
   };
@@ -119,7 +119,7 @@ module _ (id : ℕ) (secret : List ℕ) (g h : State) (old new : FlowState) (rea
       record {
         run = run_advances k was.run (plainly k now);
         calm = calm_more begins id was.run.calls calls g h k was.run.led (subst (λ (i : ℕ). IsLed i calls h k) was.run.same now.moved.moved.led) was.calm now.moved.calm;
-        takes = subst (λ (i : ℕ). TakesBytes (held_at k i)) was.run.same (now.moved.takes (subst (λ (i : ℕ). TakesBytes (held_at h i)) (sym was.run.same) was.takes));
+        takes = subst (λ (i : ℕ). TakesBytes (connection_at k i)) was.run.same (now.moved.takes (subst (λ (i : ℕ). TakesBytes (connection_at h i)) (sym was.run.same) was.takes));
       }
 
 -- ---- it is closed
@@ -133,8 +133,8 @@ or_true true = refl
 or_true false = refl
 
 module _ (id : ℕ) (secret : List ℕ) (g h k : State) (f : FlowState) (read left before after : Option (List ℕ)) (run : HasRun id secret g h f read left before after) (given : IsGivenUp id h k) where
-  brings_all : joined id (run.calls ++ given.calls) ≡ joined id run.calls
-  brings_all = joined_more id run.calls given.calls ∙ ap (λ r. joined id run.calls ++ r) given.brings ∙ append-nil (joined id run.calls)
+  brings_all : bytes_of_calls id (run.calls ++ given.calls) ≡ bytes_of_calls id run.calls
+  brings_all = joined_more id run.calls given.calls ∙ ap (λ r. bytes_of_calls id run.calls ++ r) given.brings ∙ append-nil (bytes_of_calls id run.calls)
 
   pub stopped : (unwritten : List ℕ) → f.portion ++ handed id given.calls ≡ unwritten → HasStopped id secret g k read left before after f.piece unwritten
   stopped unwritten rest_is = record {
@@ -143,7 +143,7 @@ module _ (id : ℕ) (secret : List ℕ) (g h k : State) (f : FlowState) (read le
     own = own_more id run.calls given.calls run.own given.own;
     timely = λ events told. timely_more id events run.calls given.calls (run.timely events told) (given.timely (events ++ run.calls));
     led = led_more id run.calls given.calls g h k run.led given.led;
-    taken = subst (Consumes read left) (run.flowed.all_read ∙ ap (λ (i : ℕ). joined i run.calls ++ f.piece) run.same ∙ ap (λ r. r ++ f.piece) (sym brings_all)) run.taken;
+    taken = subst (Consumes read left) (run.flowed.all_read ∙ ap (λ (i : ℕ). bytes_of_calls i run.calls ++ f.piece) run.same ∙ ap (λ r. r ++ f.piece) (sym brings_all)) run.taken;
     out = run.out;
     put = run.put;
     handed_out = handed_more id run.calls given.calls ∙ ap (λ r. r ++ handed id given.calls) (ap (λ (i : ℕ). handed i run.calls) (sym run.same) ∙ run.flowed.all_written)
@@ -175,10 +175,10 @@ left_so true b none so = refl
 left_so false b none so = cc
 
 -- what is held tells that an item that closes was completed
-closed_by : (g : State) (id : ℕ) (events : List Event) → TakesBytes (held_at g id) → IsTrue (is_closed_in (held_at g id)) → Faithful g events → is_left_closed (rest (joined id events)) ≡ true
-closed_by g id events takes closed told = at (held_at g id) takes closed (told.each id)
+closed_by : (g : State) (id : ℕ) (events : List Event) → TakesBytes (connection_at g id) → IsTrue (is_closed_in (connection_at g id)) → Faithful g events → is_left_closed (rest (bytes_of_calls id events)) ≡ true
+closed_by g id events takes closed told = at (connection_at g id) takes closed (told.each id)
   where
-    at : (held : Option Held) → TakesBytes held → IsTrue (is_closed_in held) → FaithfulAt g.settings id held events → is_left_closed (rest (joined id events)) ≡ true
+    at : (held : Option Held) → TakesBytes held → IsTrue (is_closed_in held) → FaithfulAt g.settings id held events → is_left_closed (rest (bytes_of_calls id events)) ≡ true
     at None takes closed told = cc
     at (Some held) takes closed told =
         let going = open_stage held.stage takes in
@@ -190,7 +190,7 @@ module _ (id : ℕ) (secret : List ℕ) (g h k : State) (f : FlowState) (read le
   served begins was sound rests other gave =
       let run = was.run in
       let given : IsGivenUp id h k = subst (λ (i : ℕ). IsGivenUp i h k) run.same gave in
-      let still = quiet f.want f (held_at h f.id) sound.stands rests other in
+      let still = quiet f.want f (connection_at h f.id) sound.stands rests other in
       let none = none_more (handed id given.calls) (waiting k id) (sym (ap (λ (i : ℕ). waiting h i) (sym run.same) ∙ still.1) ∙ given.dropped) in
       record {
         unbrought = f.piece;
@@ -200,8 +200,8 @@ module _ (id : ℕ) (secret : List ℕ) (g h k : State) (f : FlowState) (read le
             ∙ ap (λ r. has_ended id run.calls || r) (given.ends was.takes) ∙ or_true (has_ended id run.calls);
         behind = ⊎_elim (λ piece. inl piece)
             (λ closed. inr (λ events told.
-            ap (λ bytes. is_left_closed (rest bytes)) (joined_more id events (run.calls ++ given.calls) ∙ ap (λ r. joined id events ++ r) (brings_all id secret g h k f read left before after run given) ∙ sym (joined_more id events run.calls))
-            ∙ closed_by h id (events ++ run.calls) was.takes (subst (λ (i : ℕ). IsTrue (is_closed_in (held_at h i))) run.same closed) (run.led.told events told)))
+            ap (λ bytes. is_left_closed (rest bytes)) (joined_more id events (run.calls ++ given.calls) ∙ ap (λ r. bytes_of_calls id events ++ r) (brings_all id secret g h k f read left before after run given) ∙ sym (joined_more id events run.calls))
+            ∙ closed_by h id (events ++ run.calls) was.takes (subst (λ (i : ℕ). IsTrue (is_closed_in (connection_at h i))) run.same closed) (run.led.told events told)))
             still.2;
         all = none.1;
       }
@@ -211,7 +211,7 @@ module _ (id : ℕ) (secret : List ℕ) (g h k : State) (f : FlowState) (read le
   stops ReadFailed run sound at gave =
       let given : IsGivenUp id h k = subst (λ (i : ℕ). IsGivenUp i h k) run.same gave in
       let stands : Stands want.Read f = subst (λ w. Stands w f) at.0 sound.stands in
-      let rests : RestsAt want.Read f (held_at h f.id) = subst (λ w. RestsAt w f (held_at h f.id)) at.0 at.1 in
+      let rests : RestsAt want.Read f (connection_at h f.id) = subst (λ w. RestsAt w f (connection_at h f.id)) at.0 at.1 in
       let none = none_more (handed id given.calls) (waiting k id) (sym (ap (λ (i : ℕ). waiting h i) (sym run.same) ∙ rests.0) ∙ given.dropped) in
       subst (λ piece. HasStopped id secret g k read left before after piece []) stands.0
       (stopped id secret g h k f read left before after run given [] (ap (λ r. r ++ handed id given.calls) stands.1 ∙ none.0))

@@ -1,7 +1,7 @@
 -- The parts that one call for a flow brings of its piece.
 use Rattle.std.specs.Prelude.{◌≡◌, ◌≢◌, ◌⊎◌, ℕ, List, [], ◌∷◌, ◌++◌, take, drop, Bool, false, IsTrue, Option}
-use Rattle.gate_core.specs.Events.{Event, Bytes, joined}
-use Rattle.gate_core.specs.Held.{Held, State, held_at, waiting, waiting_in, is_closed_in}
+use Rattle.gate_core.specs.Events.{Event, Bytes, bytes_of_calls}
+use Rattle.gate_core.specs.Held.{Held, State, connection_at, waiting, waiting_in, is_closed_in}
 use Rattle.gate_flow.specs.Parts.{IsPart}
 use Rattle.gate_flow.specs.Led.{IsLed, IsLedCalmly}
 
@@ -13,7 +13,7 @@ pub record IsBrought (id : ℕ) (e : Event) (g h : State) (piece left : List ℕ
   pub call : e ≡ Bytes id (take size piece)
   pub rest : left ≡ drop size piece
   pub quiet : waiting g id ≡ []
-  pub going : is_closed_in (held_at g id) ≡ false
+  pub going : is_closed_in (connection_at g id) ≡ false
   pub led : IsLed id (e ∷ []) g h
   pub calm : IsLedCalmly (e ∷ []) g h
 
@@ -30,7 +30,7 @@ pub record AreInParts (id : ℕ) (calls : List Event) (g h : State) (piece left 
   pub at : State
   pub brought : AreBrought id parts g at piece left
   pub after : IsLed id others at h
-  pub bare : joined id others ≡ []
+  pub bare : bytes_of_calls id others ≡ []
 
 -- no further part is brought: the piece is used up, something waits, or no more bytes count
 abbrev pub IsEnough : List ℕ → Option Held → Type 0

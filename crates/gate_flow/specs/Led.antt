@@ -3,8 +3,8 @@ use Rattle.std.specs.Prelude.{◌≡◌, ◌≢◌, ℕ, List, [], ◌∷◌, �
 use Rattle.grid.specs.GridState.{NoneFailed}
 use Rattle.grid.specs.Leaves.{Leaves}
 use Rattle.http_edge.specs.Left.{rest, is_closed as is_left_closed}
-use Rattle.gate_core.specs.Events.{Event, Open, Bytes, End, Take, Lose, Spoil, caller_of, joined, handed, has_ended}
-use Rattle.gate_core.specs.Held.{Held, State, held_at, waiting, bytes_refusal}
+use Rattle.gate_core.specs.Events.{Event, Open, Bytes, End, Take, Lose, Spoil, caller_of, bytes_of_calls, handed, has_ended}
+use Rattle.gate_core.specs.Held.{Held, State, connection_at, waiting, bytes_refusal}
 use Rattle.gate_core.specs.Came.{Opening, Came, IsRoomy}
 use Rattle.gate_core.specs.Faithful.{Faithful}
 
@@ -21,7 +21,7 @@ TakesBytes held = bytes_refusal held ≡ None
 pub record IsLed (id : ℕ) (calls : List Event) (old new : State) : Type 0 where
   pub settings : new.settings ≡ old.settings
   pub leaves : Leaves old.grid new.grid
-  pub others : (other : ℕ) → other ≢ id → held_at new other ≡ held_at old other
+  pub others : (other : ℕ) → other ≢ id → connection_at new other ≡ connection_at old other
   pub told : (events : List Event) → Faithful old events → Faithful new (events ++ calls)
 
 -- They led there also where each reply is the written answer: over honest stores that have the room and don't fail.
@@ -30,7 +30,7 @@ IsLedCalmly calls old new = (opening : Opening) (events : List Event) → Came o
 
 -- no item that closes was completed by the bytes that came on a connection
 abbrev pub IsUnclosed : ℕ → List Event → Type 0
-IsUnclosed id events = is_left_closed (rest (joined id events)) ≡ false
+IsUnclosed id events = is_left_closed (rest (bytes_of_calls id events)) ≡ false
 
 -- a call after these brings no bytes, or does so while no item that closes was completed
 abbrev pub IsTimely : ℕ → List Event → Event → Type 0
@@ -55,14 +55,14 @@ pub record IsMoved (id : ℕ) (old new : State) (piece left portion more : List 
   pub going : has_ended id calls ≡ false
   pub timely : (events : List Event) → Faithful old events → AreTimely id events calls
   pub led : IsLed id calls old new
-  pub brought : piece ≡ joined id calls ++ left
+  pub brought : piece ≡ bytes_of_calls id calls ++ left
   pub handed_out : more ≡ portion ++ handed id calls
 
 -- Each reply is the written answer too, and a connection of which the gateway took bytes is one still.
 pub record IsMovedCalmly (id : ℕ) (old new : State) (piece left portion more : List ℕ) : Type 0 where
   pub moved : IsMoved id old new piece left portion more
   pub calm : IsLedCalmly moved.calls old new
-  pub takes : TakesBytes (held_at old id) → TakesBytes (held_at new id)
+  pub takes : TakesBytes (connection_at old id) → TakesBytes (connection_at new id)
 
 -- A connection was given up: no more bytes are taken of it. Its end came, if it was still to come. The first of what waited
 -- was handed out to nobody, and the rest waits still.
@@ -72,7 +72,7 @@ pub record IsGivenUp (id : ℕ) (old new : State) : Type 0 where
   pub timely : (events : List Event) → AreTimely id events calls
   pub led : IsLed id calls old new
   pub calm : IsLedCalmly calls old new
-  pub brings : joined id calls ≡ []
+  pub brings : bytes_of_calls id calls ≡ []
   pub dropped : waiting old id ≡ handed id calls ++ waiting new id
-  pub ends : TakesBytes (held_at old id) → has_ended id calls ≡ true
-  pub over : bytes_refusal (held_at new id) ≢ None
+  pub ends : TakesBytes (connection_at old id) → has_ended id calls ≡ true
+  pub over : bytes_refusal (connection_at new id) ≢ None

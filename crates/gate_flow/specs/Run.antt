@@ -1,8 +1,8 @@
 -- What a flow's calls came to since it was opened.
 use Rattle.std.specs.Prelude.{◌≡◌, ℕ, List, [], ◌∷◌, ◌++◌, Option}
 use Rattle.std.specs.Io.KnownBytes.{Consumes, Appends}
-use Rattle.gate_core.specs.Events.{Event, Open, joined, handed}
-use Rattle.gate_core.specs.Held.{State, held_at}
+use Rattle.gate_core.specs.Events.{Event, Open, bytes_of_calls, handed}
+use Rattle.gate_core.specs.Held.{State, connection_at}
 use Rattle.gate_core.specs.Faithful.{Faithful}
 use Rattle.gate_flow.specs.State.{FlowState}
 use Rattle.gate_flow.specs.Led.{AreOf, TakesBytes, AreTimely, IsLed, IsLedCalmly}
@@ -31,4 +31,4 @@ pub record HasRun (id : ℕ) (secret : List ℕ) (g h : State) (f : FlowState) (
 pub record HasRunCalmly (id : ℕ) (secret : List ℕ) (g h : State) (f : FlowState) (read left before after : Option (List ℕ)) : Type 0 where
   pub run : HasRun id secret g h f read left before after
   pub calm : IsLedCalmly run.calls g h
-  pub takes : TakesBytes (held_at h id)
+  pub takes : TakesBytes (connection_at h id)

@@ -2,8 +2,8 @@
 use Rattle.std.specs.Prelude.{◌≡◌, ◌≢◌, ℕ, List, [], ◌++◌, ◌⊎◌, ⊤, true, Option, None}
 use Rattle.std.specs.Io.KnownBytes.{Consumes, Appends}
 use Rattle.http_edge.specs.Left.{rest, is_closed as is_left_closed}
-use Rattle.gate_core.specs.Events.{Event, joined, handed, has_ended}
-use Rattle.gate_core.specs.Held.{State, held_at, waiting, bytes_refusal}
+use Rattle.gate_core.specs.Events.{Event, bytes_of_calls, handed, has_ended}
+use Rattle.gate_core.specs.Held.{State, connection_at, waiting, bytes_refusal}
 use Rattle.gate_core.specs.Faithful.{Faithful}
 use Rattle.gate_flow.specs.declared.fault.FlowFault.{FlowFault}
 use Rattle.gate_flow.specs.declared.fault.FlowFault.TheVariants.{Refused, ReadFailed, WriteFailed, NoMemory}
@@ -22,15 +22,15 @@ pub record HasStopped (id : ℕ) (secret : List ℕ) (old new : State) (read lef
   pub own : AreOf id calls
   pub timely : (events : List Event) → Faithful old events → AreTimely id events calls
   pub led : IsLed id calls old new
-  pub taken : Consumes read left (joined id calls ++ unbrought)
+  pub taken : Consumes read left (bytes_of_calls id calls ++ unbrought)
   pub out : List ℕ
   pub put : Appends before after out
   pub handed_out : handed id calls ≡ out ++ unwritten
-  pub over : bytes_refusal (held_at new id) ≢ None
+  pub over : bytes_refusal (connection_at new id) ≢ None
 
 -- an item that closes was completed by what these calls brought
 abbrev pub IsClosedBy : ℕ → State → List Event → Type 0
-IsClosedBy id old calls = (events : List Event) → Faithful old events → is_left_closed (rest (joined id (events ++ calls))) ≡ true
+IsClosedBy id old calls = (events : List Event) → Faithful old events → is_left_closed (rest (bytes_of_calls id (events ++ calls))) ≡ true
 
 -- It was served: its end was the last that it brought, all that was handed out was written, and nothing waits. What was read
 -- and not brought stands behind an item that closes.

@@ -1,7 +1,7 @@
 //! The calls of a gateway that a flow makes.
 ghost use Rattle.std.specs.Prelude.{◌≡◌, ◌≢◌, ◌<◌, ◌≤◌, ◌⊎◌, [], ◌∷◌, ◌++◌, length, take, OnOk, OnErr, IfOk, IfErr, IsOk, IsOkUnless, IsTrue, MatchBool, MatchOption, None, false, unwrap_or, option_copied};
 ghost use Rattle.gate_core.specs.Events.{Open, Bytes, End, Take};
-ghost use Rattle.gate_core.specs.Held.{held_at, waiting, is_closed_in, bytes_refusal, open_refusal};
+ghost use Rattle.gate_core.specs.Held.{connection_at, waiting, is_closed_in, bytes_refusal, open_refusal};
 ghost use Rattle.gate_core.specs.Came.{GoesOn};
 ghost use Rattle.gate_flow.specs.Faults.{IsCallFault};
 ghost use Rattle.gate_flow.specs.Led.{TakesBytes, IsLed, IsLedCalmly, IsMoved, IsMovedCalmly, IsGivenUp};
@@ -22,7 +22,7 @@ pub fn begin<S: Store>(
     id: u64,
     secret: Option<&[u8]>,
 ) -> Result<(), FlowFault>
-    ensures answer { MatchOption (open_refusal (held_at gateway.old id)
+    ensures answer { MatchOption (open_refusal (connection_at gateway.old id)
         (length (unwrap_or (option_copied secret.entry) [])))
         (IsOkUnless result FlowFault.NoMemory) (λ _. result ≡ Err FlowFault.Refused) }
     ensures led { OnOk result (IsLed id (Open id
@@ -32,9 +32,9 @@ pub fn begin<S: Store>(
         (unwrap_or (option_copied secret.entry) gateway.old.settings.secret)
         ∷ []) gateway.old gateway.new) }
     ensures nothing { OnOk result (waiting gateway.new id ≡ []) }
-    ensures going { OnOk result (is_closed_in (held_at gateway.new id) ≡ false) }
-    ensures takes { OnOk result (TakesBytes (held_at gateway.new id)) }
-    ensures fresh { OnOk result (held_at gateway.old id ≡ None) }
+    ensures going { OnOk result (is_closed_in (connection_at gateway.new id) ≡ false) }
+    ensures takes { OnOk result (TakesBytes (connection_at gateway.new id)) }
+    ensures fresh { OnOk result (connection_at gateway.old id ≡ None) }
     ensures err { OnErr result (gateway.new ≡ gateway.old) }
 {
     gate_core::laws::faithful_goes_on();
@@ -48,9 +48,9 @@ pub fn begin<S: Store>(
 fn bring<S: Store>(gateway: &mut Gateway<S>, id: u64, piece: &[u8]) -> Result<(), FlowFault>
     ensures led { OnOk result (IsLed id (Bytes id piece.now ∷ []) gateway.old gateway.new) }
     ensures calm { OnOk result (IsLedCalmly (Bytes id piece.now ∷ []) gateway.old gateway.new) }
-    ensures takes { OnOk result (TakesBytes (held_at gateway.new id)) }
+    ensures takes { OnOk result (TakesBytes (connection_at gateway.new id)) }
     ensures err { OnErr result (IsLed id [] gateway.old gateway.new) }
-    ensures faults { IfErr result (IsCallFault (held_at gateway.old id)) }
+    ensures faults { IfErr result (IsCallFault (connection_at gateway.old id)) }
 {
     gate_core::laws::faithful_goes_on();
     match gateway.bytes(id, piece) {
@@ -72,9 +72,9 @@ pub fn take_first<S: Store>(
     ensures rest { IfOk result (λ given.
         waiting gateway.old id ≡ given.items ++ waiting gateway.new id) }
     ensures stays { OnOk result
-        (bytes_refusal (held_at gateway.new id) ≡ bytes_refusal (held_at gateway.old id)) }
+        (bytes_refusal (connection_at gateway.new id) ≡ bytes_refusal (connection_at gateway.old id)) }
     ensures err { OnErr result (gateway.new ≡ gateway.old) }
-    ensures faults { IfErr result (IsCallFault (held_at gateway.old id)) }
+    ensures faults { IfErr result (IsCallFault (connection_at gateway.old id)) }
 {
     gate_core::laws::faithful_goes_on();
     match gateway.take(id, max) {
@@ -95,9 +95,9 @@ fn bring_end<S: Store>(gateway: &mut Gateway<S>, id: u64) -> Result<(), FlowFaul
     ensures led { OnOk result (IsLed id (End id ∷ []) gateway.old gateway.new) }
     ensures calm { OnOk result (IsLedCalmly (End id ∷ []) gateway.old gateway.new) }
     ensures same { waiting gateway.new id ≡ waiting gateway.old id }
-    ensures over { bytes_refusal (held_at gateway.new id) ≢ None }
+    ensures over { bytes_refusal (connection_at gateway.new id) ≢ None }
     ensures err { OnErr result (gateway.new ≡ gateway.old) }
-    ensures refused { OnErr result (bytes_refusal (held_at gateway.old id) ≢ None) }
+    ensures refused { OnErr result (bytes_refusal (connection_at gateway.old id) ≢ None) }
 {
     gate_core::laws::faithful_goes_on();
     match gateway.end(id) {
@@ -114,7 +114,7 @@ fn bring_part<S: Store>(
 ) -> Result<(), FlowFault>
     requires some { piece.old ≢ [] }
     requires quiet { waiting gateway.old id ≡ [] }
-    requires going { is_closed_in (held_at gateway.old id) ≡ false }
+    requires going { is_closed_in (connection_at gateway.old id) ≡ false }
     ensures ok { OnOk result (
         (now : IsMovedCalmly id gateway.old gateway.new piece.old piece.new [] [])
         × AreBrought id now.moved.calls gateway.old gateway.new piece.old piece.new) }
@@ -123,7 +123,7 @@ fn bring_part<S: Store>(
         × AreInParts id now.calls gateway.old gateway.new piece.old piece.new) }
     ensures less { OnOk result (length piece.new < length piece.old) }
     ensures same { OnErr result (piece.new ≡ piece.old) }
-    ensures faults { IfErr result (IsCallFault (held_at gateway.old id)) }
+    ensures faults { IfErr result (IsCallFault (connection_at gateway.old id)) }
 {
     let bytes = piece.as_slice();
     let len = part_len(bytes);
@@ -144,9 +144,9 @@ pub fn bring_parts<S: Store>(
     ensures err { OnErr result (
         (now : IsMoved id gateway.old gateway.new piece.old piece.new [] [])
         × AreInParts id now.calls gateway.old gateway.new piece.old piece.new) }
-    ensures until { OnOk result (IsEnough piece.new (held_at gateway.new id)) }
+    ensures until { OnOk result (IsEnough piece.new (connection_at gateway.new id)) }
     ensures less { length piece.new ≤ length piece.old }
-    ensures faults { IfErr result (IsCallFault (held_at gateway.old id)) }
+    ensures faults { IfErr result (IsCallFault (connection_at gateway.old id)) }
 {
     gate_core::laws::beginnings_have_room();
     'parts: while !piece.is_empty() {

@@ -1,7 +1,7 @@
 //! One connection, without its socket.
 ghost use Rattle.std.specs.Prelude.{◌≡◌, ◌≢◌, [], ◌∷◌, length, ◌⊎◌, OnOk, IfOk, IfErr, OnErr, IsOkUnless, MatchOption, None, unwrap_or, option_copied};
 ghost use Rattle.gate_core.specs.Events.{Open};
-ghost use Rattle.gate_core.specs.Held.{held_at, open_refusal};
+ghost use Rattle.gate_core.specs.Held.{connection_at, open_refusal};
 ghost use Rattle.gate_flow.specs.Faults.{IsCallFault, IsReadFault, IsWriteFault};
 ghost use Rattle.gate_flow.specs.State.{IsSound, opened_flow};
 ghost use Rattle.gate_flow.specs.Led.{TakesBytes, IsLed, IsLedCalmly, IsGivenUp};
@@ -56,7 +56,7 @@ impl Flow {
         id: u64,
         secret: Option<&[u8]>,
     ) -> Result<Flow, FlowFault>
-        ensures answer { MatchOption (open_refusal (held_at gateway.old id)
+        ensures answer { MatchOption (open_refusal (connection_at gateway.old id)
             (length (unwrap_or (option_copied secret.entry) [])))
             (IsOkUnless result FlowFault.NoMemory) (λ _. result ≡ Err FlowFault.Refused) }
         ensures opened { IfOk result (λ flow. flow ≡ opened_flow id) }
@@ -67,8 +67,8 @@ impl Flow {
             (unwrap_or (option_copied secret.entry) gateway.old.settings.secret)
             ∷ []) gateway.old gateway.new) }
         ensures rests { IfOk result (λ flow. Rests flow gateway.new) }
-        ensures takes { OnOk result (TakesBytes (held_at gateway.new id)) }
-        ensures fresh { OnOk result (held_at gateway.old id ≡ None) }
+        ensures takes { OnOk result (TakesBytes (connection_at gateway.new id)) }
+        ensures fresh { OnOk result (connection_at gateway.old id ≡ None) }
         ensures err { OnErr result (gateway.new ≡ gateway.old) }
     {
         begin(gateway, id, secret)?;
@@ -141,7 +141,7 @@ impl Flow {
         ensures ok { OnOk result (AdvancesCalmly self.old self.new gateway.old gateway.new) }
         ensures err { OnErr result (Advances self.old self.new gateway.old gateway.new) }
         ensures rests { OnOk result (Rests self.new gateway.new) }
-        ensures faults { IfErr result (IsCallFault (held_at gateway.old self.old.id)) }
+        ensures faults { IfErr result (IsCallFault (connection_at gateway.old self.old.id)) }
     {
         gate_core::laws::beginnings_have_room();
         bring_parts(gateway, self.id, &mut self.piece)?;

@@ -2,7 +2,7 @@
 ghost use Rattle.std.specs.Prelude.{◌≡◌, ◌≢◌, ◌++◌, ◌∷◌, ℕ, List, [], None, Option};
 ghost use Rattle.http_edge.specs.Frame.{frame};
 ghost use Rattle.chk_file.specs.Look.{by_fit};
-ghost use Rattle.gate_core.specs.Events.{Event, Open, joined, secret_of};
+ghost use Rattle.gate_core.specs.Events.{Event, Open, bytes_of_calls, secret_of};
 ghost use Rattle.gate_core.specs.Items.{Entry, items};
 ghost use Rattle.gate_core.specs.Settings.{under};
 ghost use Rattle.gate_core.specs.Runs.{said_by, said};
@@ -10,7 +10,7 @@ ghost use Rattle.gate_core.specs.Reach.{only, kept_by, kept};
 ghost use Rattle.gate_core.specs.Uploaded.{IsLeftBy};
 ghost use Rattle.gate_core.specs.Apart.{Apart};
 ghost use Rattle.gate_core.specs.Replied.{AreAnswered};
-ghost use Rattle.gate_core.specs.Held.{State, held_at, waiting};
+ghost use Rattle.gate_core.specs.Held.{State, connection_at, waiting};
 ghost use Rattle.gate_core.specs.Came.{Opening, Came};
 ghost use Rattle.gate_core.specs.Faithful.{Faithful};
 ghost use Rattle.gate_flow.specs.declared.fault.FlowFault.{FlowFault};
@@ -26,7 +26,7 @@ use crate::want::Want;
 /// Where a flow stands goes on with each of its calls, and calls for other flows leave it as it is.
 pub fn flows_go_on()
     ensures opened { (g : State) (events : List Event) (id : ℕ) (secret : List ℕ) →
-        Faithful g events → held_at g id ≡ None →
+        Faithful g events → connection_at g id ≡ None →
         Flowed (opened_flow id) (events ++ Open id secret ∷ []) [] [] }
     ensures read { (old new : FlowState) (events : List Event) (read written : List ℕ)
         (before after : Option (List ℕ)) → Flowed old events read written →
@@ -42,7 +42,7 @@ pub fn flows_go_on()
         Flowed f events read written → id ≢ f.id → AreOf id calls →
         Flowed f (events ++ calls) read written }
     // nor does it change what it rests for
-    ensures rests { (f : FlowState) (g h : State) → held_at h f.id ≡ held_at g f.id →
+    ensures rests { (f : FlowState) (g h : State) → connection_at h f.id ≡ connection_at g f.id →
         Rests f g → Rests f h }
 {}
 
@@ -50,7 +50,7 @@ pub fn flows_go_on()
 pub fn flows_run()
     ensures begun { (id : ℕ) (secret : List ℕ) (g h : State) (r w : Option (List ℕ)) →
         IsLed id (Open id secret ∷ []) g h → IsLedCalmly (Open id secret ∷ []) g h →
-        TakesBytes (held_at h id) → HasRunCalmly id secret g h (opened_flow id) r r w w }
+        TakesBytes (connection_at h id) → HasRunCalmly id secret g h (opened_flow id) r r w w }
     ensures read { (id : ℕ) (secret : List ℕ) (g h : State) (old new : FlowState)
         (read left before after left2 : Option (List ℕ)) →
         HasRunCalmly id secret g h old read left before after → IsRead old new left left2 →
@@ -85,7 +85,7 @@ pub fn flows_run()
 /// verification say of its own items; and these are those of bytes that were read from it, up to the piece at hand.
 pub fn what_is_written_was_said()
     ensures brought { (f : FlowState) (events : List Event) (read written : List ℕ) →
-        Flowed f events read written → read ≡ joined f.id events ++ f.piece }
+        Flowed f events read written → read ≡ bytes_of_calls f.id events ++ f.piece }
     ensures said { (opening : Opening) (f : FlowState) (g : State) (events : List Event)
         (read written : List ℕ) → Came opening g events → Flowed f events read written →
         written ++ (f.portion ++ waiting g f.id)
@@ -93,7 +93,7 @@ pub fn what_is_written_was_said()
     // over any stores it is a beginning of one reply for each of its items
     ensures answered { (f : FlowState) (g : State) (events : List Event) (read written : List ℕ) →
         Faithful g events → Flowed f events read written → (more : List ℕ)
-        × AreAnswered (under g.settings (secret_of f.id events)) (frame (joined f.id events))
+        × AreAnswered (under g.settings (secret_of f.id events)) (frame (bytes_of_calls f.id events))
         (written ++ (f.portion ++ more)) }
     // where other callers' items are dropped, save uploads under a storage index that this one met, it is what the written
     // answers say: where a run left what stood at first, and no two strings collide that are hashed in its part

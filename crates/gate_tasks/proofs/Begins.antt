@@ -15,7 +15,7 @@ use Rattle.gate_core.specs.declared.fault.GatewayFault.{GatewayFault}
 use Rattle.gate_core.specs.declared.fault.GatewayFault.TheVariants.{BadParameters}
 use Rattle.gate_tasks.specs.Stores.{fresh}
 use Rattle.gate_tasks.specs.Script.{Step, is_refusal}
-use Rattle.gate_tasks.specs.Replies.{settings_by, opening_by, are_parameters, IsOpenedBy, IsRestoreReply, IsTold}
+use Rattle.gate_tasks.specs.Replies.{settings_by, opening_by, are_parameters, IsOpenedBy, IsRestoreReply, AreTold}
 use Rattle.gate_tasks.specs.Running.{CameBy, IsAt, IsAnswer, Answered}
 use Rattle.gate_tasks.specs.declared.command.Command.TheVariants as command
 use Rattle.gate_tasks.specs.declared.command.Grid.{Grid}
@@ -117,12 +117,12 @@ begin_refused log (Some was) after grid fault at is bad = absurd at
 
 -- ---- `restore`
 
-pub restored : (log : List Step) (grid : Grid) (gateway : Option State) (image : List ℕ) (g : State) → IsAt log (Some grid) gateway → IsTold log → g.settings ≡ settings_by grid → (image_said grid.servers image).fault ≡ None
+pub restored : (log : List Step) (grid : Grid) (gateway : Option State) (image : List ℕ) (g : State) → IsAt log (Some grid) gateway → AreTold log → g.settings ≡ settings_by grid → (image_said grid.servers image).fault ≡ None
     → ((opening : Opening) → IsOpenedBy grid image opening → Came opening g []) → Answered log (command.Restore image) (Some Done) None (Some g)
 restored log grid None image g at told set sound came = absurd at
 restored log grid (Some old) image g at told set sound came =
     let step : Step = record { command = command.Restore image; reply = Done } in
-    let first : IsTold (record { command = command.Grid grid; reply = Done } ∷ []) = subst IsTold at.0 told in
+    let first : AreTold (record { command = command.Grid grid; reply = Done } ∷ []) = subst AreTold at.0 told in
     let was : CameBy (record { command = command.Grid grid; reply = Done } ∷ []) old = subst (λ l. CameBy l old) at.0 at.1 in
     subst (λ l. IsAnswer l step None (Some g)) (sym at.0) record {
       stands = refl;
@@ -131,12 +131,12 @@ restored log grid (Some old) image g at told set sound came =
       at = λ _. (omega arith, record { settings = set; sharing = was.sharing; calm = λ opening opened calm. came opening opened });
     }
 
-pub restore_refused : (log : List Step) (grid : Grid) (gateway : Option State) (image : List ℕ) (reply : Reply) → IsAt log (Some grid) gateway → IsTold log → is_refusal reply ≡ true → IsRestoreReply grid image reply
+pub restore_refused : (log : List Step) (grid : Grid) (gateway : Option State) (image : List ℕ) (reply : Reply) → IsAt log (Some grid) gateway → AreTold log → is_refusal reply ≡ true → IsRestoreReply grid image reply
     → Answered log (command.Restore image) (Some reply) None None
 restore_refused log grid None image reply at told refusal cause = absurd at
 restore_refused log grid (Some old) image reply at told refusal cause =
     let step : Step = record { command = command.Restore image; reply = reply } in
-    let first : IsTold (record { command = command.Grid grid; reply = Done } ∷ []) = subst IsTold at.0 told in
+    let first : AreTold (record { command = command.Grid grid; reply = Done } ∷ []) = subst AreTold at.0 told in
     subst (λ l. IsAnswer l step None None) (sym at.0) record {
       stands = refl;
       told = record { made = first.made; restored = cause; replies = λ opening opened. tt };

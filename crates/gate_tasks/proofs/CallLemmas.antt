@@ -29,7 +29,7 @@ use Rattle.gate_core.specs.Runs.{world_after, said_by, said}
 use Rattle.gate_core.specs.Reach.{only, kept}
 use Rattle.gate_core.specs.Uploaded.{IsProper, IsLeftBy}
 use Rattle.gate_core.specs.Apart.{Apart}
-use Rattle.gate_core.specs.Held.{Held, State, held_at, waiting, waiting_in, open_refusal, bytes_refusal, take_refusal, stage_refusal}
+use Rattle.gate_core.specs.Held.{Held, State, connection_at, waiting, waiting_in, open_refusal, bytes_refusal, take_refusal, stage_refusal}
 use Rattle.gate_core.specs.Lefts.{with_held, with_grid, opened, taken, ended}
 use Rattle.gate_core.specs.Came.{Opening, Came, CameAt, IsRoomy, GoesOn, stage_of}
 use Rattle.gate_core.specs.Served.{IsReceived}
@@ -56,14 +56,14 @@ short n None P Q never answer =
     ] answer
 short n (Some held) P Q never answer = absurd (never Known answer)
 
-pub open_called : (old new : State) (id : ℕ) (secret : Option (List ℕ)) (P : Type 0) (Q : GatewayFault → Type 0) → ((e : GatewayFault) → Q e → ⊥) → MatchOption (open_refusal (held_at old id) (length (unwrap_or secret []))) P Q → new ≡ with_held old id (opened secret)
+pub open_called : (old new : State) (id : ℕ) (secret : Option (List ℕ)) (P : Type 0) (Q : GatewayFault → Type 0) → ((e : GatewayFault) → Q e → ⊥) → MatchOption (open_refusal (connection_at old id) (length (unwrap_or secret []))) P Q → new ≡ with_held old id (opened secret)
     → GoesOn old new (Open id (unwrap_or secret old.settings.secret)) → IsCalled old new (call.Open id secret) Done
 open_called old new id secret P Q never answer left on = record {
   settings = ap (λ (s : State). s.settings) left;
   told = λ grid opening events set sharing came.
       let n = length (unwrap_or secret []) in
-      ap (λ b. cond b (Refused BadParameters) Done) (sym (short n (held_at old id) P Q never answer))
-      ∙ ap (λ b. cond b (Refused Known) (opened_reply secret)) (sym (unknown old.settings opening.world id n (held_at old id) events P Q never answer (came.each id)));
+      ap (λ b. cond b (Refused BadParameters) Done) (sym (short n (connection_at old id) P Q never answer))
+      ∙ ap (λ b. cond b (Refused Known) (opened_reply secret)) (sym (unknown old.settings opening.world id n (connection_at old id) events P Q never answer (came.each id)));
   came = λ grid opening events set came calm.
       subst (λ (s : Settings). Came opening new (events ++ Open id (unwrap_or secret s.secret) ∷ [])) set (on opening events came);
 }
@@ -85,25 +85,25 @@ open_held : (held : Option Held) (P : Type 0) (Q : GatewayFault → Type 0) → 
 open_held None P Q never answer = absurd (never NotOpen answer)
 open_held (Some h) P Q never answer = (h, refl)
 
-pub end_called : (old new : State) (id : ℕ) (P : Type 0) (Q : GatewayFault → Type 0) → ((e : GatewayFault) → Q e → ⊥) → MatchOption (bytes_refusal (held_at old id)) P Q
-    → ((h : Held) → held_at old id ≡ Some h → new ≡ with_held old id (ended h)) → GoesOn old new (End id) → IsCalled old new (call.End id) Done
+pub end_called : (old new : State) (id : ℕ) (P : Type 0) (Q : GatewayFault → Type 0) → ((e : GatewayFault) → Q e → ⊥) → MatchOption (bytes_refusal (connection_at old id)) P Q
+    → ((h : Held) → connection_at old id ≡ Some h → new ≡ with_held old id (ended h)) → GoesOn old new (End id) → IsCalled old new (call.End id) Done
 end_called old new id P Q never answer left on =
-    let h = open_held (held_at old id) P Q never answer in
+    let h = open_held (connection_at old id) P Q never answer in
     record {
       settings = ap (λ (s : State). s.settings) (left h.0 h.1);
-      told = λ grid opening events set sharing came. ap (λ b. cond b Done (Refused NotOpen)) (sym (going old.settings opening.world id (held_at old id) events P Q never answer (came.each id)));
+      told = λ grid opening events set sharing came. ap (λ b. cond b Done (Refused NotOpen)) (sym (going old.settings opening.world id (connection_at old id) events P Q never answer (came.each id)));
       came = λ grid opening events set came calm. on opening events came;
     }
 
-pub bytes_called : (old new : State) (id : ℕ) (piece : List ℕ) (P : Type 0) (Q : GatewayFault → Type 0) → ((e : GatewayFault) → Q e → ⊥) → MatchOption (bytes_refusal (held_at old id)) P Q
-    → ((h : Held) → held_at old id ≡ Some h → IsReceived old new id h piece) → ((s : ℕ) → failures_at old.grid s ≡ 0) → ((s : ℕ) → failures_at new.grid s ≡ 0)
+pub bytes_called : (old new : State) (id : ℕ) (piece : List ℕ) (P : Type 0) (Q : GatewayFault → Type 0) → ((e : GatewayFault) → Q e → ⊥) → MatchOption (bytes_refusal (connection_at old id)) P Q
+    → ((h : Held) → connection_at old id ≡ Some h → IsReceived old new id h piece) → ((s : ℕ) → failures_at old.grid s ≡ 0) → ((s : ℕ) → failures_at new.grid s ≡ 0)
     → ((opening : Opening) (events : List Event) → Came opening old events → IsRoomy old.settings opening (events ++ Bytes id piece ∷ []) → NoneFailed old.grid new.grid → Came opening new (events ++ Bytes id piece ∷ []))
     → IsCalled old new (call.Bytes id piece) Done
 bytes_called old new id piece P Q never answer received before after on =
-    let h = open_held (held_at old id) P Q never answer in
+    let h = open_held (connection_at old id) P Q never answer in
     record {
       settings = (received h.0 h.1).settings;
-      told = λ grid opening events set sharing came. ap (λ b. cond b Done (Refused NotOpen)) (sym (going old.settings opening.world id (held_at old id) events P Q never answer (came.each id)));
+      told = λ grid opening events set sharing came. ap (λ b. cond b Done (Refused NotOpen)) (sym (going old.settings opening.world id (connection_at old id) events P Q never answer (came.each id)));
       came = λ grid opening events set came calm.
           on opening events came (subst (λ (s : Settings). IsRoomy s opening (events ++ Bytes id piece ∷ [])) (sym set) calm) (λ s. after s ∙ sym (before s));
     }
@@ -120,7 +120,7 @@ taken_held None P Q never answer = absurd (never NotOpen answer)
 taken_held (Some h) P Q never answer = (h, refl)
 
 -- what waits is what the caller was not given yet
-waits : (g : State) (grid : Grid) (opening : Opening) (events : List Event) (id : ℕ) (held : Option Held) (P : Type 0) (Q : GatewayFault → Type 0) → ((e : GatewayFault) → Q e → ⊥) → MatchOption (take_refusal held) P Q → held_at g id ≡ held
+waits : (g : State) (grid : Grid) (opening : Opening) (events : List Event) (id : ℕ) (held : Option Held) (P : Type 0) (Q : GatewayFault → Type 0) → ((e : GatewayFault) → Q e → ⊥) → MatchOption (take_refusal held) P Q → connection_at g id ≡ held
     → g.settings ≡ settings_by grid → CameAt g.settings opening.world id held events → unsaid grid opening id events ≡ waiting g id
 waits g grid opening events id None P Q never answer is set at = absurd (never NotOpen answer)
 waits g grid opening events id (Some h) P Q never answer is set at =
@@ -151,17 +151,17 @@ taken_reply g grid opening events id most reply law set sharing came is = record
   isolated = λ apart. is ∙ ap (first_of id events most) (kept_unsaid law g grid opening events id set sharing came apart);
 }
 
-pub take_called : KeptIsVerified → (old new : State) (id most : ℕ) (given : List ℕ) (P : Type 0) (Q : GatewayFault → Type 0) → ((e : GatewayFault) → Q e → ⊥) → MatchOption (take_refusal (held_at old id)) P Q → given ≡ take most (waiting old id)
-    → ((h : Held) → held_at old id ≡ Some h → new ≡ with_held old id (taken most h)) → GoesOn old new (Take id given) → IsCalled old new (call.Take id most) (Given given)
+pub take_called : KeptIsVerified → (old new : State) (id most : ℕ) (given : List ℕ) (P : Type 0) (Q : GatewayFault → Type 0) → ((e : GatewayFault) → Q e → ⊥) → MatchOption (take_refusal (connection_at old id)) P Q → given ≡ take most (waiting old id)
+    → ((h : Held) → connection_at old id ≡ Some h → new ≡ with_held old id (taken most h)) → GoesOn old new (Take id given) → IsCalled old new (call.Take id most) (Given given)
 take_called law old new id most given P Q never answer is left on =
-    let h = taken_held (held_at old id) P Q never answer in
+    let h = taken_held (connection_at old id) P Q never answer in
     record {
       settings = ap (λ (s : State). s.settings) (left h.0 h.1);
       told = λ grid opening events set sharing came.
           let whole : Given given ≡ Given (take most (unsaid grid opening id events)) =
-          ap Given (is ∙ ap (take most) (sym (waits old grid opening events id (held_at old id) P Q never answer refl set (came.each id)))) in
+          ap Given (is ∙ ap (take most) (sym (waits old grid opening events id (connection_at old id) P Q never answer refl set (came.each id)))) in
           taken_reply old grid opening events id most (Given given) law set sharing came
-          (whole ∙ ap (λ b. cond b (Given (take most (unsaid grid opening id events))) (Refused NotOpen)) (sym (known old.settings opening.world id (held_at old id) events P Q never answer (came.each id))));
+          (whole ∙ ap (λ b. cond b (Given (take most (unsaid grid opening id events))) (Refused NotOpen)) (sym (known old.settings opening.world id (connection_at old id) events P Q never answer (came.each id))));
       came = λ grid opening events set came calm. on opening events came;
     }
 

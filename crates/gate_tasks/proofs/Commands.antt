@@ -10,7 +10,7 @@ use Rattle.std.proofs.lemmas.List.Splits.{slice_split_at, slice_split_none, join
 use Rattle.octets.specs.Cut.{IsCutAt}
 use Rattle.octets.specs.Decimal.{number_to}
 use Rattle.gate_tasks.specs.Text.{unescaped}
-use Rattle.gate_tasks.specs.Command.{words, verb_of, asked_with, asked_by, command_of, grid_of, restore_of, open_of, secret_of, bytes_of, text_of, end_of, take_of, lose_of, spoil_of, image_of, share_of, index_of, middle_number, long_number}
+use Rattle.gate_tasks.specs.Command.{words, verb_of, asked_with, command_of_words, command_of, grid_of, restore_of, open_of, secret_of, bytes_of, text_of, end_of, take_of, lose_of, spoil_of, image_of, share_of, index_of, middle_number, long_number}
 use Rattle.gate_tasks.specs.declared.command.Command.{Command}
 use Rattle.gate_tasks.specs.declared.command.Command.TheVariants as command
 use Rattle.gate_tasks.specs.declared.command.Call.TheVariants.{Open, Bytes, End, Take, Lose, Spoil}
@@ -255,8 +255,8 @@ image_line line = image_more (words line) (some_word line)
 
 -- a line's verb is looked up
 pub looked_up : (line word rest : List ℕ) (verb : Option Verb) → IsCutAt 32 line word rest → verb ≡ verb_of word → option_and_then (λ known. asked_with known (words rest)) verb ≡ command_of line
-looked_up line word rest verb cut is = ap (option_and_then (λ known. asked_with known (words rest))) is ∙ ap asked_by (sym (words_cut line word rest cut))
+looked_up line word rest verb cut is = ap (option_and_then (λ known. asked_with known (words rest))) is ∙ ap command_of_words (sym (words_cut line word rest cut))
 
 -- also where it is the only word
-pub looked_up_alone : (line : List ℕ) → All (λ b. b ≢ 32) line → asked_by (line ∷ []) ≡ command_of line
-looked_up_alone line none = ap asked_by (sym (words_one line none))
+pub looked_up_alone : (line : List ℕ) → All (λ b. b ≢ 32) line → command_of_words (line ∷ []) ≡ command_of line
+looked_up_alone line none = ap command_of_words (sym (words_one line none))

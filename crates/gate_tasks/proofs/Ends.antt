@@ -12,7 +12,7 @@ use Rattle.gate_tasks.specs.Command.{command_of}
 use Rattle.gate_tasks.specs.Lines.{LacksLf, Line, lines_of, piece_of, is_within}
 use Rattle.gate_tasks.specs.Reading.{IsTooLong, ReadsLine, LineReads}
 use Rattle.gate_tasks.specs.Script.{Step, Run, Told, End, Ended, Stopped, allowed, ends_run, answer_text, after_text, stepped, asked_for, told_at, told, written_by}
-use Rattle.gate_tasks.specs.Replies.{IsTold}
+use Rattle.gate_tasks.specs.Replies.{AreTold}
 use Rattle.gate_tasks.specs.Running.{GoesOn, EndsAt, IsBad, WritesPart, LineRuns, IsOneLine, StopsAfter, Answers, AnswersSome, RunEnds}
 use Rattle.gate_tasks.specs.declared.command.Command.{Command}
 use Rattle.gate_tasks.specs.declared.command.Grid.{Grid}
@@ -51,9 +51,9 @@ at_end (Some x) (Some y) r2 done taken last = last
 abbrev pub Both : Option (List ℕ) → Option (List ℕ) → Option (List ℕ) → Option (List ℕ) → Result (Unit {0}) ScriptFault → Type 0
 Both r0 r2 w0 w2 result = RunEnds r0 r2 w0 w2 result × IfSome r0 (λ script. AnswersSome script w0 w2)
 
-answers : (x : List ℕ) (replies : List Reply) (old new : Option (List ℕ)) (text : List ℕ) (log : List Step) (end : End) → written_by x replies ≡ record { text = text; log = log; end = end } → IsTold log → Appends old new text → Answers x old new end
+answers : (x : List ℕ) (replies : List Reply) (old new : Option (List ℕ)) (text : List ℕ) (log : List Step) (end : End) → written_by x replies ≡ record { text = text; log = log; end = end } → AreTold log → Appends old new text → Answers x old new end
 answers x replies old new text log end is is_told written =
-    record { replies = replies; told = subst IsTold (sym (ap (λ t. t.log) is)) is_told; ends = ap (λ t. t.end) is; written = subst (Appends old new) (sym (ap (λ t. t.text) is)) written }
+    record { replies = replies; told = subst AreTold (sym (ap (λ t. t.log) is)) is_told; ends = ap (λ t. t.end) is; written = subst (Appends old new) (sym (ap (λ t. t.text) is)) written }
 
 -- what was written is all of the answers
 whole : (x : List ℕ) (old new : Option (List ℕ)) (end : End) → Answers x old new end → AnswersSome x old new
@@ -62,12 +62,12 @@ whole x old new end a =
     record { replies = a.replies; told = a.told; written = record { beginning = text; rest = []; begins = sym (append-nil text); written = a.written } }
 
 -- what was written is a beginning of the answers
-part : (x : List ℕ) (replies : List Reply) (old new : Option (List ℕ)) (text rest : List ℕ) (log : List Step) (end : End) → written_by x replies ≡ record { text = text ++ rest; log = log; end = end } → IsTold log → Appends old new text
+part : (x : List ℕ) (replies : List Reply) (old new : Option (List ℕ)) (text rest : List ℕ) (log : List Step) (end : End) → written_by x replies ≡ record { text = text ++ rest; log = log; end = end } → AreTold log → Appends old new text
     → AnswersSome x old new
 part x replies old new text rest log end is is_told written =
     record {
       replies = replies;
-      told = subst IsTold (sym (ap (λ t. t.log) is)) is_told;
+      told = subst AreTold (sym (ap (λ t. t.log) is)) is_told;
       written = record { beginning = text; rest = rest; begins = ap (λ t. t.text) is; written = written };
     }
 
@@ -138,7 +138,7 @@ module _ (r0 r1 r2 w0 w1 : Option (List ℕ)) (grid : Option Grid) (gateway : Op
     whole = s.whole;
     stop = stop;
     replies = s.replies ++ [];
-    told = subst IsTold (sym (ap (λ t. t.log) before_is)) s.told;
+    told = subst AreTold (sym (ap (λ t. t.log) before_is)) s.told;
     good = ap (λ t. t.end) before_is;
     written = subst (Appends w0 w2) (sym (ap (λ t. t.text) before_is)) written;
   }

@@ -6,11 +6,11 @@ use Rattle.gate_core.specs.Settings.{Settings}
 use Rattle.gate_core.specs.Events.{Event}
 use Rattle.gate_core.specs.Items.{Entry, items, items_after, completed}
 use Rattle.gate_core.specs.Runs.{after_entry}
-use Rattle.gate_core.specs.Rooms.{Rooms, room_after, HasRoomFor}
+use Rattle.gate_core.specs.Rooms.{Rooms, room_after, HasRoomForAll}
 use Rattle.gate_core.specs.Held.{State}
 use Rattle.gate_core.specs.Came.{Opening, Came}
 use Rattle.gate_tasks.specs.Script.{Step, may_stand}
-use Rattle.gate_tasks.specs.Replies.{CallStep, settings_by, IsOpening, IsCalm, IsReply, event_by, events_of, call_of, calls_in, AreReplies, BeginsWell, IsToldAfter, IsToldFrom, IsTold}
+use Rattle.gate_tasks.specs.Replies.{CallStep, settings_by, IsOpening, IsCalm, IsScriptReply, event_by, events_of, call_of, calls_in, AreReplies, BeginsWell, IsToldAfter, IsToldFrom, AreTold}
 use Rattle.gate_tasks.specs.Running.{CameAfter, CameFrom, CameBy, IsAt, IsCalled, Answered}
 use Rattle.gate_tasks.specs.declared.command.Command.{Command}
 use Rattle.gate_tasks.specs.declared.command.Command.TheVariants as command
@@ -26,15 +26,15 @@ events_more grid (first ∷ calls) step =
     ap (λ e. event_by grid first.call first.reply ++ e) (events_more grid calls step) ∙ sym (append_assoc (event_by grid first.call first.reply) (events_of grid calls) (event_by grid step.call step.reply))
 
 replies_more : (grid : Grid) (opening : Opening) (events : List Event) (calls : List CallStep) (step : CallStep) → AreReplies grid opening events calls
-    → (IsCalm grid opening (events ++ events_of grid calls) → IsReply grid opening (events ++ events_of grid calls) step.call step.reply) → AreReplies grid opening events (calls ++ step ∷ [])
-replies_more grid opening events [] step told reply = (subst (λ e. IsCalm grid opening e → IsReply grid opening e step.call step.reply) (append-nil events) reply, tt)
+    → (IsCalm grid opening (events ++ events_of grid calls) → IsScriptReply grid opening (events ++ events_of grid calls) step.call step.reply) → AreReplies grid opening events (calls ++ step ∷ [])
+replies_more grid opening events [] step told reply = (subst (λ e. IsCalm grid opening e → IsScriptReply grid opening e step.call step.reply) (append-nil events) reply, tt)
 replies_more grid opening events (first ∷ calls) step told reply =
     let e = event_by grid first.call first.reply in
-    (told.0, replies_more grid opening (events ++ e) calls step told.1 (subst (λ l. IsCalm grid opening l → IsReply grid opening l step.call step.reply) (sym (append_assoc events e (events_of grid calls))) reply))
+    (told.0, replies_more grid opening (events ++ e) calls step told.1 (subst (λ l. IsCalm grid opening l → IsScriptReply grid opening l step.call step.reply) (sym (append_assoc events e (events_of grid calls))) reply))
 
 -- ---- room for a beginning
 
-room_first : (settings : Settings) (w : World) (rooms : Rooms) (xs ys : List Entry) → HasRoomFor settings w rooms (xs ++ ys) → HasRoomFor settings w rooms xs
+room_first : (settings : Settings) (w : World) (rooms : Rooms) (xs ys : List Entry) → HasRoomForAll settings w rooms (xs ++ ys) → HasRoomForAll settings w rooms xs
 room_first settings w rooms [] ys room = tt
 room_first settings w rooms (x ∷ xs) ys room = (room.0, room_first settings (after_entry settings x w) (room_after settings x w rooms) xs ys room.1)
 
@@ -49,7 +49,7 @@ unfolding items
 calm_first grid opening events more calm =
     let rest = items_first [] events more in
     room_first (settings_by grid) opening.world opening.rooms (items_after [] events) rest.0
-    (subst (HasRoomFor (settings_by grid) opening.world opening.rooms) rest.1 calm)
+    (subst (HasRoomForAll (settings_by grid) opening.world opening.rooms) rest.1 calm)
 
 -- ---- where commands may stand
 
@@ -139,7 +139,7 @@ module _ (old new : State) (asked : Call) (reply : Reply) (called : IsCalled old
   came_from (command.Restore image) log came = came
   came_from (command.Call call) log came = came
 
-  call_told : (log : List Step) → IsTold log → CameBy log old → IsTold (log ++ step ∷ [])
+  call_told : (log : List Step) → AreTold log → CameBy log old → AreTold (log ++ step ∷ [])
   call_told [] told came = absurd came
   call_told (first ∷ log) told came = told_from first.command first.reply log told came
 
@@ -155,7 +155,7 @@ module _ (old new : State) (asked : Call) (reply : Reply) (called : IsCalled old
   came_by log None at = at.1
   came_by log (Some was) at = at.1
 
-  pub call_answered : (log : List Step) (was : Option Grid) → IsAt log was (Some old) → IsTold log → Answered log (command.Call asked) (Some reply) None (Some new)
+  pub call_answered : (log : List Step) (was : Option Grid) → IsAt log was (Some old) → AreTold log → Answered log (command.Call asked) (Some reply) None (Some new)
   call_answered log was at told =
       let came = came_by log was at in
       record {

@@ -5,7 +5,7 @@ use Rattle.std.proofs.lemmas.List.Elements.{All-head, All-tail}
 use Rattle.std.proofs.lemmas.Bool.Decides.{nat_tests}
 use Rattle.std.specs.Option.{option_map}
 use Rattle.octets.specs.Cut.{IsCutAt}
-use Rattle.gate_tasks.specs.Text.{IsCutWhere, followed_by, unescaped, after_backslash, is_plain, escape_of, escaped}
+use Rattle.gate_tasks.specs.Text.{IsCutWhere, followed_by, unescaped, after_backslash, is_printable, escape_of, escaped}
 
 -- ---- a text that is read
 
@@ -60,25 +60,25 @@ shorter_cut rest plain back after cut less = omega (arith, ap length cut.parts, 
 
 -- ---- a text that is written
 
-plain_alone : (byte : ℕ) → is_plain byte ≡ true → escape_of byte ≡ byte ∷ []
+plain_alone : (byte : ℕ) → is_printable byte ≡ true → escape_of byte ≡ byte ∷ []
 plain_alone byte plain = grind (arith, nat_tests)
 
-pub escaped_run : (front rest : List ℕ) → All (λ b. is_plain b ≡ true) front → escaped (front ++ rest) ≡ front ++ escaped rest
+pub escaped_run : (front rest : List ℕ) → All (λ b. is_printable b ≡ true) front → escaped (front ++ rest) ≡ front ++ escaped rest
 escaped_run [] rest plain = refl
 escaped_run (byte ∷ front) rest plain =
-    ap (λ l. l ++ escaped (front ++ rest)) (plain_alone byte (All-head (λ b. is_plain b ≡ true) byte front plain))
-    ∙ ap (λ l. byte ∷ l) (escaped_run front rest (All-tail (λ b. is_plain b ≡ true) byte front plain))
+    ap (λ l. l ++ escaped (front ++ rest)) (plain_alone byte (All-head (λ b. is_printable b ≡ true) byte front plain))
+    ∙ ap (λ l. byte ∷ l) (escaped_run front rest (All-tail (λ b. is_printable b ≡ true) byte front plain))
 
 -- one more escape was written
-pub write_step : (text rest plain back all : List ℕ) (byte : ℕ) → IsCutWhere is_plain rest plain byte back → text ++ escaped rest ≡ all → ((text ++ plain) ++ escape_of byte) ++ escaped back ≡ all
+pub write_step : (text rest plain back all : List ℕ) (byte : ℕ) → IsCutWhere is_printable rest plain byte back → text ++ escaped rest ≡ all → ((text ++ plain) ++ escape_of byte) ++ escaped back ≡ all
 write_step text rest plain back all byte cut was =
     append_assoc (text ++ plain) (escape_of byte) (escaped back) ∙ append_assoc text plain (escape_of byte ++ escaped back)
     ∙ ap (λ l. text ++ l) (sym (ap escaped cut.parts ∙ escaped_run plain (byte ∷ back) cut.before)) ∙ was
 
 -- no escape is left
-pub write_end : (text rest all : List ℕ) → All (λ b. is_plain b ≡ true) rest → text ++ escaped rest ≡ all → text ++ rest ≡ all
+pub write_end : (text rest all : List ℕ) → All (λ b. is_printable b ≡ true) rest → text ++ escaped rest ≡ all → text ++ rest ≡ all
 write_end text rest all plain was =
     ap (λ l. text ++ l) (sym (ap escaped (sym (append-nil rest)) ∙ escaped_run rest [] plain ∙ append-nil rest)) ∙ was
 
-pub shorter_where : (rest plain back : List ℕ) (byte : ℕ) → IsCutWhere is_plain rest plain byte back → length back < length rest
+pub shorter_where : (rest plain back : List ℕ) (byte : ℕ) → IsCutWhere is_printable rest plain byte back → length back < length rest
 shorter_where rest plain back byte cut = omega (arith, ap length cut.parts, length-append plain (byte ∷ back))

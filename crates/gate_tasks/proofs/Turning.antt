@@ -3,7 +3,7 @@ use Rattle.std.proofs.Common.{◌≡◌, ◌≢◌, ℕ, ◌+◌, ◌≤◌, Lis
 use Rattle.std.proofs.KnownBytes.{Consumes-nil, Consumes-trans}
 use Rattle.std.specs.Prelude.{MatchBool, MatchOption, IsOkUnless, OnOk}
 use Rattle.gate_core.specs.declared.fault.GatewayFault.{GatewayFault}
-use Rattle.gate_core.specs.Held.{State, held_at}
+use Rattle.gate_core.specs.Held.{State, connection_at}
 use Rattle.gate_flow.specs.declared.fault.FlowFault.{FlowFault}
 use Rattle.gate_flow.specs.declared.fault.FlowFault.TheVariants.{Refused, ReadFailed, WriteFailed, NoMemory}
 use Rattle.gate_flow.specs.declared.want.Want.{Want}
@@ -36,8 +36,8 @@ pub write_stops : (fault : FlowFault) (g : State) (f f2 : FlowState) → f2 ≡ 
 write_stops fault g f f2 same some why = subst (λ x. StopsAt fault x g) (sym same) (writing_stops fault g f some why)
 
 -- a call of the gateway that fails where bytes are taken of the connection fails for memory
-pub call_stops : (fault : FlowFault) (g h : State) (f : FlowState) (id own : ℕ) → IsCallFault (held_at g own) fault → own ≡ id → TakesBytes (held_at g id) → StopsAt fault f h
-call_stops Refused g h f id own why same takes = absurd (why (subst (λ i. bytes_refusal (held_at g i) ≡ None) (sym same) takes))
+pub call_stops : (fault : FlowFault) (g h : State) (f : FlowState) (id own : ℕ) → IsCallFault (connection_at g own) fault → own ≡ id → TakesBytes (connection_at g id) → StopsAt fault f h
+call_stops Refused g h f id own why same takes = absurd (why (subst (λ i. bytes_refusal (connection_at g i) ≡ None) (sym same) takes))
 call_stops ReadFailed g h f id own why same takes = absurd why
 call_stops WriteFailed g h f id own why same takes = absurd why
 call_stops NoMemory g h f id own why same takes = tt
@@ -56,7 +56,7 @@ if_true P Q b is so = subst (λ x. MatchBool x P Q) is so
 -- ---- where it rests
 
 pub written_rests : (f : FlowState) (g : State) → (f.want ≡ want.Advance) ⊎ (f.want ≡ want.Write) → f.want ≢ want.Advance → Rests f g
-written_rests f g next other = ⊎_elim (λ advance. absurd (other advance)) (λ write. subst (λ w. RestsAt w f (held_at g f.id)) (sym write) tt) next
+written_rests f g next other = ⊎_elim (λ advance. absurd (other advance)) (λ write. subst (λ w. RestsAt w f (connection_at g f.id)) (sym write) tt) next
 
 pub read_rests : (f f2 : FlowState) (g : State) → (f2.want ≡ want.Advance) ⊎ (f2 ≡ f) → Rests f g → f2.want ≢ want.Advance → Rests f2 g
 read_rests f f2 g next rests other = ⊎_elim (λ advance. absurd (other advance)) (λ same. subst (λ x. Rests x g) (sym same) rests) next

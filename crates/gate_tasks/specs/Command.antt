@@ -141,10 +141,10 @@ asked_with verb.Spoil arguments = spoil_of arguments
 asked_with verb.Image arguments = image_of arguments
 
 -- a verb and its arguments
-abbrev pub asked_by : List (List ℕ) → Option Command
-asked_by [] = None
-asked_by (word ∷ arguments) = option_and_then (λ known. asked_with known arguments) (verb_of word)
+abbrev pub command_of_words : List (List ℕ) → Option Command
+command_of_words [] = None
+command_of_words (word ∷ arguments) = option_and_then (λ known. asked_with known arguments) (verb_of word)
 
 -- the command that a line gives, or none where it is a bad line
 abbrev pub command_of : List ℕ → Option Command
-command_of line = asked_by (words line)
+command_of line = command_of_words (words line)

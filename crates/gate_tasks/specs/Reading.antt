@@ -1,4 +1,4 @@
--- What reading a line takes of a reader.
+-- What reading a line takes of a reader; for private clauses.
 use Rattle.std.specs.Prelude.{◌≡◌, ℕ, List, [], ◌++◌, length, Bool, true, false, Option, Result, Ok, Err, IfSome, OnSome}
 use Rattle.std.specs.Io.KnownBytes.{Consumes, IsAtEnd}
 use Rattle.gate_tasks.specs.Lines.{Line, LacksLf, piece_of, fits, is_within}

@@ -136,16 +136,16 @@ abbrev pub opened_reply : Option (List ℕ) → Reply
 opened_reply secret = if nat_lt 256 (length (unwrap_or secret [])) then Refused BadParameters else Done
 
 -- the reply to a call after these calls
-abbrev pub IsReply : Grid → Opening → List Event → Call → Reply → Type 0
-IsReply grid opening events (call.Open id secret) reply = reply ≡ (if is_known id events then Refused Known else opened_reply secret)
-IsReply grid opening events (call.Bytes id piece) reply = reply ≡ (if is_going id events then Done else Refused NotOpen)
-IsReply grid opening events (call.End id) reply = reply ≡ (if is_going id events then Done else Refused NotOpen)
-IsReply grid opening events (call.Take id most) reply = IsTaken grid opening events id most reply
-IsReply grid opening events (call.Lose share) reply =
+abbrev pub IsScriptReply : Grid → Opening → List Event → Call → Reply → Type 0
+IsScriptReply grid opening events (call.Open id secret) reply = reply ≡ (if is_known id events then Refused Known else opened_reply secret)
+IsScriptReply grid opening events (call.Bytes id piece) reply = reply ≡ (if is_going id events then Done else Refused NotOpen)
+IsScriptReply grid opening events (call.End id) reply = reply ≡ (if is_going id events then Done else Refused NotOpen)
+IsScriptReply grid opening events (call.Take id most) reply = IsTaken grid opening events id most reply
+IsScriptReply grid opening events (call.Lose share) reply =
     reply ≡ at_server grid share.server (is_some (shown (world_by grid opening events).marks share.server (share.index, share.number)))
-IsReply grid opening events (call.Spoil share place) reply =
+IsScriptReply grid opening events (call.Spoil share place) reply =
     reply ≡ at_server grid share.server (nat_lt place (length (unwrap_or (shown (world_by grid opening events).marks share.server (share.index, share.number)) [])))
-IsReply grid opening events call.Image reply = IsImageReply grid opening events reply
+IsScriptReply grid opening events call.Image reply = IsImageReply grid opening events reply
 
 -- the event of a call that gave these bytes: a connection without a secret of its own takes the gateway's
 abbrev pub event_of : Grid → Call → List ℕ → List Event
@@ -166,6 +166,7 @@ event_by own asked (Given given) = event_of own asked given
 event_by own asked (Imaged image) = []
 event_by own asked (Answered answer) = event_of own asked []
 
+-- for private clauses
 abbrev pub events_of : Grid → List CallStep → List Event
 events_of grid [] = []
 events_of grid (step ∷ calls) = event_by grid step.call step.reply ++ events_of grid calls
@@ -175,7 +176,7 @@ events_of grid (step ∷ calls) = event_by grid step.call step.reply ++ events_o
 abbrev pub AreReplies : Grid → Opening → List Event → List CallStep → Type 0
 AreReplies grid opening events [] = ⊤
 AreReplies grid opening events (step ∷ calls) =
-    (IsCalm grid opening events → IsReply grid opening events step.call step.reply) × AreReplies grid opening (events ++ event_by grid step.call step.reply) calls
+    (IsCalm grid opening events → IsScriptReply grid opening events step.call step.reply) × AreReplies grid opening (events ++ event_by grid step.call step.reply) calls
 
 -- ---- all steps
 
@@ -220,6 +221,6 @@ IsToldFrom (command.Grid grid) reply log = IsToldAfter grid reply log
 IsToldFrom _ reply log = ⊥
 
 -- the steps of a run, of which the first is `grid`
-abbrev pub IsTold : List Step → Type 0
-IsTold [] = ⊤
-IsTold (step ∷ log) = IsToldFrom step.command step.reply log
+abbrev pub AreTold : List Step → Type 0
+AreTold [] = ⊤
+AreTold (step ∷ log) = IsToldFrom step.command step.reply log

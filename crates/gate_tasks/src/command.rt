@@ -5,7 +5,7 @@
 //! it out in `calls.rt`.
 ghost use Rattle.std.specs.Prelude.{◌≡◌, [], ◌∷◌, None, IfOk};
 ghost use Rattle.std.specs.Option.{option_map};
-ghost use Rattle.gate_tasks.specs.Command.{words, servers_of, secret_of, index_of, share_of, grid_of, restore_of, open_of, bytes_of, end_of, take_of, lose_of, spoil_of, command_of, asked_by, asked_with, short_number, long_number};
+ghost use Rattle.gate_tasks.specs.Command.{words, servers_of, secret_of, index_of, share_of, grid_of, restore_of, open_of, bytes_of, end_of, take_of, lose_of, spoil_of, command_of, command_of_words, asked_with, short_number, long_number};
 
 use crate::spelling::read_spelled;
 use crate::text::unescape;
@@ -85,7 +85,7 @@ pub fn read_command(alloc: Global, line: &[u8]) -> Result<Option<Command>, Alloc
 
 /// What a line of one word asks.
 fn read_word(word: &[u8]) -> Option<Command>
-    ensures { result ≡ asked_by (word.now ∷ []) }
+    ensures { result ≡ command_of_words (word.now ∷ []) }
 {
     match read_verb(word)? {
         Verb::Image => Some(Command::Call(Call::Image)),

@@ -1,6 +1,6 @@
 //! One connection's turns: its bytes are read, brought to the gateway, and what waits for it is written.
 ghost use Rattle.std.specs.Prelude.{◌≡◌, ◌≢◌, ◌⊎◌, ◌↔◌, ℕ, List, [], Option, OnOk, IfOk, IfErr, MatchBool, None};
-ghost use Rattle.gate_core.specs.Held.{State, held_at};
+ghost use Rattle.gate_core.specs.Held.{State, connection_at};
 ghost use Rattle.gate_flow.specs.Steps.{IsRead, IsWritten, Rests};
 ghost use Rattle.gate_flow.specs.Served.{IsServed, IsStopped, StopsAt};
 ghost use Rattle.gate_tasks.specs.Turns.{RunsOn, RunsInto, IsReadWithin, most_read, most_at_a_time};
@@ -37,7 +37,7 @@ pub fn turns<S: Store, R: Read, W: Write>(
     ensures err { IfErr result (λ fault. IsStopped fault id gateway.old.settings.secret
         gateway.old gateway.new (R.remaining reader.old) (R.remaining reader.new)
         (W.contents writer.old) (W.contents writer.new)) }
-    ensures refused { (result ≡ Err FlowFault.Refused) ↔ (held_at gateway.old id ≢ None) }
+    ensures refused { (result ≡ Err FlowFault.Refused) ↔ (connection_at gateway.old id ≢ None) }
     ensures bounded { IsReadWithin most_read (R.remaining reader.old) (R.remaining reader.new) }
 {
     gate_flow::laws::flows_run();

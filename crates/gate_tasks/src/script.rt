@@ -3,7 +3,7 @@ ghost use Rattle.std.specs.Prelude.{◌≡◌, ℕ, List, IfOk, OnOk, IfSome, On
 ghost use Rattle.std.specs.Io.KnownBytes.{IsAtEnd};
 ghost use Rattle.gate_tasks.specs.Lines.{LacksLf};
 ghost use Rattle.gate_tasks.specs.Script.{Step, Ended, Stopped};
-ghost use Rattle.gate_tasks.specs.Replies.{IsTold};
+ghost use Rattle.gate_tasks.specs.Replies.{AreTold};
 ghost use Rattle.gate_tasks.specs.Running.{IsAt, Answered, LineRuns, StopsAfter, Answers, AnswersSome, IsOneLine, RunEnds};
 
 use crate::calls::{MemGateway, carry_out, held_is_what_stands};
@@ -111,7 +111,7 @@ fn run_line<W: Write>(
     progress: &mut Progress,
     writer: &mut W,
 ) -> Result<(), ScriptFault>
-    ensures { (log : List Step) → IsAt log progress.old.grid progress.old.gateway → IsTold log →
+    ensures { (log : List Step) → IsAt log progress.old.grid progress.old.gateway → AreTold log →
         LineRuns log number line.now progress.new.grid progress.new.gateway
         (W.contents writer.old) (W.contents writer.new) result }
 {
@@ -138,7 +138,7 @@ fn answer(
     progress: &mut Progress,
 ) -> Result<Option<Reply>, AllocError>
     ensures { IfOk result (λ reply. (log : List Step) →
-        IsAt log progress.old.grid progress.old.gateway → IsTold log →
+        IsAt log progress.old.grid progress.old.gateway → AreTold log →
         Answered log command reply progress.new.grid progress.new.gateway) }
 {
     match command {
@@ -178,7 +178,7 @@ fn restore(
     progress: &mut Progress,
 ) -> Result<Option<Reply>, AllocError>
     ensures { IfOk result (λ reply. (log : List Step) →
-        IsAt log progress.old.grid progress.old.gateway → IsTold log →
+        IsAt log progress.old.grid progress.old.gateway → AreTold log →
         Answered log (Command.Restore image.now) reply progress.new.grid progress.new.gateway) }
 {
     image_laws();
@@ -212,7 +212,7 @@ fn restore(
 /// Makes a call of the gateway, if there is one.
 fn go_on(alloc: Global, call: &Call, progress: &mut Progress) -> Result<Option<Reply>, AllocError>
     ensures { IfOk result (λ reply. (log : List Step) →
-        IsAt log progress.old.grid progress.old.gateway → IsTold log →
+        IsAt log progress.old.grid progress.old.gateway → AreTold log →
         Answered log (Command.Call call.now) reply progress.new.grid progress.new.gateway) }
 {
     let Some(gateway) = &mut progress.gateway else {

@@ -1,7 +1,7 @@
 //! TEXT in a script: bytes with escapes.
 ghost use Rattle.std.specs.Prelude.{◌≡◌, ◌++◌, IfOk, OnOk, MatchOption, IfSome, All, length, None, Some, true, false, ◌<◌};
 ghost use Rattle.std.specs.Option.{option_map};
-ghost use Rattle.gate_tasks.specs.Text.{IsCutWhere, unescaped, after_backslash, after_x, followed_by, is_hex, hex_value, hex_digit, is_plain, escape_of, escaped};
+ghost use Rattle.gate_tasks.specs.Text.{IsCutWhere, unescaped, after_backslash, after_x, followed_by, is_hex, hex_value, hex_digit, is_printable, escape_of, escaped};
 
 use octets::{Bytes, split_at_byte};
 use std::alloc::{AllocError, Global};
@@ -82,8 +82,8 @@ pub fn escape(bytes: &[u8], text: &mut Vec<u8>) -> Result<(), AllocError>
 
 /// What stands before the first byte that needs an escape, that byte, and what stands after it.
 fn split_at_special(bytes: &[u8]) -> Option<(&[u8], u8, &[u8])>
-    ensures { MatchOption result (All (λ b. is_plain b ≡ true) bytes.now)
-        (λ parts. IsCutWhere is_plain bytes.now parts.0.now parts.1 parts.2.now) }
+    ensures { MatchOption result (All (λ b. is_printable b ≡ true) bytes.now)
+        (λ parts. IsCutWhere is_printable bytes.now parts.0.now parts.1 parts.2.now) }
 {
     let at = bytes.iter().position(|byte| !is_plain_byte(*byte))?;
     Some((&bytes[..at], bytes[at], &bytes[at + 1..]))
@@ -91,14 +91,14 @@ fn split_at_special(bytes: &[u8]) -> Option<(&[u8], u8, &[u8])>
 
 /// Whether a byte stands for itself in a text.
 fn is_plain_byte(byte: u8) -> bool
-    ensures { result ≡ is_plain byte }
+    ensures { result ≡ is_printable byte }
 {
     matches!(byte, b' '..=b'~') && byte != b'\\'
 }
 
 /// Writes a byte as an escape.
 fn push_escape(byte: u8, text: &mut Vec<u8>) -> Result<(), AllocError>
-    requires { is_plain byte ≡ false }
+    requires { is_printable byte ≡ false }
     ensures { OnOk result (text.new.items ≡ text.old.items ++ escape_of byte) }
 {
     match byte {

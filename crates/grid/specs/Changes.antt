@@ -11,7 +11,7 @@ abbrev pub changed_at : ℕ → ShareKey → (Option (List ℕ) → Option (List
 changed_at server key change before s q =
     if s == server && eq_by_cmp key_cmp q key then change (before s q) else before s q
 
--- with a share put at one place, where none stood
+-- with a share put at one place, where none stood; for private clauses
 abbrev pub put_at : ℕ → ShareKey → List ℕ → Standing → Standing
 put_at server key bytes before = changed_at server key (λ stood. Some (unwrap_or stood bytes)) before
 

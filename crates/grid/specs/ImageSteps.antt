@@ -11,7 +11,7 @@ use Rattle.grid.specs.declared.fault.GridFault.TheVariants.{Full, BadImage}
 use Rattle.grid.specs.declared.image_fields.RowHead.{RowHead}
 use Rattle.grid.specs.declared.image_layout.Layout.{Layout}
 
--- the bytes say this row first, and the reader has those after it
+-- the bytes say this row first, and the reader has those after it; for private clauses
 pub record SaysRow (layout : Layout) (servers : ℕ) (last : Option RowKey) (place : ℕ) (bytes : List ℕ) (after : Option (List ℕ)) (head : RowHead) (own : List ℕ) : Type 0 where
   pub rest : List ℕ
   pub told : after ≡ Some rest
@@ -33,6 +33,7 @@ pub record AreFirst (first rows : List Row) : Type 0 where
   pub joined : rows ≡ first ++ others
 
 -- What came of reading what an image says, where the stores were empty and honest (`good`) and hold these rows now.
+-- for private clauses
 pub record Reads (said : Reading) (result : Result (Unit {0}) GridFault) (room : ℕ → ℕ) (good : Type 0) (held : List Row) (after : Option (List ℕ)) : Type 0 where
   pub no_fault : OnOk result (said.fault ≡ None)
   pub end : OnOk result (IsAtEnd after)

@@ -1,4 +1,4 @@
--- What a call at one server's store leaves of a grid over honest stores.
+-- What a call at one server's store leaves of a grid over honest stores; for private clauses.
 use Rattle.std.specs.Prelude.{◌≡◌, ℕ, ◌+◌, ◌==◌, ◌&&◌, List, length, is_none, if◌then◌else◌, slice_set, slice_get}
 use Rattle.std.specs.Option.{option_map_or}
 use Rattle.share_store.specs.Shares.{Shares, ShareKey}

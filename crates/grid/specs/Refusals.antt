@@ -22,7 +22,7 @@ IsChangeRefusal ReadFailed = ⊥
 IsChangeRefusal WriteFailed = ⊥
 IsChangeRefusal NoMemory = Unit {0}
 
--- a refusal of a call that only looks
+-- a refusal of a call that only looks; for private clauses
 abbrev pub IsLookRefusal : GridFault → Type 0
 IsLookRefusal (Full s) = ⊥
 IsLookRefusal (Down s) = Unit {0}
@@ -42,7 +42,7 @@ IsWriteRefusal ReadFailed = ⊥
 IsWriteRefusal WriteFailed = Unit {0}
 IsWriteRefusal NoMemory = Unit {0}
 
--- a refusal of a call that only reads bytes
+-- a refusal of a call that only reads bytes; for private clauses
 abbrev pub IsReaderRefusal : GridFault → Type 0
 IsReaderRefusal (Full s) = ⊥
 IsReaderRefusal (Down s) = ⊥
@@ -52,7 +52,7 @@ IsReaderRefusal ReadFailed = Unit {0}
 IsReaderRefusal WriteFailed = ⊥
 IsReaderRefusal NoMemory = Unit {0}
 
--- a refusal of a call that reads a part of an image
+-- a refusal of a call that reads a part of an image; for private clauses
 abbrev pub IsPartRefusal : GridFault → Type 0
 IsPartRefusal (Full s) = ⊥
 IsPartRefusal (Down s) = ⊥

@@ -27,7 +27,7 @@ abbrev pub in_order : Option RowKey → List Row → Bool
 in_order last [] = true
 in_order last (row ∷ rows) = comes_after last (row_key row) && in_order (Some (row_key row)) rows
 
--- each of these rows stands before this key
+-- each of these rows stands before this key; for private clauses
 abbrev pub AllBefore : List Row → RowKey → Type 0
 AllBefore [] key = Unit {0}
 AllBefore (row ∷ rows) key = (row_cmp (row_key row) key ≡ Less) × AllBefore rows key

@@ -7,7 +7,7 @@ use Rattle.grid.specs.Found.{entries_at}
 abbrev pub Row : Type 0
 Row = ℕ × Entry
 
--- the rows of one of these maps
+-- the rows of one of these maps; for private clauses
 abbrev pub rows_at : List Shares → ℕ → List Row
 rows_at maps n = map (λ e. (n, e)) (entries_at maps n)
 

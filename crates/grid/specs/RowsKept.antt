@@ -1,4 +1,4 @@
--- Rows as they are gathered.
+-- Rows as they are gathered; for private clauses.
 use Rattle.std.specs.Prelude.{ℕ}
 use Rattle.share_store.specs.Stored.{entry_of}
 use Rattle.share_store.specs.declared.share.Share.{Share}

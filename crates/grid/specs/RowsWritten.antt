@@ -7,7 +7,7 @@ use Rattle.grid.specs.Image.{image, row_bytes, refused_field, refused_place}
 use Rattle.grid.specs.declared.image_layout.Layout.TheVariants.{VersionTwo}
 use Rattle.grid.specs.declared.image_writer.Progress.{Progress}
 
--- these rows were written, each was counted, and no field of theirs passes its range
+-- these rows were written, each was counted, and no field of theirs passes its range; for private clauses
 pub record AreWritten (before after : Progress) (old new : Option (List ℕ)) (rows : List Row) : Type 0 where
   pub written : Appends old new (flat_map (row_bytes VersionTwo) rows)
   pub counted : after.left + length rows ≡ before.left

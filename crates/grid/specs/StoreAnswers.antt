@@ -1,4 +1,4 @@
--- What a store's answer says of its server.
+-- What a store's answer says of its server; for private clauses.
 use Rattle.std.specs.Prelude.{ℕ, Result, Ok, Err}
 use Rattle.share_store.specs.declared.fault.StoreFault.{StoreFault}
 use Rattle.share_store.specs.declared.fault.StoreFault.TheVariants.{Full as StoreFull, Down as StoreDown, NoMemory as StoreNoMemory}

@@ -150,11 +150,12 @@ head_verdict head minor =
     if not (has_good_hosts minor (count_named (codes "host") head.fields)) then Refused BadHost (is_head_request head)
     else with_framing head minor (body_framing minor head.fields)
 
--- what a length says, where none stands for chunks
+-- what a length says, where none stands for chunks; for private clauses
 abbrev pub framing_so : Option ℕ → Framing
 framing_so None = chunked
 framing_so (Some n) = counted n
 
+-- for private clauses
 abbrev pub framing_of : Result (Option ℕ) FramingFault → Result Framing FramingFault
 framing_of (Err fault) = Err fault
 framing_of (Ok length) = Ok (framing_so length)

@@ -10,11 +10,11 @@ abbrev pub is_line_byte : ℕ → Bool
 is_line_byte b = not (b == carriage_return) && not (b == line_feed)
 
 -- no field that says how long the body is or whether the connection stays, and no CR or LF in it
-abbrev pub is_plain : Field → Bool
-is_plain f =
+abbrev pub is_reply_field : Field → Bool
+is_reply_field f =
     not (eq_ignore_case f.name (codes "content-length"))
     && (not (eq_ignore_case f.name (codes "connection"))
     && (list_all is_line_byte f.name && list_all is_line_byte f.value))
 
 abbrev pub IsPlain : Field → Type 0
-IsPlain f = IsTrue (is_plain f)
+IsPlain f = IsTrue (is_reply_field f)

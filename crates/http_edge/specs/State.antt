@@ -28,28 +28,29 @@ IsWaiting (body_of awaited body) = length body < awaited.length
 IsWaiting (chunks_of awaited content place) = IsPlace (length content) place
 IsWaiting closed = Unit {0}
 
--- the item, if there is one, as a list
+-- the item, if there is one, as a list; for private clauses
 abbrev pub listed : Option Item → List Item
 listed None = []
 listed (Some item) = item ∷ []
 
--- with the bytes, what was left over completes the items and goes on as what is left over then
+-- with the bytes, what was left over completes the items and goes on as what is left over then; for private clauses
 pub record Adds (was : Left) (bytes : List ℕ) (found : List Item) (next : Left) : Type 0 where
   pub items : (more : List ℕ) → frame_from was (bytes ++ more) ≡ found ++ frame_from next more
   pub left : (more : List ℕ) → rest_from was (bytes ++ more) ≡ rest_from next more
 
 -- a head block that was judged completes the items, and what is left over waits for the bytes after it
+-- for private clauses
 pub record Begins (verdict : Verdict) (found : List Item) (next : Left) : Type 0 where
   pub items : (more : List ℕ) → frame_after verdict more ≡ found ++ frame_from next more
   pub left : (more : List ℕ) → rest_after verdict more ≡ rest_from next more
 
--- the bytes begin with some that do so, and more follow
+-- the bytes begin with some that do so, and more follow; for private clauses
 pub record Takes (was : Left) (bytes : List ℕ) (found : List Item) (next : Left) (more : List ℕ) : Type 0 where
   pub items : frame_from was bytes ≡ found ++ frame_from next more
   pub left : rest_from was bytes ≡ rest_from next more
   pub shorter : length more < length bytes
 
--- after nothing more, nothing more is complete
+-- after nothing more, nothing more is complete; for private clauses
 pub record IsSettled (left : Left) : Type 0 where
   pub none : frame_from left [] ≡ []
   pub same : rest_from left [] ≡ left

@@ -12,7 +12,7 @@ use Rattle.caps.specs.declared.cap.Cap.TheVariants.{Chk, Lit, DirChk, DirLit, Ch
 use Rattle.dir_codec.specs.Entries.{AreEntriesAbove, IsDirectory}
 use Rattle.dir_codec.specs.Sound.{IsBelowAll, IsSound, MembersAreSound}
 use Rattle.dir_codec.specs.declared.entry.Entry.{Entry}
-use Rattle.json_view.specs.Strings.{quoted, is_plain}
+use Rattle.json_view.specs.Strings.{quoted, needs_no_escape}
 use Rattle.json_view.specs.Nodes.{node_kind, node_members, child_text, dir_text}
 use Rattle.json_view.specs.Values.{file_size, metadata_value, child_value, children_value, dir_value}
 use Rattle.json_view.proofs.Commas.{parted, parted_joined}
@@ -24,7 +24,7 @@ use Rattle.json_view.proofs.ReadBack.{ValuesAreReadBack, read_as}
 
 -- ---- a child
 
-kind_plain : (cap : Cap) → list_all is_plain (node_kind cap) ≡ true
+kind_plain : (cap : Cap) → list_all needs_no_escape (node_kind cap) ≡ true
 kind_plain (Chk fields) = refl
 kind_plain (Lit bytes) = refl
 kind_plain (DirChk fields) = refl

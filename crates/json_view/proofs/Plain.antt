@@ -6,14 +6,14 @@ use Rattle.std.proofs.lemmas.Grind.{flat_map-append}
 use Rattle.serde_json.specs.Data.{Data, string}
 use Rattle.serde_json.specs.Written.{has_float, compact_text}
 use Rattle.json.specs.Print.{escape_byte, escape}
-use Rattle.json_view.specs.Strings.{quoted, is_plain}
+use Rattle.json_view.specs.Strings.{quoted, needs_no_escape}
 
 pub not_true : (b : Bool) → not b ≡ true → b ≡ false
 not_true true h = sym h
 not_true false h = refl
 
 -- such a byte stands for itself
-plain_byte : (x : ℕ) → is_plain x ≡ true → escape_byte x ≡ x ∷ []
+plain_byte : (x : ℕ) → needs_no_escape x ≡ true → escape_byte x ≡ x ∷ []
 unfolding escape_byte
 plain_byte x plain =
     let whole = and_parts (nat_le 32 x && not (x == 34)) (not (x == 92)) plain in
@@ -32,14 +32,14 @@ plain_byte x plain =
       le-ltb x 32 low,
     ) refl
 
-plain_text : (text : List ℕ) → list_all is_plain text ≡ true → escape text ≡ text
+plain_text : (text : List ℕ) → list_all needs_no_escape text ≡ true → escape text ≡ text
 plain_text [] plain = refl
 plain_text (x ∷ text) plain =
-    let both = and_parts (is_plain x) (list_all is_plain text) plain in
+    let both = and_parts (needs_no_escape x) (list_all needs_no_escape text) plain in
     ap (λ t. t ++ escape text) (plain_byte x both.0) ∙ ap (λ t. x ∷ t) (plain_text text both.1)
 
 -- a text between quotes is a JSON string where each of its bytes stands for itself
-pub plain_quoted : (text bytes : List ℕ) → list_all is_plain text ≡ true → bytes ≡ text → 34 ∷ (bytes ++ 34 ∷ []) ≡ quoted text
+pub plain_quoted : (text bytes : List ℕ) → list_all needs_no_escape text ≡ true → bytes ≡ text → 34 ∷ (bytes ++ 34 ∷ []) ≡ quoted text
 unfolding quoted
 plain_quoted text bytes plain is = ap (λ t. 34 ∷ (t ++ 34 ∷ [])) (is ∙ sym (plain_text text plain))
 
@@ -48,7 +48,7 @@ pub written_quoted : (d : Data) (text bytes written : List ℕ) → d ≡ string
 unfolding quoted
 written_quoted d text bytes written is by same = same ∙ by (ap has_float is) ∙ ap compact_text is
 
-pub plain_text_quoted : (text : List ℕ) → list_all is_plain text ≡ true → quoted text ≡ 34 ∷ (text ++ 34 ∷ [])
+pub plain_text_quoted : (text : List ℕ) → list_all needs_no_escape text ≡ true → quoted text ≡ 34 ∷ (text ++ 34 ∷ [])
 plain_text_quoted text plain = sym (plain_quoted text text plain refl)
 
 -- what stands for a text is what stands for its first part, and then for its second

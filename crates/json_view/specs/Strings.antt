@@ -8,8 +8,8 @@ unfoldable pub quoted : List ℕ → List ℕ
 quoted text = compact_text (string text)
 
 -- a byte that needs none: no control character, no quote and no backslash
-abbrev pub is_plain : ℕ → Bool
-is_plain byte = nat_le 32 byte && not (byte == 34) && not (byte == 92)
+abbrev pub needs_no_escape : ℕ → Bool
+needs_no_escape byte = nat_le 32 byte && not (byte == 34) && not (byte == 92)
 
 abbrev pub truth : Bool → List ℕ
 truth value = if value then codes "true" else codes "false"

@@ -8,7 +8,7 @@ ghost use Rattle.caps.specs.declared.cap.Cap.{Cap};
 ghost use Rattle.chk_file.specs.Check.{HealthValue};
 ghost use Rattle.dir_codec.specs.Entries.{IsEntry, IsDirectory};
 ghost use Rattle.dir_codec.specs.declared.entry.Entry.{Entry};
-ghost use Rattle.json_view.specs.Strings.{quoted, is_plain};
+ghost use Rattle.json_view.specs.Strings.{quoted, needs_no_escape};
 ghost use Rattle.json_view.specs.Nodes.{file_text, dir_text};
 ghost use Rattle.json_view.specs.Checks.{check_text, literal_check_text};
 ghost use Rattle.json_view.specs.Values.{file_value, file_size, metadata_value, dir_value, check_value, literal_check_value, IsCounted};
@@ -22,7 +22,7 @@ pub fn strings_have_their_escapes()
     ensures quote { quoted (codes "a\"b\\c") ≡ codes "\"a\\\"b\\\\c\"" }
     ensures control { quoted (0 ∷ 1 ∷ 8 ∷ 9 ∷ 10 ∷ 12 ∷ 13 ∷ 31 ∷ [])
         ≡ codes "\"\\u0000\\u0001\\b\\t\\n\\f\\r\\u001f\"" }
-    ensures plain { (text : List ℕ) → list_all is_plain text ≡ true
+    ensures plain { (text : List ℕ) → list_all needs_no_escape text ≡ true
         → quoted text ≡ 34 ∷ (text ++ 34 ∷ []) }
     ensures joined { (first second : List ℕ)
         → quoted (first ++ second) ≡ 34 ∷ (escape first ++ (escape second ++ 34 ∷ [])) }

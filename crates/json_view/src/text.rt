@@ -3,7 +3,7 @@ ghost use Rattle.std.specs.Prelude.{◌≡◌, ◌++◌, OnOk};
 ghost use Rattle.std.specs.List.{flat_map, list_all};
 ghost use Rattle.serde_json.specs.Written.{comma_if};
 ghost use Rattle.caps.specs.CapTexts.{cap_text};
-ghost use Rattle.json_view.specs.Strings.{quoted, is_plain, truth};
+ghost use Rattle.json_view.specs.Strings.{quoted, needs_no_escape, truth};
 
 use caps::{Cap, print};
 use serde_json::Value;
@@ -33,7 +33,7 @@ pub(crate) fn put_comma(out: &mut Vec<u8>, later: bool) -> Result<(), AllocError
 pub(crate) fn put_string(alloc: Global, out: &mut Vec<u8>, text: &str) -> Result<(), AllocError>
     ensures { OnOk result (out.new.items ≡ out.old.items ++ quoted text.now) }
 {
-    if is_plain(text.as_bytes()) {
+    if needs_no_escape(text.as_bytes()) {
         return put_all(out, &[b"\"", text.as_bytes(), b"\""]);
     }
     let value = Value::try_from_str(alloc, text)?;
@@ -43,8 +43,8 @@ pub(crate) fn put_string(alloc: Global, out: &mut Vec<u8>, text: &str) -> Result
 }
 
 /// Whether each byte stands for itself in a JSON string.
-fn is_plain(text: &[u8]) -> bool
-    ensures { result ≡ list_all is_plain text.now }
+fn needs_no_escape(text: &[u8]) -> bool
+    ensures { result ≡ list_all needs_no_escape text.now }
 {
     text.iter()
         .all(|byte| *byte >= 32 && *byte != b'"' && *byte != b'\\')

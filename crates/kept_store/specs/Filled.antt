@@ -1,4 +1,4 @@
--- Shares put one after the other.
+-- Shares put one after the other; for private clauses.
 use Rattle.std.specs.Prelude.{◌≡◌, ◌<◌, ℕ, List, [], ◌∷◌, length, None}
 use Rattle.std.specs.FinMap.{get}
 use Rattle.share_store.specs.Shares.{Shares, ShareKey, Entry}

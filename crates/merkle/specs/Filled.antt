@@ -1,4 +1,4 @@
--- The leaves of a subtree.
+-- The leaves of a subtree; for private clauses.
 use Rattle.std.specs.Prelude.{ℕ, ◌+◌, ◌-◌, ◌^◌, List, ◌++◌, map, length}
 use Rattle.std.specs.List.{range_with_len}
 use Rattle.merkle.specs.Node.{empty_leaf}

@@ -7,7 +7,7 @@ use Rattle.resp.specs.Spelled.{SpellsReply}
 use Rattle.resp.specs.Verdict.{IsReadAs}
 use Rattle.redis_shelf.specs.declared.connection.State.{State}
 use Rattle.redis_shelf.specs.declared.connection.State.TheVariants as state
-use Rattle.redis_shelf.specs.Told.{with_more, IsFresh, IsAll, Ends, opening, IsReady, IsTold}
+use Rattle.redis_shelf.specs.Told.{with_more, IsFresh, IsAll, Ends, opening, IsReady, IsCommanded}
 
 pub with_nothing : (a b : Option (List ℕ)) → b ≡ a → b ≡ with_more a []
 with_nothing None b e = e
@@ -44,7 +44,7 @@ pub told_one : (a b : Option (List ℕ)) (front : List ℕ) → IsFresh a → b 
 told_one a b front fresh first = told_both a b b front [] fresh first (with_nothing b b refl)
 
 -- a connection that is ready is told a command
-pub ready_told : (s : State) (password : Option (List ℕ)) (a b c : Option (List ℕ)) (command : List ℕ) → IsReady s password a b → c ≡ with_more b command → IsTold s password a c command
+pub ready_told : (s : State) (password : Option (List ℕ)) (a b c : Option (List ℕ)) (command : List ℕ) → IsReady s password a b → c ≡ with_more b command → IsCommanded s password a c command
 ready_told state.Open password a b c command ready told = told ∙ ap (λ x. with_more x command) ready
 ready_told (state.Closed doubt) password a b c command ready told =
     subst (λ x. IsAll x (opening password doubt ++ command)) (sym told) (all_more b (opening password doubt) command ready)

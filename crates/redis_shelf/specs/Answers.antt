@@ -1,4 +1,4 @@
--- What replies say.
+-- What replies say; for private clauses.
 use Rattle.std.specs.Prelude.{◌≡◌, ◌⊎◌, ℕ, pos, List, [], ◌∷◌, codes, decimal, Option, Some, None}
 use Rattle.redis_shelf.specs.declared.change.Kind.{Kind}
 use Rattle.redis_shelf.specs.declared.change.Kind.TheVariants.{Put, Remove}

@@ -1,4 +1,4 @@
--- The commands that a server is told (Redis: AUTH, SET, GET, DEL, SCAN).
+-- The commands that a server is told (Redis: AUTH, SET, GET, DEL, SCAN); for private clauses.
 use Rattle.std.specs.Prelude.{ℕ, List, [], ◌∷◌, ◌++◌, codes, decimal}
 use Rattle.std.specs.List.{flat_map}
 use Rattle.resp.specs.Command.{command}

@@ -18,13 +18,13 @@ pub record IsPlace (index : List ℕ) (number : ℕ) : Type 0 where
   pub octets : All (λ byte. byte < 256) index
   pub small : number < 2 ^ 16
 
--- A name was taken in: a share's is put behind the shares that there were, and another adds none.
+-- A name was taken in: a share's is put behind the shares that there were, and another adds none; for private clauses.
 abbrev pub IsTaken : List ℕ → List ℕ → List (List ℕ × ℕ) → List (List ℕ × ℕ) → Type 0
 IsTaken grid name old new =
     ((index : List ℕ) × (number : ℕ) × (name ≡ key grid index number) × (new ≡ old ++ (index, number) ∷ []))
     ⊎ (((index : List ℕ) (number : ℕ) → IsPlace index number → name ≢ key grid index number) × (new ≡ old))
 
--- Names were taken in, one after the other.
+-- Names were taken in, one after the other; for private clauses.
 abbrev pub IsGathered : List ℕ → List Item → List (List ℕ × ℕ) → List (List ℕ × ℕ) → Type 0
 IsGathered grid [] old new = new ≡ old
 IsGathered grid (item.Bulk name ∷ names) old new = (one : List (List ℕ × ℕ)) × IsTaken grid name old one × IsGathered grid names one new

@@ -5,7 +5,7 @@ ghost use Rattle.resp.specs.declared.reply.Item.TheVariants as item;
 ghost use Rattle.resp.specs.declared.reply.Reply.{Reply};
 ghost use Rattle.resp.specs.declared.reply.Reply.TheVariants as replies;
 ghost use Rattle.redis_shelf.specs.Answers.{IsAnswer};
-ghost use Rattle.redis_shelf.specs.Told.{command_of, with_more, Ends, IsAll, said_first, said_again, opening, doubt_of, IsReady, IsTold, IsLetGo, IsLeft};
+ghost use Rattle.redis_shelf.specs.Told.{command_of, with_more, Ends, IsAll, said_first, said_again, opening, doubt_of, IsReady, IsCommanded, IsLetGo, IsLeft};
 
 use crate::answers::is_done;
 use crate::change::Change;
@@ -52,7 +52,7 @@ impl<L: Link + Drop> Connection<L> {
     pub(crate) fn ask(&mut self, limits: Limits, command: &[u8]) -> Result<Reply, RedisFault>
         requires { 0 < limits.line }
         ensures open { OnOk result (self.new.state ≡ State.Open) }
-        ensures told { OnOk result (IsTold self.old.state self.old.password
+        ensures told { OnOk result (IsCommanded self.old.state self.old.password
             (L.written self.old.link) (L.written self.new.link) command.now) }
         ensures heard { IfOk result (λ reply. (came : List ℕ) × SpellsReply limits reply came
             × Ends (L.heard self.new.link) came) }
@@ -71,7 +71,7 @@ impl<L: Link + Drop> Connection<L> {
     /// Makes a change. One whose answer is lost is in doubt until it is made once more.
     pub(crate) fn change(&mut self, change: Change) -> Result<(), ChangeFault>
         ensures open { OnOk result (self.new.state ≡ State.Open) }
-        ensures told { OnOk result (IsTold self.old.state self.old.password
+        ensures told { OnOk result (IsCommanded self.old.state self.old.password
             (L.written self.old.link) (L.written self.new.link) (command_of change)) }
         ensures left { IfErr result (λ fault.
             IsLeft fault change self.old.state self.new.state) }

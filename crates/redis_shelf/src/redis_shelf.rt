@@ -8,7 +8,7 @@ ghost use Rattle.redis_shelf.specs.Keys.{key, IsGathered};
 ghost use Rattle.redis_shelf.specs.Answers.{page};
 ghost use Rattle.resp.specs.Spelled.{SpellsReply};
 ghost use Rattle.resp.specs.declared.reply.Item.{Item};
-ghost use Rattle.redis_shelf.specs.Told.{command_of, Ends, IsTold, IsGiven, IsUnsure, value_limits};
+ghost use Rattle.redis_shelf.specs.Told.{command_of, Ends, IsCommanded, IsGiven, IsUnsure, value_limits};
 
 use crate::answers::{page_in, value_in};
 use crate::change::Change;
@@ -171,7 +171,7 @@ impl<L: Link + Drop> RedisShelf<L> {
         cursor: u64,
         listed: &mut Listed,
     ) -> Result<u64, RedisFault>
-        ensures told { OnOk result (IsTold self.old.connection.state self.old.connection.password
+        ensures told { OnOk result (IsCommanded self.old.connection.state self.old.connection.password
             (L.written self.old.connection.link) (L.written self.new.connection.link)
             (scan_command cursor self.old.grid)) }
         ensures given { IfOk result (λ next. (names : List Item) × (came : List ℕ)
@@ -193,7 +193,7 @@ impl<L: Link + Drop> RedisShelf<L> {
 
     /// The bytes under the key of a share. None where the key has no bytes, which are no share's.
     fn fetch(&mut self, index: &[u8; 16], number: u16) -> Result<Option<RcSlice<u8>>, RedisFault>
-        ensures told { OnOk result (IsTold self.old.connection.state self.old.connection.password
+        ensures told { OnOk result (IsCommanded self.old.connection.state self.old.connection.password
             (L.written self.old.connection.link) (L.written self.new.connection.link)
             (get_command (key self.old.grid index.now number))) }
         ensures given { IfOk result (λ share. IsGiven (value_limits self.old.longest)
@@ -223,7 +223,7 @@ impl<L: Link + Drop> RedisShelf<L> {
 
     /// Puts a share's bytes under its key.
     fn store(&mut self, index: &[u8; 16], number: u16, share: RcSlice<u8>) -> Result<(), ShelfFault>
-        ensures told { OnOk result (IsTold self.old.connection.state self.old.connection.password
+        ensures told { OnOk result (IsCommanded self.old.connection.state self.old.connection.password
             (L.written self.old.connection.link) (L.written self.new.connection.link)
             (set_command (key self.old.grid index.now number) (rc_slice_items share))) }
         ensures left { OnErr result (IsUnsure
@@ -242,7 +242,7 @@ impl<L: Link + Drop> RedisShelf<L> {
 
     /// Takes away what stands under the key of a share.
     fn erase(&mut self, index: &[u8; 16], number: u16) -> Result<(), ShelfFault>
-        ensures told { OnOk result (IsTold self.old.connection.state self.old.connection.password
+        ensures told { OnOk result (IsCommanded self.old.connection.state self.old.connection.password
             (L.written self.old.connection.link) (L.written self.new.connection.link)
             (delete_command (key self.old.grid index.now number))) }
         ensures left { OnErr result (IsUnsure (delete_command (key self.old.grid index.now number))
@@ -257,7 +257,7 @@ impl<L: Link + Drop> RedisShelf<L> {
 
     /// Makes a change.
     fn make(&mut self, change: Change) -> Result<(), ShelfFault>
-        ensures told { OnOk result (IsTold self.old.connection.state self.old.connection.password
+        ensures told { OnOk result (IsCommanded self.old.connection.state self.old.connection.password
             (L.written self.old.connection.link) (L.written self.new.connection.link)
             (command_of change)) }
         ensures left { OnErr result (IsUnsure (command_of change)

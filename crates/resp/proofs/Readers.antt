@@ -4,7 +4,7 @@ use Rattle.std.proofs.lemmas.Bool.{ltb-true, ltb-false, le-ltb}
 use Rattle.std.proofs.lemmas.List.{append-nil, take_at, drop_at, take-append-drop, length-append, length-take}
 use Rattle.resp.specs.declared.fault.Wrong.{Wrong}
 use Rattle.resp.specs.Spelled.{IsBegun, SpellsAll}
-use Rattle.resp.specs.Reading.{More, At, Read, ◌>>=◌, judged, byte_at, content_at, all_at}
+use Rattle.resp.specs.Reading.{More, At, Read, ◌>>=◌, at_place, byte_at, content_at, all_at}
 use Rattle.resp.proofs.Steps.{given, bind_ok, bind_err, value_is, rest_is, judged_ok, judged_more, judged_wrong}
 
 -- a value is spelled in front
@@ -173,13 +173,13 @@ byte-wrong : {A : Type 0} (judge : ℕ → Result A Wrong) (bytes : List ℕ) (w
 byte-wrong judge [] w left e = absurd cc
 byte-wrong judge (c ∷ bs) w left e =
     let p = judged_wrong (judge c) (c ∷ bs) bs w left e in
-    record { front = []; byte = c; rest = bs; parts = refl; left_is = p.1; begun = refl; stays = λ other. ap (λ j. judged j (c ∷ other) other) p.0 }
+    record { front = []; byte = c; rest = bs; parts = refl; left_is = p.1; begun = refl; stays = λ other. ap (λ j. at_place j (c ∷ other) other) p.0 }
 
 pub reads-byte : {A : Type 0} (judge : ℕ → Result A Wrong) (c : ℕ) (a : A) → judge c ≡ Ok a → Reads (IsByte judge) (byte_at judge)
 reads-byte judge c a good = record {
   some = (a, c ∷ [], (c, good, refl));
   found = byte-found judge;
-  again = λ b front rest s. ap (λ (t : List ℕ). byte_at judge (t ++ rest)) s.2 ∙ ap (λ j. judged j (s.0 ∷ rest) rest) s.1;
+  again = λ b front rest s. ap (λ (t : List ℕ). byte_at judge (t ++ rest)) s.2 ∙ ap (λ j. at_place j (s.0 ∷ rest) rest) s.1;
   more = byte-more judge c a good;
   wrong = byte-wrong judge;
 }

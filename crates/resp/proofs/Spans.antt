@@ -5,7 +5,7 @@ use Rattle.resp.specs.declared.fault.Wrong.{Wrong}
 use Rattle.resp.specs.declared.fault.Wrong.TheVariants.{Malformed}
 use Rattle.resp.specs.Command.{line_end}
 use Rattle.resp.specs.Spelled.{IsBegun}
-use Rattle.resp.specs.Reading.{More, At, Read, ◌>>=◌, judged, byte_at, only, onward, span}
+use Rattle.resp.specs.Reading.{More, At, Read, ◌>>=◌, at_place, byte_at, only, onward, span}
 use Rattle.resp.proofs.Steps.{given, value_is, rest_is, bind_ok, bind_err, judged_ok, judged_more, judged_wrong}
 use Rattle.resp.proofs.Readers.{Front, StopsAt, Reads}
 
@@ -89,7 +89,7 @@ feed-wrong s (c ∷ bs) w left e =
     elim (bind_err (byte_at (only 10) (c ∷ bs)) (λ lf. given s lf.1) (At w left) e) [
       | inl h ↦
           let p = judged_wrong (only 10 c) (c ∷ bs) bs w left h in
-          record { front = []; byte = c; rest = bs; parts = refl; left_is = p.1; begun = refl; stays = λ other. ap (λ j. judged j (c ∷ other) other >>= λ lf. given s lf.1) p.0 }
+          record { front = []; byte = c; rest = bs; parts = refl; left_is = p.1; begun = refl; stays = λ other. ap (λ j. at_place j (c ∷ other) other >>= λ lf. given s lf.1) p.0 }
       | inr h ↦ absurd (no h.2)
     ]
   where

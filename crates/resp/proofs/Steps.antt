@@ -1,7 +1,7 @@
 -- A step that did not fail, and one that did.
 use Rattle.std.proofs.Common.{◌≡◌, ◌⊎◌, ℕ, List, length, Result, Ok, Err, refl, ap, inl, inr}
 use Rattle.resp.specs.declared.fault.Wrong.{Wrong}
-use Rattle.resp.specs.Reading.{Stop, More, At, Read, ◌>>=◌, judged}
+use Rattle.resp.specs.Reading.{Stop, More, At, Read, ◌>>=◌, at_place}
 
 -- a value with the bytes after it
 abbrev pub given : {A : Type 0} → A → List ℕ → Read A
@@ -36,14 +36,14 @@ rest_is {A} a b rest other e = ap (λ (x : A × List ℕ). x.1) (pair_is (a, res
 abbrev passed : {A : Type 0} → A → Result A Wrong
 passed a = Ok a
 
-pub judged_ok : {A : Type 0} (j : Result A Wrong) (bytes rest : List ℕ) (a : A) (other : List ℕ) → judged j bytes rest ≡ Ok (a, other) → (j ≡ Ok a) × (rest ≡ other)
+pub judged_ok : {A : Type 0} (j : Result A Wrong) (bytes rest : List ℕ) (a : A) (other : List ℕ) → at_place j bytes rest ≡ Ok (a, other) → (j ≡ Ok a) × (rest ≡ other)
 judged_ok (Ok b) bytes rest a other e = (ap passed (value_is b a rest other e), rest_is b a rest other e)
 judged_ok (Err w) bytes rest a other e = absurd cc
 
-pub judged_more : {A : Type 0} (j : Result A Wrong) (bytes rest : List ℕ) → judged j bytes rest ≡ Err More → ⊥
+pub judged_more : {A : Type 0} (j : Result A Wrong) (bytes rest : List ℕ) → at_place j bytes rest ≡ Err More → ⊥
 judged_more (Ok b) bytes rest e = cc
 judged_more (Err w) bytes rest e = cc
 
-pub judged_wrong : {A : Type 0} (j : Result A Wrong) (bytes rest : List ℕ) (w : Wrong) (left : ℕ) → judged j bytes rest ≡ Err (At w left) → (j ≡ Err w) × (left ≡ length bytes)
+pub judged_wrong : {A : Type 0} (j : Result A Wrong) (bytes rest : List ℕ) (w : Wrong) (left : ℕ) → at_place j bytes rest ≡ Err (At w left) → (j ≡ Err w) × (left ≡ length bytes)
 judged_wrong (Ok b) bytes rest w left e = absurd cc
 judged_wrong (Err v) bytes rest w left e = (cc, cc)

@@ -42,13 +42,13 @@ Gives Came view (Ok x) read = read ≡ Ok (view x)
 Gives Came view (Err stop) read = Stops Came stop read
 
 -- a byte that passes
-abbrev pub judged : {A : Type 0} → Result A Wrong → List ℕ → List ℕ → Read A
-judged (Ok a) bytes rest = Ok (a, rest)
-judged (Err wrong) bytes rest = Err (At wrong (length bytes))
+abbrev pub at_place : {A : Type 0} → Result A Wrong → List ℕ → List ℕ → Read A
+at_place (Ok a) bytes rest = Ok (a, rest)
+at_place (Err wrong) bytes rest = Err (At wrong (length bytes))
 
 abbrev pub byte_at : {A : Type 0} → (ℕ → Result A Wrong) → List ℕ → Read A
 byte_at judge [] = Err More
-byte_at judge (c ∷ rest) = judged (judge c) (c ∷ rest) rest
+byte_at judge (c ∷ rest) = at_place (judge c) (c ∷ rest) rest
 
 -- this byte and no other
 abbrev pub only : ℕ → ℕ → Result ℕ Wrong

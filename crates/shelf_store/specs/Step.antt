@@ -1,4 +1,4 @@
--- An index in memory and the shelf that has the bytes.
+-- An index in memory and the shelf that has the bytes; for private clauses.
 use Rattle.std.specs.Prelude.{◌≡◌, ◌⊎◌, ℕ, Bool, List, IsTrue}
 use Rattle.std.specs.Coded.{Coded-set, coded×, coded_ℕ, coded_list}
 use Rattle.std.proofs.Props.{props}

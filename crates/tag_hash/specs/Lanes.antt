@@ -1,4 +1,5 @@
 -- Four computations side by side in the lanes of vectors. A vector of four lanes is the list of its lanes.
+-- For private clauses.
 use Rattle.std.specs.Prelude.{ℕ, ◌+◌, List, [], ◌∷◌, map, slice_index, slice_index_or}
 use Rattle.std.specs.List.{range_with_len}
 use Rattle.sha2.specs.Sha256.{rounds, schedule}

@@ -14,5 +14,6 @@ pair tag first second = double_sha256 (pair_text tag first second)
 abbrev pub pair_use : List ℕ → List ℕ → List ℕ → Use
 pair_use tag first second = record { text = pair_text tag first second; size = 32 }
 
+-- for private clauses
 abbrev pub pair_uses : List ℕ → List ℕ → List ℕ → List Use
 pair_uses tag first second = pair_use tag first second ∷ []

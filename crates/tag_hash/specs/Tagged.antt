@@ -21,8 +21,10 @@ tagged_use tag value = record { text = tagged_text tag value; size = 32 }
 abbrev pub tagged16_use : List ℕ → List ℕ → Use
 tagged16_use tag value = record { text = tagged_text tag value; size = 16 }
 
+-- for private clauses
 abbrev pub tagged_uses : List ℕ → List ℕ → List Use
 tagged_uses tag value = tagged_use tag value ∷ []
 
+-- for private clauses
 abbrev pub tagged16_uses : List ℕ → List ℕ → List Use
 tagged16_uses tag value = tagged16_use tag value ∷ []

@@ -17,7 +17,7 @@ use Rattle.grid.specs.Changed.{ArePut, StopsAt}
 use Rattle.chk_file.specs.AllStand.{AllStand}
 use Rattle.chk_file.specs.Look.{Look}
 use Rattle.chk_file.specs.Marks.{shown}
-use Rattle.chk_file.specs.Upload.{Upload, index, shares_of, cap_of}
+use Rattle.chk_file.specs.Upload.{Upload, index, shares_of, upload_cap}
 use Rattle.chk_file.specs.World.{World, after_upload}
 use Rattle.web_request.specs.declared.request.Request.{Request}
 use Rattle.web_ops.specs.declared.reply.Reply.{Reply}
@@ -218,11 +218,11 @@ not_begun e request fault g = record {
 -- ---- directories
 
 pub directory_stored : (e : Encoding) (json items : List ℕ) (entries : List Entry) (r : Result Reply AllocError) (old new : GridState) → made json ≡ Some entries → items ≡ directory_text entries
-    → IsCarriedOut ⊤ (if_long (upload_of e items)) (IsStored (as_directory (cap_of (upload_of e items)))) (λ look. cap_reply (as_directory (cap_of (upload_of e items)))) r old new
+    → IsCarriedOut ⊤ (if_long (upload_of e items)) (IsStored (as_directory (upload_cap (upload_of e items)))) (λ look. cap_reply (as_directory (upload_cap (upload_of e items)))) r old new
     → IsPerformed e (Mkdir json) r old new
 directory_stored e json items entries r old new some text done =
     subst (λ o. IsCarriedOut ⊤ (made_upload e o) (IsMade e o) (λ look. made_reply e o) r old new) (sym some)
-    (subst (λ t. IsCarriedOut ⊤ (if_long (upload_of e t)) (IsStored (as_directory (cap_of (upload_of e t)))) (λ look. cap_reply (as_directory (cap_of (upload_of e t)))) r old new) text done)
+    (subst (λ t. IsCarriedOut ⊤ (if_long (upload_of e t)) (IsStored (as_directory (upload_cap (upload_of e t)))) (λ look. cap_reply (as_directory (upload_cap (upload_of e t)))) r old new) text done)
 
 pub no_directory : (e : Encoding) (json : List ℕ) (r : Result Reply AllocError) (g : GridState) → made json ≡ None → IfOk r (λ x. x ≡ bad_children)
     → IsPerformed e (Mkdir json) r g g

@@ -13,7 +13,7 @@ use Rattle.grid.proofs.Turns.{leaves_none, leaves_both, unchanged_none, unchange
 use Rattle.chk_file.specs.Bound.{Bound}
 use Rattle.chk_file.specs.Check.{HealthValue, check}
 use Rattle.chk_file.specs.Fit.{fit}
-use Rattle.chk_file.specs.Look.{Look, found_in}
+use Rattle.chk_file.specs.Look.{Look, look_in}
 use Rattle.chk_file.specs.Row.{row_of}
 use Rattle.path_walk.specs.Walk.{walked}
 use Rattle.path_walk.specs.Way.{Leads, Stops}
@@ -35,7 +35,7 @@ unasked Fresh Fits says reply r g is fits same = record {
   leaves = leaves_none g;
   unchanged = λ honest. unchanged_none g;
   fits = IfOk-weaker r _ Fits (λ x e. subst Fits (sym e) fits) is;
-  written = λ fresh honest calm. IfOk-weaker r _ _ (λ x e. e ∙ same (found_in (stood g))) is;
+  written = λ fresh honest calm. IfOk-weaker r _ _ (λ x e. e ∙ same (look_in (stood g))) is;
 }
 
 -- memory was refused
@@ -71,7 +71,7 @@ read_missing Fresh f fields r old new is leaves same found = record {
 
 pub walked_to : (Fresh Still : Type 0) (Is : Cap → Reply → Type 0) (says : Look → Cap → Reply) (cap : Cap) (names : List (List ℕ)) (end : Cap) (r : Result Reply AllocError) (old mid new : GridState)
     → Leaves old mid → (IsHonest old → IsUnchanged old mid) → (Fresh → Still) → Leads cap names end
-    → (Fresh → IsHonest old → NoneFailed old mid → walked (found_in (stood old)).gives cap names ≡ Ok end)
+    → (Fresh → IsHonest old → NoneFailed old mid → walked (look_in (stood old)).gives cap names ≡ Ok end)
     → IsFound Still (Is end) (λ look. says look end) r mid new
     → IsFound Fresh (IsAtEnd Is cap names) (λ look. at_end (says look) (walked look.gives cap names)) r old new
 walked_to Fresh Still Is says cap names end r old mid new leaves same stays leads reached found = record {
@@ -79,21 +79,21 @@ walked_to Fresh Still Is says cap names end r old mid new leaves same stays lead
   unchanged = λ honest. unchanged_both old mid new (same honest) (found.unchanged (leaves.honest honest));
   fits = IfOk-weaker r _ _ (λ x fits. inl (end, (leads, fits))) found.fits;
   written = λ fresh honest calm.
-      IfOk-weaker r _ _ (λ x e. e ∙ ap (λ maps. says (found_in (standing maps)) end) (same honest).maps
-      ∙ ap (at_end (says (found_in (stood old)))) (sym (reached fresh honest (calm_first old mid new leaves found.leaves calm))))
+      IfOk-weaker r _ _ (λ x e. e ∙ ap (λ maps. says (look_in (standing maps)) end) (same honest).maps
+      ∙ ap (at_end (says (look_in (stood old)))) (sym (reached fresh honest (calm_first old mid new leaves found.leaves calm))))
       (found.written (stays fresh) (leaves.honest honest) (calm_second old mid new leaves found.leaves calm));
 }
 
 pub walk_stopped : (Fresh : Type 0) (Is : Cap → Reply → Type 0) (says : Look → Cap → Reply) (cap : Cap) (names : List (List ℕ)) (fault : WalkFault) (r : Result Reply AllocError) (old new : GridState)
     → Leaves old new → (IsHonest old → IsUnchanged old new) → (fault ≢ NoMemory → Stops cap names fault)
-    → (Fresh → IsHonest old → NoneFailed old new → fault ≢ NoMemory → walked (found_in (stood old)).gives cap names ≡ Err fault)
+    → (Fresh → IsHonest old → NoneFailed old new → fault ≢ NoMemory → walked (look_in (stood old)).gives cap names ≡ Err fault)
     → IfOk r (λ x. (fault ≢ NoMemory) × (x ≡ walk_reply fault))
     → IsFound Fresh (IsAtEnd Is cap names) (λ look. at_end (says look) (walked look.gives cap names)) r old new
 walk_stopped Fresh Is says cap names fault r old new leaves same stops found is = record {
   leaves = leaves;
   unchanged = same;
   fits = IfOk-weaker r _ _ (λ x e. inr (fault, (stops e.0, e.1))) is;
-  written = λ fresh honest calm. IfOk-weaker r _ _ (λ x e. e.1 ∙ ap (at_end (says (found_in (stood old)))) (sym (found fresh honest calm e.0))) is;
+  written = λ fresh honest calm. IfOk-weaker r _ _ (λ x e. e.1 ∙ ap (at_end (says (look_in (stood old)))) (sym (found fresh honest calm e.0))) is;
 }
 
 -- ---- where a cap leads

@@ -6,7 +6,7 @@ use Rattle.caps.specs.declared.cap.Cap.{Cap}
 use Rattle.caps.specs.declared.cap.Cap.TheVariants.{Chk, Lit, DirChk, DirLit, ChkVerify, DirChkVerify}
 use Rattle.caps.specs.Fields.{VerifyValue}
 use Rattle.caps.specs.Weakening.{verify_fields}
-use Rattle.chk_file.specs.Row.{Row}
+use Rattle.chk_file.specs.Row.{ShareTable}
 use Rattle.chk_file.specs.Check.{check}
 use Rattle.chk_file.specs.Look.{Look}
 use Rattle.path_walk.specs.Walk.{Gives, walked, met as met_on_walk}
@@ -19,8 +19,8 @@ use Rattle.web_ops.specs.declared.reply.Reply.{Reply}
 use Rattle.web_ops.specs.Encoding.{Encoding}
 use Rattle.web_ops.specs.Replies.{json_reply, bytes_reply, not_readable}
 use Rattle.caps.specs.Kinds.{is_verify_cap}
-use Rattle.web_ops.specs.Answers.{at_end, with_bytes, listing_reply, content_reply, node_json_reply, node_reply, heeded, health_reply, request_reply}
-use Rattle.web_ops.specs.Reach.{met}
+use Rattle.web_ops.specs.Answers.{at_end, with_bytes, listing_reply, content_reply, node_json_reply, node_reply, range_to_apply, health_reply, request_reply}
+use Rattle.web_ops.specs.Reach.{caps_met}
 use Rattle.web_ops.specs.Agree.{AgreesAt, AgreeOn}
 
 -- ---- walks
@@ -59,7 +59,7 @@ same_node look other true range cap same = same_json look other cap same
 same_node look other false range cap same = same_content look other range cap same
 
 -- what a check of these fields is answered over a row
-health_over : VerifyValue → Bool → Row → Reply
+health_over : VerifyValue → Bool → ShareTable → Reply
 health_over fields verify row = json_reply (check_text fields.si (check fields verify row))
 
 same_health : (look other : Look) (verify : Bool) (cap : Cap) → AgreesAt look other cap → health_reply look verify cap ≡ health_reply other verify cap
@@ -87,17 +87,17 @@ module _ (walks : (gives other : Gives) (cap : Cap) (names : List (List ℕ)) �
       same_end f g (walked look.gives cap names) (λ end is. each end (All-contains (AgreesAt look other) (met_on_walk look.gives cap names) end same (ends look.gives cap names end is)))
       ∙ ap (at_end g) (walks look.gives other.gives cap names (walks_see_the_same look other (met_on_walk look.gives cap names) same))
 
-  pub same_reply : (e : Encoding) (look other : Look) (request : Request) → AgreeOn look other (met look request) → request_reply e look request ≡ request_reply e other request
+  pub same_reply : (e : Encoding) (look other : Look) (request : Request) → AgreeOn look other (caps_met look request) → request_reply e look request ≡ request_reply e other request
   same_reply e look other (Put bytes) same = refl
   same_reply e look other (Mkdir json) same = refl
   same_reply e look other (Get name names json head_only range) same =
       ap (cond (is_verify_cap name) not_readable)
-      (same_walk look other (node_reply look.gives json (heeded head_only range)) (node_reply other.gives json (heeded head_only range)) name names (same_node look other json (heeded head_only range)) same)
+      (same_walk look other (node_reply look.gives json (range_to_apply head_only range)) (node_reply other.gives json (range_to_apply head_only range)) name names (same_node look other json (range_to_apply head_only range)) same)
   same_reply e look other (Check name names verify) same =
       ap (cond (is_verify_cap name && not (length names == 0)) not_readable)
       (same_walk look other (health_reply look verify) (health_reply other verify) name names (same_health look other verify) same)
 
-  pub same_met : (look other : Look) (request : Request) → AgreeOn look other (met look request) → met look request ≡ met other request
+  pub same_met : (look other : Look) (request : Request) → AgreeOn look other (caps_met look request) → caps_met look request ≡ caps_met other request
   same_met look other (Put bytes) same = refl
   same_met look other (Mkdir json) same = refl
   same_met look other (Get name names json head_only range) same = meets look.gives other.gives name names (walks_see_the_same look other (met_on_walk look.gives name names) same)

@@ -8,7 +8,7 @@ use Rattle.caps.specs.Weakening.{weakened}
 use Rattle.dir_codec.specs.declared.entry.Entry.{Entry}
 use Rattle.dir_codec.specs.Reading.{children}
 use Rattle.dir_codec.specs.Children.{made}
-use Rattle.chk_file.specs.Upload.{cap_of}
+use Rattle.chk_file.specs.Upload.{upload_cap}
 use Rattle.chk_file.specs.Check.{check}
 use Rattle.chk_file.specs.Look.{Look}
 use Rattle.path_walk.specs.Walk.{Gives, walked}
@@ -74,10 +74,10 @@ abbrev pub node_reply : Gives → Bool → Option (List ℕ) → Cap → Reply
 node_reply gives true range cap = node_json_reply gives cap
 node_reply gives false range cap = content_reply gives range cap
 
--- no range is heeded where the head is asked for alone
-abbrev pub heeded : Bool → Option (List ℕ) → Option (List ℕ)
-heeded true range = None
-heeded false range = range
+-- no range applies where the head is asked for alone
+abbrev pub range_to_apply : Bool → Option (List ℕ) → Option (List ℕ)
+range_to_apply true range = None
+range_to_apply false range = range
 
 -- a verify cap gives no bytes and leads nowhere
 abbrev pub get_reply : Gives → Cap → List (List ℕ) → Bool → Option (List ℕ) → Reply
@@ -110,7 +110,7 @@ made_reply e (Some entries) = cap_reply (directory_cap e entries)
 
 -- an upload is answered alike whatever stands
 abbrev pub request_reply : Encoding → Look → Request → Reply
-request_reply e look (Put bytes) = cap_reply (cap_of (upload_of e bytes))
+request_reply e look (Put bytes) = cap_reply (upload_cap (upload_of e bytes))
 request_reply e look (Mkdir json) = made_reply e (made json)
-request_reply e look (Get cap names json head_only range) = get_reply look.gives cap names json (heeded head_only range)
+request_reply e look (Get cap names json head_only range) = get_reply look.gives cap names json (range_to_apply head_only range)
 request_reply e look (Check cap names verify) = check_reply look cap names verify

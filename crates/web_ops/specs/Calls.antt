@@ -4,7 +4,7 @@ use Rattle.std.specs.declared.alloc.AllocError.{AllocError}
 use Rattle.erasure.specs.Code.{AreBytes}
 use Rattle.grid.specs.GridState.{GridState, stood, IsHonest, NoneFailed}
 use Rattle.grid.specs.Leaves.{Leaves, IsUnchanged}
-use Rattle.chk_file.specs.Look.{Look, found_in}
+use Rattle.chk_file.specs.Look.{Look, look_in}
 use Rattle.chk_file.specs.Upload.{Upload}
 use Rattle.web_request.specs.declared.request.Request.{Request}
 use Rattle.web_ops.specs.declared.reply.Reply.{Reply}
@@ -20,7 +20,7 @@ pub record IsFound (Fresh : Type 0) (Fits : Reply → Type 0) (says : Look → R
   pub leaves : Leaves old new
   pub unchanged : IsHonest old → IsUnchanged old new
   pub fits : IfOk result Fits
-  pub written : Fresh → IsHonest old → NoneFailed old new → IfOk result (λ reply. reply ≡ says (found_in (stood old)))
+  pub written : Fresh → IsHonest old → NoneFailed old new → IfOk result (λ reply. reply ≡ says (look_in (stood old)))
 
 -- A call that stores an upload, or none.
 pub record IsCarriedOut (Fresh : Type 0) (upload : Option Upload) (Fits : Reply → Type 0) (says : Look → Reply) (result : Result Reply AllocError) (old new : GridState) : Type 0 where
@@ -29,7 +29,7 @@ pub record IsCarriedOut (Fresh : Type 0) (upload : Option Upload) (Fits : Reply 
   pub bytes : OnOk result (IfSome upload (λ u. AreBytes u.bytes))
   pub begun : IsHonest old → IsBegunIn upload old new
   pub tells : IfOk result (λ reply. TellsOfIn upload reply old new)
-  pub written : Fresh → IsHonest old → HasRoomFor old upload → NoneFailed old new → IfOk result (λ reply. reply ≡ says (found_in (stood old)))
+  pub written : Fresh → IsHonest old → HasRoomFor old upload → NoneFailed old new → IfOk result (λ reply. reply ≡ says (look_in (stood old)))
   pub stored : IsHonest old → HasRoomFor old upload → NoneFailed old new → OnOk result (IsStoredIn upload old new)
   pub world : IsHonest old → HasRoomFor old upload → NoneFailed old new → OnOk result (Follows upload old new)
 

@@ -7,8 +7,8 @@ use Rattle.web_request.specs.declared.request.Request.{Request}
 use Rattle.web_request.specs.declared.request.Request.TheVariants.{Put, Mkdir, Get, Check}
 
 -- the cap that a request begins at, and each child that its walk goes on to; an upload meets none
-abbrev pub met : Look → Request → List Cap
-met look (Put bytes) = []
-met look (Mkdir json) = []
-met look (Get cap names json head_only range) = met_on_walk look.gives cap names
-met look (Check cap names verify) = met_on_walk look.gives cap names
+abbrev pub caps_met : Look → Request → List Cap
+caps_met look (Put bytes) = []
+caps_met look (Mkdir json) = []
+caps_met look (Get cap names json head_only range) = met_on_walk look.gives cap names
+caps_met look (Check cap names verify) = met_on_walk look.gives cap names

@@ -9,7 +9,7 @@ use Rattle.dir_codec.specs.declared.entry.Entry.{Entry}
 use Rattle.dir_codec.specs.Children.{made}
 use Rattle.chk_file.specs.Bound.{Bound}
 use Rattle.chk_file.specs.Check.{HealthValue}
-use Rattle.chk_file.specs.Upload.{cap_of}
+use Rattle.chk_file.specs.Upload.{upload_cap}
 use Rattle.path_walk.specs.Way.{Leads, Stops}
 use Rattle.path_walk.specs.declared.fault.WalkFault.{WalkFault}
 use Rattle.json_view.specs.Nodes.{file_text}
@@ -21,7 +21,7 @@ use Rattle.web_ops.specs.Encoding.{Encoding, upload_of}
 use Rattle.web_ops.specs.Replies.{cap_reply, json_reply, bytes_reply, not_readable, not_enough_shares, is_directory, bad_children, store_full, store_down}
 use Rattle.web_ops.specs.Uploads.{directory_cap}
 use Rattle.caps.specs.Kinds.{is_verify_cap}
-use Rattle.web_ops.specs.Answers.{walk_reply, listing_reply, heeded}
+use Rattle.web_ops.specs.Answers.{walk_reply, listing_reply, range_to_apply}
 
 -- ---- uploads
 
@@ -92,8 +92,8 @@ IsHealth (Some v) reply = IsHealthOf v.fields reply
 -- ---- requests
 
 abbrev pub IsReply : Encoding → Request → Reply → Type 0
-IsReply e (Put bytes) reply = IsStored (cap_of (upload_of e bytes)) reply
+IsReply e (Put bytes) reply = IsStored (upload_cap (upload_of e bytes)) reply
 IsReply e (Mkdir json) reply = IsMade e (made json) reply
-IsReply e (Get cap names json head_only range) reply = IsAnsweredFrom (is_verify_cap cap) (IsNode json (heeded head_only range)) cap names reply
+IsReply e (Get cap names json head_only range) reply = IsAnsweredFrom (is_verify_cap cap) (IsNode json (range_to_apply head_only range)) cap names reply
 IsReply e (Check cap names verify) reply =
     IsAnsweredFrom (is_verify_cap cap && not (length names == 0)) (λ end. IsHealth (weakened end)) cap names reply

@@ -77,7 +77,7 @@ store_full = fault_reply status.ServiceUnavailable (codes "store full")
 abbrev pub store_down : Reply
 store_down = fault_reply status.ServiceUnavailable (codes "store down")
 
--- what can't be met
+-- what can't be met; for private clauses
 abbrev pub failure_reply : Failure → Reply
 failure_reply failure.NotReadable = not_readable
 failure_reply failure.NoChild = no_child

@@ -5,7 +5,7 @@ use Rattle.caps.specs.declared.cap.Cap.TheVariants.{Chk, Lit, DirChk, DirLit, Ch
 use Rattle.dir_codec.specs.declared.entry.Entry.{Entry}
 use Rattle.dir_codec.specs.Children.{made}
 use Rattle.dir_codec.specs.DirectoryText.{directory_text}
-use Rattle.chk_file.specs.Upload.{Upload, cap_of}
+use Rattle.chk_file.specs.Upload.{Upload, upload_cap}
 use Rattle.chk_file.specs.World.{World, after_upload}
 use Rattle.web_request.specs.declared.request.Request.{Request}
 use Rattle.web_request.specs.declared.request.Request.TheVariants.{Put, Mkdir, Get, Check}
@@ -26,7 +26,7 @@ as_directory (DirChkVerify fields) = DirChkVerify fields
 
 -- the cap of a directory
 abbrev pub directory_cap : Encoding → List Entry → Cap
-directory_cap e entries = as_directory (cap_of (directory_upload e entries))
+directory_cap e entries = as_directory (upload_cap (directory_upload e entries))
 
 -- bytes that are too many to stand in a cap
 abbrev pub if_long : Upload → Option Upload

@@ -6,16 +6,16 @@ ghost use Rattle.web_request.specs.declared.request.Request.{Request};
 ghost use Rattle.web_request.specs.declared.request.Request.TheVariants.{Get};
 ghost use Rattle.web_ops.specs.Encoding.{Encoding};
 ghost use Rattle.web_ops.specs.Answers.{request_reply};
-ghost use Rattle.web_ops.specs.Reach.{met};
+ghost use Rattle.web_ops.specs.Reach.{caps_met};
 ghost use Rattle.web_ops.specs.Agree.{AgreeOn};
 
 /// Where two looks agree on the caps that a request meets, it is answered alike by both, and meets the same caps.
 pub fn answers_agree_where_looks_do()
     ensures reply { (e : Encoding) (look other : Look) (request : Request) →
-        AgreeOn look other (met look request) →
+        AgreeOn look other (caps_met look request) →
         request_reply e look request ≡ request_reply e other request }
     ensures met { (look other : Look) (request : Request) →
-        AgreeOn look other (met look request) → met look request ≡ met other request }
+        AgreeOn look other (caps_met look request) → caps_met look request ≡ caps_met other request }
 {
     path_walk::laws::walks_agree_where_looks_do();
     path_walk::laws::walks_meet_their_ends();

@@ -5,10 +5,10 @@ ghost use Rattle.octets.specs.Sharing.{IsSharing};
 ghost use Rattle.grid.specs.GridState.{stood, IsHonest, NoneFailed};
 ghost use Rattle.grid.specs.Leaves.{Leaves};
 ghost use Rattle.chk_file.specs.Cached.{IsFresh};
-ghost use Rattle.chk_file.specs.Look.{found_in};
+ghost use Rattle.chk_file.specs.Look.{look_in};
 ghost use Rattle.web_ops.specs.Encoding.{encoding_of};
 ghost use Rattle.web_ops.specs.Uploads.{upload_in};
-ghost use Rattle.web_ops.specs.Answers.{heeded, request_reply};
+ghost use Rattle.web_ops.specs.Answers.{range_to_apply, request_reply};
 ghost use Rattle.web_ops.specs.Replied.{IsReply};
 ghost use Rattle.web_ops.specs.Changes.{HasRoomFor, IsStoredIn, IsBegunIn, TellsOfIn, Follows};
 
@@ -64,7 +64,7 @@ pub fn perform<S: Store>(
         IsFresh cache.old grid.old → IsHonest grid.old →
         HasRoomFor grid.old (upload_in e request) →
         NoneFailed grid.old grid.new → IfOk result (λ reply.
-        reply ≡ request_reply e (found_in (stood grid.old)) request) }
+        reply ≡ request_reply e (look_in (stood grid.old)) request) }
     ensures stored { let e = encoding_of k n secret.now in
         IsHonest grid.old → HasRoomFor grid.old (upload_in e request) →
         NoneFailed grid.old grid.new → OnOk result
@@ -84,16 +84,16 @@ pub fn perform<S: Store>(
             head_only,
             range,
         } => {
-            let heeded = heeded(head_only, range);
-            get(alloc, grid, cache, &cap, &names, json, heeded)
+            let range_to_apply = range_to_apply(head_only, range);
+            get(alloc, grid, cache, &cap, &names, json, range_to_apply)
         }
         Request::Check { cap, names, verify } => check(alloc, grid, cache, &cap, &names, verify),
     }
 }
 
-/// The range that is heeded: none where the head is asked for alone.
-fn heeded(head_only: bool, range: Option<Bytes>) -> Option<Bytes>
-    ensures { result ≡ heeded head_only range }
+/// The range that applies: none where the head is asked for alone.
+fn range_to_apply(head_only: bool, range: Option<Bytes>) -> Option<Bytes>
+    ensures { result ≡ range_to_apply head_only range }
 {
     if head_only { None } else { range }
 }

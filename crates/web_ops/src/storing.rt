@@ -3,7 +3,7 @@ ghost use Rattle.std.specs.Prelude.{◌≡◌, ⊤, if◌then◌else◌};
 ghost use Rattle.octets.specs.Sharing.{IsSharing};
 ghost use Rattle.erasure.specs.Code.{AreBytes};
 ghost use Rattle.grid.specs.Stamped.{IsStamped};
-ghost use Rattle.chk_file.specs.Upload.{uploaded, cap_of};
+ghost use Rattle.chk_file.specs.Upload.{uploaded, upload_cap};
 ghost use Rattle.web_request.specs.declared.request.Request.TheVariants.{Put, Mkdir};
 ghost use Rattle.web_ops.specs.Encoding.{encoding_of};
 ghost use Rattle.web_ops.specs.Uploads.{as_directory, if_long};
@@ -75,7 +75,7 @@ fn store<S: Store>(
     requires { IsSharing k n }
     ensures stamped { IsStamped grid.old grid.new }
     ensures done { let u = uploaded k n secret.now bytes.items in
-        let cap = if directory then as_directory (cap_of u) else cap_of u in
+        let cap = if directory then as_directory (upload_cap u) else upload_cap u in
         IsCarriedOut ⊤ (if_long u) (IsStored cap) (λ _. cap_reply cap) result grid.old grid.new }
 {
     are_bytes(&bytes);

@@ -11,7 +11,7 @@ use Rattle.path_walk.specs.Names.{names_of, texts, has_bad_escape, max_names, is
 use Rattle.path_walk.specs.declared.fault.PathFault.TheVariants as walk
 use Rattle.web_request.specs.Targets.{origin_of, path_of, query_text, resource_of, below_uri}
 use Rattle.web_request.specs.Queries.{query_of}
-use Rattle.web_request.specs.Actions.{is_plain, is_text, is_text_in_any_case, verify_of, checked_by, check_of, read_of, upload_action, node_action}
+use Rattle.web_request.specs.Actions.{is_absent_or_empty, is_text, is_text_in_any_case, verify_of, checked_by, check_of, read_of, upload_action, node_action}
 use Rattle.web_request.specs.Ranges.{range_of}
 use Rattle.web_request.specs.Requests.{node_from, node_of, get_of, request_for, request_by, interpreted_of, interpreted_at, interpreted}
 use Rattle.web_request.specs.Requests as requests
@@ -68,7 +68,7 @@ uploads_fault : (origin method : List ℕ) (query : Query) (path : List ℕ) (fi
     → fault_of (request_by (upload_action method query) path fields body) ≡ find (holds (Some origin) (Some Uploads) method query path) faults
 unfolding upload_action
 uploads_fault origin method query path fields body =
-    go (bytes_eq method (codes "PUT")) (bytes_eq method (codes "POST")) (is_plain query.t) (is_text query.t (codes "mkdir-immutable"))
+    go (bytes_eq method (codes "PUT")) (bytes_eq method (codes "POST")) (is_absent_or_empty query.t) (is_text query.t (codes "mkdir-immutable"))
   where
     go : (t u v w : Bool)
         → fault_of (request_by (cond t (cond v (Ok action.Put) (Err BadQuery)) (cond u (cond w (Ok action.Mkdir) (Err BadQuery)) (Err (BadMethod Uploads)))) path fields body)
@@ -89,7 +89,7 @@ action_fault : (method : List ℕ) (query : Query) (path : List ℕ) (fields : L
     ≡ cond (not (takes Node method)) (Some (BadMethod Node)) (cond (not (suits Node method query)) (Some BadQuery) (path_fault path))
 unfolding node_action read_of check_of
 action_fault method query path fields body =
-    go (bytes_eq method (codes "GET")) (bytes_eq method (codes "HEAD")) (bytes_eq method (codes "POST")) (is_plain query.t) (is_text query.t (codes "json"))
+    go (bytes_eq method (codes "GET")) (bytes_eq method (codes "HEAD")) (bytes_eq method (codes "POST")) (is_absent_or_empty query.t) (is_text query.t (codes "json"))
     (is_text query.t (codes "check")) (is_text_in_any_case query.output (codes "json")) (verify_of query.verify)
   where
     go : (t u p v w x y : Bool) (o : Option Bool)

@@ -10,7 +10,7 @@ use Rattle.path_walk.specs.Names.{names_of}
 use Rattle.path_walk.specs.declared.fault.PathFault.{PathFault}
 use Rattle.web_request.specs.Targets.{origin_of, path_of, query_text, resource_of, below_uri}
 use Rattle.web_request.specs.Queries.{query_of}
-use Rattle.web_request.specs.Actions.{is_plain, is_text, is_text_in_any_case, verify_of, checked_by, check_of, read_of, upload_action, node_action, action_of}
+use Rattle.web_request.specs.Actions.{is_absent_or_empty, is_text, is_text_in_any_case, verify_of, checked_by, check_of, read_of, upload_action, node_action, action_of}
 use Rattle.web_request.specs.Ranges.{range_of}
 use Rattle.web_request.specs.Requests.{node_from, node_of, get_of, request_for, request_by, interpreted_of, interpreted_at, interpreted}
 use Rattle.web_request.specs.Requests as requests
@@ -36,7 +36,7 @@ Reads = (text : List ℕ) (cap : Cap) → IsCapText cap text ↔ (cap_reading te
 same_bytes : (a b : List ℕ) → bytes_eq a b ≡ true → a ≡ b
 same_bytes a b e = (bytes_eq-Decides a b).0 e
 
-put_action : (query : Query) → is_plain query.t ≡ true → upload_action (codes "PUT") query ≡ Ok action.Put
+put_action : (query : Query) → is_absent_or_empty query.t ≡ true → upload_action (codes "PUT") query ≡ Ok action.Put
 unfolding upload_action
 put_action query plain = ap (λ b. cond b (Ok action.Put) (Err BadQuery)) plain
 
@@ -44,7 +44,7 @@ mkdir_action : (query : Query) → is_text query.t (codes "mkdir-immutable") ≡
 unfolding upload_action
 mkdir_action query is = ap (λ b. cond b (Ok action.Mkdir) (Err BadQuery)) is
 
-json_not_plain : (t : Option (List ℕ)) → is_text t (codes "json") ≡ true → is_plain t ≡ false
+json_not_plain : (t : Option (List ℕ)) → is_text t (codes "json") ≡ true → is_absent_or_empty t ≡ false
 json_not_plain None is = absurd (cc)
 json_not_plain (Some text) is = ap (λ x. length x == 0) (same_bytes text (codes "json") is)
 
@@ -100,15 +100,15 @@ row_given reads head body (Check cap names verify) w =
 -- which action of `/uri` it is, and why
 abbrev UploadSays : List ℕ → Query → Action → Type 0
 UploadSays method query act =
-    ((act ≡ action.Put) × (bytes_eq method (codes "PUT") ≡ true) × (is_plain query.t ≡ true))
+    ((act ≡ action.Put) × (bytes_eq method (codes "PUT") ≡ true) × (is_absent_or_empty query.t ≡ true))
     ⊎ ((act ≡ action.Mkdir) × (bytes_eq method (codes "POST") ≡ true) × (is_text query.t (codes "mkdir-immutable") ≡ true))
 
 upload_says : (method : List ℕ) (query : Query) (act : Action) → upload_action method query ≡ Ok act → UploadSays method query act
 unfolding upload_action
 upload_says method query act e =
-    go (bytes_eq method (codes "PUT")) (is_plain query.t) (bytes_eq method (codes "POST")) (is_text query.t (codes "mkdir-immutable")) refl refl refl refl e
+    go (bytes_eq method (codes "PUT")) (is_absent_or_empty query.t) (bytes_eq method (codes "POST")) (is_text query.t (codes "mkdir-immutable")) refl refl refl refl e
   where
-    go : (t u v w : Bool) → bytes_eq method (codes "PUT") ≡ t → is_plain query.t ≡ u → bytes_eq method (codes "POST") ≡ v
+    go : (t u v w : Bool) → bytes_eq method (codes "PUT") ≡ t → is_absent_or_empty query.t ≡ u → bytes_eq method (codes "POST") ≡ v
         → is_text query.t (codes "mkdir-immutable") ≡ w
         → ◌≡◌ {A = Result Action WebFault} (cond t (cond u (Ok action.Put) (Err BadQuery)) (cond v (cond w (Ok action.Mkdir) (Err BadQuery)) (Err (BadMethod Uploads)))) (Ok act)
         → UploadSays method query act
@@ -124,9 +124,9 @@ ReadSays head_only query act = (json : Bool) × (act ≡ action.Get json head_on
 
 read_says : (head_only : Bool) (query : Query) (act : Action) → read_of query head_only ≡ Ok act → ReadSays head_only query act
 unfolding read_of
-read_says head_only query act e = go (is_plain query.t) (is_text query.t (codes "json")) refl refl e
+read_says head_only query act e = go (is_absent_or_empty query.t) (is_text query.t (codes "json")) refl refl e
   where
-    go : (t u : Bool) → is_plain query.t ≡ t → is_text query.t (codes "json") ≡ u
+    go : (t u : Bool) → is_absent_or_empty query.t ≡ t → is_text query.t (codes "json") ≡ u
         → ◌≡◌ {A = Result Action WebFault} (cond t (Ok (action.Get false head_only)) (cond u (Ok (action.Get true head_only)) (Err BadQuery))) (Ok act)
         → ReadSays head_only query act
     go true u a b f = (false, (let is : act ≡ action.Get false head_only = cc in is), a)

@@ -10,9 +10,9 @@ use Rattle.web_request.specs.declared.fault.WebFault.{WebFault}
 use Rattle.web_request.specs.declared.fault.WebFault.TheVariants.{BadMethod, BadQuery}
 
 -- absent or empty
-abbrev pub is_plain : Option (List ℕ) → Bool
-is_plain None = true
-is_plain (Some text) = length text == 0
+abbrev pub is_absent_or_empty : Option (List ℕ) → Bool
+is_absent_or_empty None = true
+is_absent_or_empty (Some text) = length text == 0
 
 abbrev pub is_text : Option (List ℕ) → List ℕ → Bool
 is_text None wanted = false
@@ -50,13 +50,13 @@ check_of query =
 -- bytes, or JSON
 unfoldable pub read_of : Query → Bool → Result Action WebFault
 read_of query head_only =
-    if is_plain query.t then Ok (Get false head_only)
+    if is_absent_or_empty query.t then Ok (Get false head_only)
     else (if is_text query.t (codes "json") then Ok (Get true head_only) else Err BadQuery)
 
 -- of `/uri`
 unfoldable pub upload_action : List ℕ → Query → Result Action WebFault
 upload_action method query =
-    if bytes_eq method (codes "PUT") then (if is_plain query.t then Ok Put else Err BadQuery)
+    if bytes_eq method (codes "PUT") then (if is_absent_or_empty query.t then Ok Put else Err BadQuery)
     else (if bytes_eq method (codes "POST") then (if is_text query.t (codes "mkdir-immutable") then Ok Mkdir else Err BadQuery)
     else Err (BadMethod Uploads))
 

@@ -6,7 +6,7 @@ use Rattle.caps.specs.Reading.{cap_reading}
 use Rattle.path_walk.specs.Names.{texts, has_bad_escape, max_names, is_empty, first_or_empty}
 use Rattle.web_request.specs.Targets.{origin_of, path_of, query_text, resource_of, below_uri}
 use Rattle.web_request.specs.Queries.{query_of}
-use Rattle.web_request.specs.Actions.{is_plain, is_text, is_text_in_any_case, verify_of}
+use Rattle.web_request.specs.Actions.{is_absent_or_empty, is_text, is_text_in_any_case, verify_of}
 use Rattle.web_request.specs.declared.head.Head.{Head}
 use Rattle.web_request.specs.declared.query.Query.{Query}
 use Rattle.web_request.specs.declared.request.Resource.{Resource}
@@ -22,9 +22,9 @@ takes Node method = bytes_eq method (codes "GET") || (bytes_eq method (codes "HE
 -- the queries that go with a method that it takes
 abbrev pub suits : Resource → List ℕ → Query → Bool
 suits Uploads method query =
-    if bytes_eq method (codes "PUT") then is_plain query.t else is_text query.t (codes "mkdir-immutable")
+    if bytes_eq method (codes "PUT") then is_absent_or_empty query.t else is_text query.t (codes "mkdir-immutable")
 suits Node method query =
-    if bytes_eq method (codes "GET") || bytes_eq method (codes "HEAD") then is_plain query.t || is_text query.t (codes "json")
+    if bytes_eq method (codes "GET") || bytes_eq method (codes "HEAD") then is_absent_or_empty query.t || is_text query.t (codes "json")
     else is_text query.t (codes "check") && (is_text_in_any_case query.output (codes "json") && is_some (verify_of query.verify))
 
 abbrev pub is_uploads : Option Resource → Bool

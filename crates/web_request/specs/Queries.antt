@@ -21,7 +21,7 @@ pairs query = map texts_of (raw_pairs query)
 abbrev pub first_of : List ℕ → List (List ℕ × List ℕ) → Option (List ℕ)
 first_of key found = lookup (λ name. bytes_eq name key) found
 
--- the first of two that is there
+-- the first of two that is there; for private clauses
 abbrev pub first_of_both : Option (List ℕ) → Option (List ℕ) → Option (List ℕ)
 first_of_both (Some text) other = Some text
 first_of_both None other = other

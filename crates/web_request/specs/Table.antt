@@ -5,7 +5,7 @@ use Rattle.caps.specs.declared.cap.Cap.{Cap}
 use Rattle.path_walk.specs.Names.{names_of}
 use Rattle.web_request.specs.Targets.{origin_of, path_of, query_text, resource_of, below_uri}
 use Rattle.web_request.specs.Queries.{query_of}
-use Rattle.web_request.specs.Actions.{is_plain, is_text, is_text_in_any_case, verify_of}
+use Rattle.web_request.specs.Actions.{is_absent_or_empty, is_text, is_text_in_any_case, verify_of}
 use Rattle.web_request.specs.Ranges.{range_of}
 use Rattle.web_request.specs.declared.head.Head.{Head}
 use Rattle.web_request.specs.declared.query.Query.{Query}
@@ -37,12 +37,12 @@ read_method false = codes "GET"
 -- what `t` says: JSON, or nothing
 abbrev pub is_read : Bool → Query → Bool
 is_read true query = is_text query.t (codes "json")
-is_read false query = is_plain query.t
+is_read false query = is_absent_or_empty query.t
 
 -- the rows of the table
 abbrev pub IsRequest : Head → List ℕ → Request → Type 0
 IsRequest head body (Put bytes) =
-    (query : Query) × (path : List ℕ) × IsFor head (codes "PUT") Uploads query path × (is_plain query.t ≡ true) × (bytes ≡ body)
+    (query : Query) × (path : List ℕ) × IsFor head (codes "PUT") Uploads query path × (is_absent_or_empty query.t ≡ true) × (bytes ≡ body)
 IsRequest head body (Mkdir bytes) =
     (query : Query) × (path : List ℕ) × IsFor head (codes "POST") Uploads query path
     × (is_text query.t (codes "mkdir-immutable") ≡ true) × (bytes ≡ body)

@@ -1,7 +1,7 @@
 //! What a method and a query ask for.
 ghost use Rattle.std.specs.Prelude.{◌≡◌, Some};
 ghost use Rattle.octets.specs.Case.{eq_ignore_case};
-ghost use Rattle.web_request.specs.Actions.{action_of, upload_action, node_action, is_one_of, is_text, is_text_in_any_case, is_plain, verify_of, read_of, check_of};
+ghost use Rattle.web_request.specs.Actions.{action_of, upload_action, node_action, is_one_of, is_text, is_text_in_any_case, is_absent_or_empty, verify_of, read_of, check_of};
 
 use crate::fault::WebFault;
 use crate::query::Query;
@@ -45,7 +45,7 @@ fn upload_action(method: &[u8], query: &Query) -> Result<Action, WebFault>
     ensures { result ≡ upload_action method.now query.now }
 {
     if method == b"PUT".as_slice() {
-        if is_plain(&query.t) {
+        if is_absent_or_empty(&query.t) {
             return Ok(Action::Put);
         }
         return Err(WebFault::BadQuery);
@@ -81,7 +81,7 @@ fn node_action(method: &[u8], query: &Query) -> Result<Action, WebFault>
 fn read_of(query: &Query, head_only: bool) -> Result<Action, WebFault>
     ensures { result ≡ read_of query.now head_only }
 {
-    if is_plain(&query.t) {
+    if is_absent_or_empty(&query.t) {
         return Ok(Action::Get {
             json: false,
             head_only,
@@ -143,8 +143,8 @@ fn is_one_of(bytes: &[u8], a: &[u8], b: &[u8], c: &[u8], d: &[u8]) -> bool
 }
 
 /// Whether a value is absent or empty.
-fn is_plain(value: &Option<Text>) -> bool
-    ensures { result ≡ is_plain value.now }
+fn is_absent_or_empty(value: &Option<Text>) -> bool
+    ensures { result ≡ is_absent_or_empty value.now }
 {
     match value {
         None => true,

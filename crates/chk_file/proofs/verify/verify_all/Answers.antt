@@ -10,14 +10,14 @@ use Rattle.caps.specs.StorageIndex.{index_of}
 use Rattle.share_codec.specs.Params.{ParamsValue}
 use Rattle.chk_file.specs.Numbers.{params_of}
 use Rattle.chk_file.specs.Gathered.{Found, of_number, by_number, good_below}
-use Rattle.chk_file.specs.Row.{Row, row_of, places, good_shares}
+use Rattle.chk_file.specs.Row.{ShareTable, row_of, places, good_shares}
 use Rattle.chk_file.specs.Fit.{fit_in}
 use Rattle.chk_file.proofs.Gathered.{of_standing, rows_are_good}
 use Rattle.chk_file.proofs.Reached.{IsGathered, gathered_is_reached}
 use Rattle.chk_file.proofs.verify.verify_all.Goals as goal
 
 -- what was gathered gives what the row gives of which it is
-in_row : (p : ParamsValue) (key ueb : List ℕ) (row : Row) (found : List Found) (o : Option (List ℕ)) → ((number : ℕ) → of_number number found ≡ places row number)
+in_row : (p : ParamsValue) (key ueb : List ℕ) (row : ShareTable) (found : List Found) (o : Option (List ℕ)) → ((number : ℕ) → of_number number found ≡ places row number)
     → fit_in p key (good_below p ueb (by_number p.n found) p.n) ≡ o → fit_in p key (good_shares p ueb row) ≡ o
 in_row p key ueb row found o same e = ap (fit_in p key) (sym (rows_are_good found row same p.n p ueb)) ∙ e
 

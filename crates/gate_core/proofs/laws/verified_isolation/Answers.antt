@@ -7,7 +7,7 @@ use Rattle.gate_core.specs.Events.{Event, handed}
 use Rattle.gate_core.specs.Items.{items}
 use Rattle.gate_core.specs.Runs.{said_by}
 use Rattle.gate_core.specs.Reach.{only}
-use Rattle.gate_core.specs.Held.{Held, waiting_in, held_at}
+use Rattle.gate_core.specs.Held.{Held, waiting_in, connection_at}
 use Rattle.gate_core.specs.Came.{CameAt}
 use Rattle.gate_core.proofs.Local.{by_fit-local, said-kept}
 use Rattle.gate_core.proofs.laws.verified_isolation.Goals as goal
@@ -18,7 +18,7 @@ told s w caller (Some held) events at = at.out
 
 pub returns : goal.returns
 returns c = record {
-  whole = λ opening g events caller came. told g.settings opening.world caller (held_at g caller) events (came.each caller);
-  apart = λ opening g events came caller. told g.settings opening.world caller (held_at g caller) events (came.each caller)
+  whole = λ opening g events caller came. told g.settings opening.world caller (connection_at g caller) events (came.each caller);
+  apart = λ opening g events came caller. told g.settings opening.world caller (connection_at g caller) events (came.each caller)
       ∙ sym (said-kept c.changes_are_local.ensures.upload c.changes_are_local.ensures.files c.answers_agree_where_looks_do.ensures.reply c.answers_agree_where_looks_do.ensures.met by_fit by_fit-local g.settings (only caller) caller opening.world (items events) (eq-eqb caller caller refl));
 }

@@ -1,5 +1,5 @@
 use Rattle.std.proofs.Common.{◌≡◌, refl}
-use Rattle.gate_core.specs.Held.{held_at}
+use Rattle.gate_core.specs.Held.{connection_at}
 use Rattle.gate_flow.proofs.Leading.{bytes_led, bytes_open, refused_led, bytes_refused, call_fault}
 use Rattle.gate_flow.proofs.calls.bring.Goals as goal
 
@@ -19,4 +19,4 @@ returns-in-Err-clause-err g c =
 
 pub returns-in-Err-clause-faults : goal.returns-in-Err-clause-faults
 returns-in-Err-clause-faults g c =
-    call_fault (held_at c.args.gateway.now c.args.id) c.in-Err.fault c.from.result c.from.ensures (λ other. bytes_refused _ c.in-Err.fault _ _ refl other c.in-Err.ensures.answer)
+    call_fault (connection_at c.args.gateway.now c.args.id) c.in-Err.fault c.from.result c.from.ensures (λ other. bytes_refused _ c.in-Err.fault _ _ refl other c.in-Err.ensures.answer)

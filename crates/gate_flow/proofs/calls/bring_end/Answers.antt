@@ -1,6 +1,6 @@
 use Rattle.std.proofs.Common.{refl, ap}
 use Rattle.gate_core.specs.Events.{End}
-use Rattle.gate_core.specs.Held.{State, held_at, waiting, bytes_refusal}
+use Rattle.gate_core.specs.Held.{State, connection_at, waiting, bytes_refusal}
 use Rattle.gate_flow.proofs.Leading.{ended_led, end_waits, end_same, end_over, end_refused, end_still_over, calm_on}
 use Rattle.gate_flow.proofs.calls.bring_end.Goals as goal
 
@@ -17,14 +17,14 @@ pub returns-in-Ok-clause-over : goal.returns-in-Ok-clause-over
 returns-in-Ok-clause-over g c = end_over c.args.id c.args.gateway.now c.end.new.self _ _ (λ e h. cc) c.in-Ok.ensures.answer c.in-Ok.ensures.left
 
 pub returns-in-Err-clause-err : goal.returns-in-Err-clause-err
-returns-in-Err-clause-err g c = end_same c.args.gateway.now c.end.new.self _ _ (bytes_refusal (held_at c.args.gateway.now c.args.id)) refl c.in-Err.ensures.answer
+returns-in-Err-clause-err g c = end_same c.args.gateway.now c.end.new.self _ _ (bytes_refusal (connection_at c.args.gateway.now c.args.id)) refl c.in-Err.ensures.answer
 
 pub returns-in-Err-clause-same : goal.returns-in-Err-clause-same
 returns-in-Err-clause-same g c =
-    ap (λ (s : State). waiting s c.args.id) (end_same c.args.gateway.now c.end.new.self _ _ (bytes_refusal (held_at c.args.gateway.now c.args.id)) refl c.in-Err.ensures.answer)
+    ap (λ (s : State). waiting s c.args.id) (end_same c.args.gateway.now c.end.new.self _ _ (bytes_refusal (connection_at c.args.gateway.now c.args.id)) refl c.in-Err.ensures.answer)
 
 pub returns-in-Err-clause-over : goal.returns-in-Err-clause-over
 returns-in-Err-clause-over g c = end_still_over c.args.id c.args.gateway.now c.end.new.self _ _ refl c.in-Err.ensures.answer
 
 pub returns-in-Err-clause-refused : goal.returns-in-Err-clause-refused
-returns-in-Err-clause-refused g c = end_refused c.args.gateway.now c.end.new.self (bytes_refusal (held_at c.args.gateway.now c.args.id)) _ _ refl c.in-Err.ensures.answer
+returns-in-Err-clause-refused g c = end_refused c.args.gateway.now c.end.new.self (bytes_refusal (connection_at c.args.gateway.now c.args.id)) _ _ refl c.in-Err.ensures.answer

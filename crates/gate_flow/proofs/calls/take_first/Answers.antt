@@ -1,5 +1,5 @@
 use Rattle.std.proofs.Common.{◌≡◌, refl}
-use Rattle.gate_core.specs.Held.{held_at}
+use Rattle.gate_core.specs.Held.{connection_at}
 use Rattle.gate_flow.proofs.Leading.{taken_led, take_splits, take_stays, take_refused, call_fault}
 use Rattle.gate_flow.proofs.calls.take_first.Goals as goal
 
@@ -16,4 +16,4 @@ returns-in-Ok-clause-stays g c = take_stays c.args.id c.args.max c.args.gateway.
 
 pub returns-in-Err-clause-faults : goal.returns-in-Err-clause-faults
 returns-in-Err-clause-faults g c =
-    call_fault (held_at c.args.gateway.now c.args.id) c.in-Err.fault c.from.result c.from.ensures (λ other. take_refused _ c.in-Err.fault _ _ refl other c.in-Err.ensures.answer)
+    call_fault (connection_at c.args.gateway.now c.args.id) c.in-Err.fault c.from.result c.from.ensures (λ other. take_refused _ c.in-Err.fault _ _ refl other c.in-Err.ensures.answer)

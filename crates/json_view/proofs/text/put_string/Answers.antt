@@ -1,16 +1,16 @@
 use Rattle.std.proofs.Common.{◌++◌, sym, ap, ◌∙◌}
 use Rattle.std.proofs.lemmas.Result.{on_ok_weaker}
 use Rattle.std.specs.List.{list_all}
-use Rattle.json_view.specs.Strings.{is_plain}
+use Rattle.json_view.specs.Strings.{needs_no_escape}
 use Rattle.serde_json.specs.View.{view}
 use Rattle.json_view.proofs.Plain.{plain_quoted, written_quoted}
 use Rattle.json_view.proofs.text.put_string.Goals as goal
 
-pub returns-then-is_plain : goal.returns-then-is_plain
-returns-then-is_plain c =
+pub returns-then-needs_no_escape : goal.returns-then-needs_no_escape
+returns-then-needs_no_escape c =
     let text = c.args.text.now in
-    let plain = ap (list_all is_plain) (sym c.as_bytes.ensures.value) ∙ sym c.is_plain.ensures ∙ c.if-is_plain.true in
-    on_ok_weaker c.put_all.result (λ put. put ∙ ap (λ t. c.args.out.now.items ++ t) (plain_quoted text c.as_bytes-then-is_plain.result.now plain c.as_bytes-then-is_plain.ensures.value)) c.put_all.ensures
+    let plain = ap (list_all needs_no_escape) (sym c.as_bytes.ensures.value) ∙ sym c.needs_no_escape.ensures ∙ c.if-needs_no_escape.true in
+    on_ok_weaker c.put_all.result (λ put. put ∙ ap (λ t. c.args.out.now.items ++ t) (plain_quoted text c.as_bytes-then-needs_no_escape.result.now plain c.as_bytes-then-needs_no_escape.ensures.value)) c.put_all.ensures
 
 pub returns : goal.returns
 returns c =

@@ -6,7 +6,7 @@ use Rattle.path_walk.specs.declared.fault.WalkFault.TheVariants.{NoMemory}
 use Rattle.std.proofs.lemmas.List.{drop_more}
 use Rattle.grid.specs.GridState.{stood}
 use Rattle.grid.specs.Standing.{standing}
-use Rattle.chk_file.specs.Look.{found_in}
+use Rattle.chk_file.specs.Look.{look_in}
 use Rattle.path_walk.specs.Walk.{Gives, then_on, child_below, walked}
 use Rattle.path_walk.specs.Way.{Leads, Stops}
 use Rattle.grid.proofs.Turns.{leaves_both, unchanged_both, calm_first, calm_second}
@@ -30,7 +30,7 @@ loop-name-preserved g c =
     let i = c.loop-name.name-index in
     let name = c.name-item.result in
     let more = drop (i + 1) items in
-    let gives : Gives = (found_in (stood old)).gives in
+    let gives : Gives = (look_in (stood old)).gives in
     let left : drop i items ≡ name ∷ more = drop_more items i name c.loop-name-test.true ∙ ap (λ (n : List ℕ). n ∷ more) (sym c.name-item.is) in
     record {
       leaves = leaves_both old mid new inv.leaves one.leaves;
@@ -41,7 +41,7 @@ loop-name-preserved g c =
       stops = λ fault stop. inv.stops fault (subst (λ rest. Stops here rest fault) (sym left) (inr (child, (one.child, stop))));
       walks = λ fresh all calm.
           let found = one.found (inv.fresh fresh) (inv.leaves.honest all) (calm_second old mid new inv.leaves one.leaves calm) in
-          let step : child_below gives here name ≡ Ok child = subst (λ maps. child_below (found_in (standing maps)).gives here name ≡ Ok child) (inv.unchanged all).maps found in
+          let step : child_below gives here name ≡ Ok child = subst (λ maps. child_below (look_in (standing maps)).gives here name ≡ Ok child) (inv.unchanged all).maps found in
           inv.walks fresh all (calm_first old mid new inv.leaves one.leaves calm)
           ∙ ap (walked gives here) left
           ∙ ap (then_on (λ next. walked gives next more)) step;
@@ -76,12 +76,12 @@ returns-in_err-here-2-clause-refused g c fresh all calm =
     let name = c.name-item.result in
     let more = drop (i + 1) items in
     let fault = c.in_err-here-2.field-0.0 in
-    let gives : Gives = (found_in (stood old)).gives in
+    let gives : Gives = (look_in (stood old)).gives in
     let left : drop i items ≡ name ∷ more = drop_more items i name c.loop-name-test.true ∙ ap (λ (n : List ℕ). n ∷ more) (sym c.name-item.is) in
     passed_on c.from_residual-in_err-here-2.result fault (λ f. walked gives c.args.cap.now c.args.names.now ≡ Err f) c.from_residual-in_err-here-2.ensures.1
     (λ memory.
     let found = one.refused (inv.fresh fresh) (inv.leaves.honest all) (calm_second old mid new inv.leaves one.leaves calm) memory in
-    let step : child_below gives here name ≡ Err fault = subst (λ maps. child_below (found_in (standing maps)).gives here name ≡ Err fault) (inv.unchanged all).maps found in
+    let step : child_below gives here name ≡ Err fault = subst (λ maps. child_below (look_in (standing maps)).gives here name ≡ Err fault) (inv.unchanged all).maps found in
     ap (walked gives c.args.cap.now) (sym c.as_slice-name-items.ensures)
     ∙ inv.walks fresh all (calm_first old mid new inv.leaves one.leaves calm)
     ∙ ap (walked gives here) left

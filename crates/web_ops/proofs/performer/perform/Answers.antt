@@ -25,7 +25,7 @@ returns-in-Get-clause-written g c =
     (same_request (IsFresh c.args.cache.now c.args.grid.now) (encoding_of c.args.k c.args.n c.args.secret.now) (Get c.in-Get.cap c.in-Get.names c.in-Get.json c.in-Get.head_only c.in-Get.range) c.args.request c.get.result c.args.grid.now c.get.new.grid c.in-Get.is
     (nothing_stored _ _ _ c.get.result c.args.grid.now c.get.new.grid
     (subst (λ range. IsFound (IsFresh c.args.cache.now c.args.grid.now) (IsAnsweredFrom (is_verify_cap c.in-Get.cap) (IsNode c.in-Get.json range) c.in-Get.cap c.in-Get.names) (λ look. get_reply look.gives c.in-Get.cap c.in-Get.names c.in-Get.json range) c.get.result c.args.grid.now c.get.new.grid)
-    c.heeded-heeded.ensures c.get.ensures.found))).written
+    c.range_to_apply-range_to_apply.ensures c.get.ensures.found))).written
 
 pub returns-in-Put-clause-fresh : goal.returns-in-Put-clause-fresh
 returns-in-Put-clause-fresh g c fresh = fresh_stays c.args.cache.now c.args.grid.now c.put.new.grid c.put.ensures.done.leaves c.put.ensures.stamped fresh

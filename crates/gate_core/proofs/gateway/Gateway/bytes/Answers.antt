@@ -2,7 +2,7 @@ use Rattle.std.proofs.Common.{refl, ap, ◌∙◌}
 use Rattle.gate_core.specs.Forgotten.{with_gone}
 use Rattle.std.proofs.lemmas.Result.{on_ok_weaker}
 use Rattle.gate_core.specs.Settings.{settings_of}
-use Rattle.gate_core.specs.Held.{held_at}
+use Rattle.gate_core.specs.Held.{connection_at}
 use Rattle.gate_core.proofs.Maps.{Changed-others}
 use Rattle.gate_core.proofs.Forgetting.{lent, no_entry, unheld_refused}
 use Rattle.gate_core.proofs.Arrivals.{same_state, bytes_refused, received, cut_left, cut_short, received_came, where_open, calm_lent}
@@ -32,7 +32,7 @@ returns-clause-cut_short g c held found e =
 pub returns-clause-calm : goal.returns-clause-calm
 returns-clause-calm g c quiet =
     let changed = lent c.args.self.now.connections _ _ c.args.id (ap (λ s. s.connections) c.self.view_is) _ c.in-Some.receiver.now c.bytes.new.self c.in-Some.ensures.value (λ some. ((c.get_mut.follows.holds c.bytes.new.self).3 some).0) in
-    c.bytes.ensures.calm (calm_lent (held_at c.args.self.now c.args.id) _ _ changed.found quiet)
+    c.bytes.ensures.calm (calm_lent (connection_at c.args.self.now c.args.id) _ _ changed.found quiet)
 
 pub returns-clause-others : goal.returns-clause-others
 returns-clause-others g c =

@@ -1,6 +1,6 @@
 use Rattle.std.proofs.Common.{◌≡◌, ◌≤◌, length}
 use Rattle.chk_file.specs.Gathered.{good_below, bad_below}
-use Rattle.chk_file.proofs.checker.judged.Given as goal
+use Rattle.chk_file.proofs.checker.judge_each.Given as goal
 
 abbrev pub invariant-loop-number : goal.invariant-loop-number
 invariant-loop-number l = record {

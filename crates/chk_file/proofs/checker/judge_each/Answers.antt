@@ -4,8 +4,8 @@ use Rattle.share_codec.specs.GoodShare.{GoodShare}
 use Rattle.chk_file.specs.Row.{first_good}
 use Rattle.chk_file.specs.Check.{bad_places}
 use Rattle.chk_file.proofs.Counts.{good_counted, flat_more}
-use Rattle.chk_file.proofs.checker.judged.Goals as goal
-use Rattle.chk_file.proofs.checker.judged.Goals.{then-branch, else-branch}
+use Rattle.chk_file.proofs.checker.judge_each.Goals as goal
+use Rattle.chk_file.proofs.checker.judge_each.Goals.{then-branch, else-branch}
 
 pub loop-number-preserved : goal.loop-number-preserved
 loop-number-preserved c =
