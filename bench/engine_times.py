@@ -2,8 +2,8 @@
 """Times `wozhinnam serve` over Redis servers of this machine, beside redis-benchmark in the same minute: it is no test. It needs Linux, the built program,
 redis-server and redis-benchmark (apt-get install redis-server redis-tools).
 
-share   a put and a get of a file of 500,000 bytes at 1 of 1 over one server, less what they take over a store in memory, beside
-        `SET` and `GET` of as many bytes by redis-benchmark, one connection
+share   a put and a get of a file of 500,000 bytes at 1 of 1 over one server, less what they take over a store in memory, the
+        least of 120 turns each, beside `SET` and `GET` of as many bytes by redis-benchmark, one connection
 file    a put and a get of 4 MiB at 3 of 10 over five servers, and over stores in memory
 grid    files of 4 MiB, ten times as many bytes of shares as the program may have memory (ulimit -v), put, read and checked
 
@@ -64,15 +64,34 @@ def benchmark(engine):
     return 1 / float(rows["SET"]), 1 / float(rows["GET"])
 
 
+def least_of_both(servers, call):
+    """The least seconds of a call to each of two servers, which take turns, so that both meet the same neighbours."""
+    least = [float("inf")] * 2
+    for at in range(3 * TURNS):
+        for place, server in enumerate(servers):
+            began = time.monotonic()
+            call(place, server, at)
+            least[place] = min(least[place], time.monotonic() - began)
+    return least
+
+
 def share(program, engines):
     one = ["--shares", "1,1"]
-    memory = timed(program, one + ["--store", "mem:1000000000"], SHARE, TURNS)
-    redis = timed(program, one + store(engines[0], 0), SHARE, TURNS)
+    servers = [Server(program, one + ["--store", "mem:1000000000"]), Server(program, one + store(engines[0], 0))]
+    bodies = [body(at, SHARE) for at in range(3 * TURNS)]
+    caps = [{}, {}]
+
+    def put(place, server, at):
+        caps[place][at] = server.ask("PUT", "/uri", bodies[at]).decode()
+
+    puts = least_of_both(servers, put)
+    gets = least_of_both(servers, lambda place, server, at: server.ask("GET", "/uri/" + caps[place][at]))
+    for server in servers:
+        server.end()
     plain = benchmark(engines[0])
-    for name, at in (("put", 0), ("get", 1)):
-        part = redis[at] - memory[at]
+    for name, (memory, redis), at in (("put", puts, 0), ("get", gets, 1)):
         print("a %s of a share of %d bytes: %.2f ms beside %.2f ms by redis-benchmark: %.2f times (%.2f ms whole, %.2f in memory)" % (
-            name, SHARE, part * 1e3, plain[at] * 1e3, part / plain[at], redis[at] * 1e3, memory[at] * 1e3))
+            name, SHARE, (redis - memory) * 1e3, plain[at] * 1e3, (redis - memory) / plain[at], redis * 1e3, memory * 1e3))
 
 
 def file(program, engines):
