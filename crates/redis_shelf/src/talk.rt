@@ -1,11 +1,13 @@
 //! A command, and its reply.
-ghost use Rattle.std.specs.Prelude.{◌≡◌, ◌≢◌, ◌<◌, ◌++◌, ℕ, List, IfOk, IfErr, OnOk};
+ghost use Rattle.std.specs.Prelude.{◌≡◌, ◌≢◌, ◌<◌, ◌++◌, ℕ, List, length, IfOk, IfErr, OnOk};
 ghost use Rattle.std.specs.List.{flat_map};
 ghost use Rattle.redis_shelf.specs.Told.{with_more};
+ghost use Rattle.resp.specs.Command.{line_end};
 ghost use Rattle.resp.specs.Spelled.{SpellsReply};
 
 use crate::{Link, RedisFault};
-use resp::{Limits, Reply, read_reply};
+use octets::Bytes;
+use resp::{Item, Limits, Reply, read_bulk_line, read_reply};
 use std::alloc::Global;
 
 /// How many bytes are read at a time, at most.
@@ -49,6 +51,10 @@ pub(crate) fn talk_parts<L: Link>(
     let mut came = Vec::new(alloc);
     for _ in 0..READS {
         hear(link, &mut came)?;
+        if let Some((len, start)) = read_bulk_line(limits, &came) {
+            let content = hear_bulk(alloc, link, &came[start..], len)?;
+            return Ok(Reply::One(Item::Bulk(content)));
+        }
         if let Some((reply, len)) = read_reply(alloc, limits, &came)? {
             if len != came.len() {
                 return Err(RedisFault::OtherReply);
@@ -59,18 +65,60 @@ pub(crate) fn talk_parts<L: Link>(
     Err(RedisFault::Link)
 }
 
-/// Reads once, and puts what came behind what came before.
+/// Reads the content of a bulk string, of which so much came, to where it stays, and the end of its line, which is all
+/// that comes. Memory is asked for as bytes come.
+fn hear_bulk<L: Link>(
+    alloc: Global,
+    link: &mut L,
+    begun: &[u8],
+    len: usize,
+) -> Result<Bytes, RedisFault>
+    ensures written { L.written link.new ≡ L.written link.old }
+    ensures heard { IfOk result (λ content. (length content ≡ len) × ((part : List ℕ)
+        × (content ++ line_end ≡ begun.now ++ part)
+        × (L.heard link.new ≡ with_more (L.heard link.old) part))) }
+    ensures not_refused { IfErr result (λ fault. fault ≢ RedisFault.Refused) }
+{
+    let mut content = Vec::new(alloc);
+    content.extend_from_slice(begun)?;
+    for _ in 0..READS {
+        if content.len() >= 2 && content.len() - 2 >= len {
+            check_end(&content[len..])?;
+            content.truncate(len);
+            return Ok(Bytes::from_vec(content));
+        }
+        hear(link, &mut content)?;
+    }
+    Err(RedisFault::Link)
+}
+
+/// Refuses what stands behind a bulk string's content where it isn't the end of the line and no more.
+fn check_end(end: &[u8]) -> Result<(), RedisFault>
+    ensures end { OnOk result (end.now ≡ line_end) }
+    ensures not_refused { IfErr result (λ fault. fault ≢ RedisFault.Refused) }
+{
+    if end == b"\r\n".as_slice() {
+        return Ok(());
+    }
+    if end.starts_with(b"\r\n") {
+        return Err(RedisFault::OtherReply);
+    }
+    Err(RedisFault::NoReply)
+}
+
+/// Reads once, behind what came before.
 fn hear<L: Link>(link: &mut L, came: &mut Vec<u8>) -> Result<(), RedisFault>
     ensures written { L.written link.new ≡ L.written link.old }
     ensures heard { OnOk result ((part : List ℕ) × (came.new.items ≡ came.old.items ++ part)
         × (L.heard link.new ≡ with_more (L.heard link.old) part)) }
     ensures not_refused { IfErr result (λ fault. fault ≢ RedisFault.Refused) }
 {
-    let mut room = [0; ROOM];
-    let count = link.read(&mut room)?;
+    let start = came.len();
+    came.resize(start + ROOM, 0)?;
+    let count = link.read(&mut came.as_mut_slice()[start..])?;
     if count == 0 {
         return Err(RedisFault::Link);
     }
-    came.extend_from_slice(&room[..count])?;
+    came.truncate(start + count);
     Ok(())
 }

@@ -11,3 +11,4 @@ pub mod WholeReplies
 pub mod Loops
 pub mod Verdicts
 pub mod Printed
+pub mod BulkLines

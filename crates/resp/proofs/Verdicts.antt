@@ -16,7 +16,7 @@ rest_within R bytes a rest e =
     let f = R.found bytes a rest e in
     omega (arith, ap length f.parts, length-append f.front rest)
 
-front_length : (bytes front rest : List ℕ) → bytes ≡ front ++ rest → length front ≡ length bytes - length rest
+pub front_length : (bytes front rest : List ℕ) → bytes ≡ front ++ rest → length front ≡ length bytes - length rest
 front_length bytes front rest e = omega (arith, ap length e, length-append front rest)
 
 pub ok_sound : {A : Type 0} {S : A → List ℕ → Type 0} {read : List ℕ → Read A} (R : Reads S read) (bytes : List ℕ) (a : A) (rest : List ℕ) → read bytes ≡ Ok (a, rest)

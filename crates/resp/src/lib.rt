@@ -3,7 +3,7 @@
 //! [`command`] gives the bytes of a command, and [`command_head`] those that stand before its last word's. [`read_reply`]
 //! looks at the bytes that came so far: they begin with a reply, or more of it has to come, or no reply begins so. It
 //! keeps nothing between two calls, so it doesn't matter how the bytes were cut, and asks for memory for what came and
-//! never for what was announced.
+//! never for what was announced. [`read_bulk_line`] reads the line of a bulk string alone.
 #![tactic(auto)]
 
 /// Replies.
@@ -26,5 +26,5 @@ pub mod laws;
 pub use commands::{command, command_head};
 pub use fault::{RespFault, Wrong};
 pub use limits::Limits;
-pub use replies::read_reply;
+pub use replies::{read_bulk_line, read_reply};
 pub use reply::{Element, Elements, Item, Items, Reply};

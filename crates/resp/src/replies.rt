@@ -1,9 +1,12 @@
 //! What a reply is read from.
-ghost use Rattle.std.specs.Prelude.{◌≡◌, ◌<◌, ◌≤◌, ◌++◌, ◌⊎◌, ℕ, List, Some, None, Ok, length, take, IfOk, IfErr, IsErrOf};
+ghost use Rattle.std.specs.Prelude.{◌≡◌, ◌<◌, ◌≤◌, ◌++◌, ◌⊎◌, ℕ, List, Some, None, Ok, length, take, IfSome, IsErrOf};
 ghost use Rattle.resp.specs.Reading.{Gives, item_at, array_at, element_after, element_at, reply_after, reply_at, all_at};
-ghost use Rattle.resp.specs.Spelled.{SpellsReply, IsBegun};
+ghost use Rattle.resp.specs.Command.{line, line_end};
+ghost use Rattle.resp.specs.Spelled.{Writes, SpellsReply, IsBegun};
 ghost use Rattle.resp.specs.Verdict.{IsReadAs};
+ghost use Rattle.resp.specs.declared.reply.Item.TheVariants as item;
 ghost use Rattle.resp.specs.declared.reply.Reply.{Reply};
+ghost use Rattle.resp.specs.declared.reply.Reply.TheVariants as reply;
 
 use crate::fault::{ReadStop, RespFault};
 use crate::items::{Kind, item_after, mark_of, next_item};
@@ -141,6 +144,31 @@ fn next_reply(alloc: Global, limits: Limits, bytes: &[u8]) -> Result<(Reply, &[u
     match mark_of(*byte) {
         Ok(mark) => reply_after(alloc, limits, mark, rest),
         Err(wrong) => Err(ReadStop::Wrong(wrong, bytes.len())),
+    }
+}
+
+/// How many bytes a bulk string has whose line the bytes begin with, and how many bytes that line has with its mark and
+/// its end: as many bytes of content and CR and LF behind it are a reply. `None` where they begin with no such line, or
+/// not with the whole of it. So a caller can read a long bulk string to where it stays.
+pub fn read_bulk_line(limits: Limits, bytes: &[u8]) -> Option<(usize, usize)>
+    requires { 0 < limits.line }
+    // With as many bytes and the end of a line behind it, what is read is a bulk string.
+    ensures sound { IfSome result (λ line. (line.1 ≤ length bytes.now) × ((content : List ℕ) →
+        length content ≡ line.0 → SpellsReply limits (reply.One (item.Bulk content))
+        (take line.1 bytes.now ++ content ++ line_end))) }
+    // What begins so is read, whatever follows.
+    ensures whole { (digits rest : List ℕ) (len : ℕ) → Writes limits limits.bulk digits len →
+        bytes.now ≡ line 36 digits ++ rest → result ≡ Some (len, length (line 36 digits)) }
+{
+    let [mark, rest @ ..] = bytes else {
+        return None;
+    };
+    if *mark != b'$' {
+        return None;
+    }
+    match number(limits, u64::from(limits.bulk), rest) {
+        Ok((len, after)) => Some((len as usize, bytes.len() - after.len())),
+        Err(_) => None,
     }
 }
 

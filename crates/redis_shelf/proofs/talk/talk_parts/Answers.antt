@@ -1,12 +1,19 @@
-use Rattle.std.proofs.Common.{arith}
-use Rattle.redis_shelf.proofs.Histories.{one_more_part, whole_reply}
+use Rattle.std.proofs.Common.{◌++◌, take}
+use Rattle.resp.specs.Command.{line_end}
+use Rattle.redis_shelf.proofs.Histories.{one_more_part, whole_bulk, cut_front}
 use Rattle.redis_shelf.proofs.talk.talk_parts.Goals as goal
 
 pub returns-in-Some-clause-heard : goal.returns-in-Some-clause-heard
 returns-in-Some-clause-heard g c =
+    let came = c.hear.new.came.items in
+    let start = c.in-Some.start in
+    let content = c.in_ok-content.content in
     let part = c.in_ok-hear.ensures.heard in
-    let sound = rw (c.in-Some.is, c.deref.ensures.value) at c.in_ok-reply.ensures.sound in (
-      c.hear.new.came.items,
-      whole_reply c.args.limits c.in-Some.reply c.hear.new.came.items c.in-Some.len sound (omega (arith, c.len.ensures, c.if-len.false)),
-      one_more_part _ _ _ c.loop.came.items part.0 c.hear.new.came.items c.loop.invariant.heard part.2 part.1,
+    let rest = c.in_ok-content.ensures.heard in
+    let sound = rw c.deref.ensures.value at c.in-Some.ensures.sound in (
+      take start came ++ content ++ line_end,
+      sound.1 content rest.0,
+      whole_bulk _ _ _ came (take start came) _ content rest.1.0
+          (one_more_part _ _ _ c.loop.came.items part.0 came c.loop.invariant.heard part.2 part.1) rest.1.2
+          (cut_front start came c.deref-in-Some.result.now c.deref-in-Some.ensures.value) rest.1.1,
     )
