@@ -2,6 +2,11 @@
 //! servers keep shares.
 #![tactic(auto)]
 
+ghost use Rattle.std.specs.Prelude.{◌≡◌, ◌<◌, ◌≤◌, ℕ, [], length, vec_len, is_some, false, Err, IfOk, IfSome, IsOkUnless};
+ghost use Rattle.std.specs.FinMap as map;
+ghost use Rattle.grid.specs.GridState.{states};
+ghost use Rattle.gate_core.specs.Held.{AreParameters};
+
 use folder_shelf::Settings;
 use gate_core::{Gateway, GatewayFault};
 use gate_poll::{Limits, ServeFault, serve_on};
@@ -178,13 +183,29 @@ fn open_gateway<R: AllocGlobal + Files<File = File> + Net + Clock + Clone + Drop
     gateway_over(rt.alloc(), options.shares, stores, &secret)
 }
 
-/// A gateway over these stores.
+/// A gateway over these stores, of which nothing was called yet. `Shares` exactly where the numbers of shares, of stores
+/// or of the secret's bytes are none that a gateway takes.
 fn gateway_over<S: Store + Drop>(
     alloc: Global,
     shares: Shares,
     stores: Vec<S>,
     secret: &[u8],
-) -> Result<Gateway<S>, ProgramFault> {
+) -> Result<Gateway<S>, ProgramFault>
+    ensures accepted { AreParameters shares.needed shares.made (vec_len stores) (length secret.now) →
+        IsOkUnless result ProgramFault.NoMemory }
+    ensures refused { ¬ (AreParameters shares.needed shares.made (vec_len stores)
+        (length secret.now)) → result ≡ Err ProgramFault.Shares }
+    ensures held { IfOk result (λ gateway. gateway ≡ record {
+      settings = record {
+        k = shares.needed;
+        n = shares.made;
+        secret = secret.now;
+        servers = vec_len stores;
+      };
+      connections = map.empty;
+      grid = states S.shares S.room S.held S.failures S.honest stores.items;
+    }) }
+{
     match Gateway::resume(alloc, shares.needed, shares.made, stores, secret) {
         Ok(gateway) => Ok(gateway),
         Err(GatewayFault::BadParameters) => Err(ProgramFault::Shares),
@@ -193,10 +214,10 @@ fn gateway_over<S: Store + Drop>(
 }
 
 /// The bytes of a secret's file, and none where there is no such file.
-fn read_secret<R: AllocGlobal + Files>(
-    rt: &R,
-    path: Option<&str>,
-) -> Result<Vec<u8>, ProgramFault> {
+fn read_secret<R: AllocGlobal + Files>(rt: &R, path: Option<&str>) -> Result<Vec<u8>, ProgramFault>
+    ensures none { is_some path.entry ≡ false → IfOk result (λ secret. secret.items ≡ []) }
+    ensures fits { IfOk result (λ secret. length secret.items ≤ 256) }
+{
     let Some(path) = path else {
         return Ok(Vec::new(rt.alloc()));
     };
@@ -211,7 +232,10 @@ fn read_secret<R: AllocGlobal + Files>(
 
 /// The fault that there are fewer handles than connections, locks of folders and connections to Redis servers need, if
 /// the system says so.
-fn few_handles<R: AllocGlobal + Files>(rt: &R, options: &Options<'_>) -> Option<ProgramFault> {
+fn few_handles<R: AllocGlobal + Files>(rt: &R, options: &Options<'_>) -> Option<ProgramFault>
+    ensures few { IfSome result (λ fault. (allowed needed : ℕ)
+        × (fault ≡ ProgramFault.FewHandles allowed needed) × (allowed < needed)) }
+{
     let needed = handles::needed_for(options.connections, options.with_handles());
     let allowed = handles::allowed(rt)?;
     if allowed < needed {
