@@ -7,7 +7,7 @@ ghost use Rattle.aes_ctr.specs.Crypt.{crypt};
 ghost use Rattle.share_codec.specs.Shares.{share, ueb_hash};
 ghost use Rattle.chk_file.specs.Upload.{key_tag, numbers_text};
 
-use crate::cipher::crypted;
+use crate::cipher::apply_keystream;
 use aes_ctr::laws::{keystream_by_place, parts_agree};
 use caps::ReadFields;
 use share_codec::{Params, make_shares};
@@ -43,7 +43,7 @@ pub(crate) fn encoded(
     parts_agree();
     let tag = tag_of(alloc, params, secret)?;
     let key = tagged16(&tag, &bytes);
-    let crypttext = crypted(key, bytes);
+    let crypttext = apply_keystream(key, bytes);
     let (shares, ueb) = make_shares(alloc, params, &crypttext)?;
     let shares = shared(alloc, shares)?;
     let fields = ReadFields {

@@ -6,7 +6,7 @@ ghost use Rattle.chk_file.specs.Taken.{AreTaken};
 ghost use Rattle.chk_file.specs.Fit.{crypttext_from};
 ghost use Rattle.chk_file.specs.Downloads.{left_of, IsGiven, IsDone};
 
-use crate::cipher::crypted_at;
+use crate::cipher::apply_keystream_at;
 use crate::segment::add_segment;
 use aes_ctr::laws::{keystream_by_place, parts_agree};
 use erasure::Code;
@@ -96,5 +96,5 @@ fn segment(
     let mut bytes = Vec::with_capacity(alloc, room)?;
     let _zeros = add_segment(alloc, params, &code, shares, at, &mut bytes)?;
     let start = at * params.segment_size();
-    Ok(crypted_at(key, start as u64, bytes))
+    Ok(apply_keystream_at(key, start as u64, bytes))
 }

@@ -13,7 +13,7 @@ ghost use Rattle.chk_file.specs.Bound.{Bound};
 ghost use Rattle.chk_file.specs.Cached.{IsFresh, IsWithinOr};
 
 use crate::cache::Cache;
-use crate::cipher::crypted;
+use crate::cipher::apply_keystream;
 use crate::download::Download;
 use crate::fault::ReadFault;
 use crate::pins::Pins;
@@ -269,7 +269,7 @@ fn read_stores<S: Store>(
         OfReached grid.old grid.new (index_of fields.now.key) (λ row. fit row fields.now ≡ None) }
 {
     match verify(alloc, grid, fields) {
-        Ok((_, bytes)) => Ok(crypted(fields.key, bytes)),
+        Ok((_, bytes)) => Ok(apply_keystream(fields.key, bytes)),
         Err(fault) => Err(fault),
     }
 }

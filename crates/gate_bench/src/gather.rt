@@ -36,10 +36,20 @@ pub(crate) fn least(
 ) -> anyhow::Result<(u128, u128)> {
     let mut few = grid_of(rt.alloc(), 1, byte)?;
     let mut many = grid_of(rt.alloc(), FILES, byte)?;
+    least_over(rt, turns, &mut few, &mut many)
+}
+
+/// The same over these grids: a function that owns them and leaves at several places takes the prover long.
+fn least_over(
+    rt: &(impl Clock + AllocGlobal),
+    turns: u32,
+    few: &mut Grid<MemStore>,
+    many: &mut Grid<MemStore>,
+) -> anyhow::Result<(u128, u128)> {
     let mut least = (u128::MAX, u128::MAX);
     for _turn in 0..turns {
-        least.0 = least.0.min(gathered(rt, &mut few, 1)?);
-        least.1 = least.1.min(gathered(rt, &mut many, FILES)?);
+        least.0 = least.0.min(gathered(rt, few, 1)?);
+        least.1 = least.1.min(gathered(rt, many, FILES)?);
     }
     Ok(least)
 }

@@ -6,7 +6,7 @@ use Rattle.gate_core.specs.Events.{Event}
 use Rattle.gate_core.specs.Items.{items}
 use Rattle.gate_core.specs.Held.{State, waiting, waiting_in}
 use Rattle.gate_core.specs.Came.{Opening, Came, GoesOn, Stays}
-use Rattle.gate_core.specs.Isolated.{IsIsolated, IsVerified, Isolates, IsolatesFirst, IsolatesAfter, IsolatesStill}
+use Rattle.gate_core.specs.Isolated.{Isolates, IsolatesFirst, IsolatesAfter, IsolatesStill}
 
 nothing_waits : (g : State) (caller : ℕ) → g.connections ≡ map.empty → waiting g caller ≡ []
 nothing_waits g caller none = ap (λ m. waiting_in (map.get m caller)) none ∙ ap waiting_in (map.get-empty nat_cmp caller)
@@ -19,13 +19,9 @@ isolates_first g none opening = record {
   verified = λ caller. nothing_waits g caller none;
 }
 
-module _ (apart : (opening : Opening) (g : State) (events : List Event) → Came opening g events → IsIsolated opening g events)
-    (verified : (opening : Opening) (g : State) (events : List Event) → Came opening g events → IsVerified opening g events) where
-  pub isolates : (opening : Opening) (g : State) (events : List Event) → Came opening g events → Isolates opening g events
-  isolates opening g events came = record { apart = apart opening g events came; verified = verified opening g events came }
-
+module _ (isolated : (opening : Opening) (g : State) (events : List Event) → Came opening g events → Isolates opening g events) where
   pub isolates_after : (old new : State) (e : Event) → GoesOn old new e → IsolatesAfter old new e
-  isolates_after old new e on opening events came = isolates opening new (events ++ e ∷ []) (on opening events came)
+  isolates_after old new e on opening events came = isolated opening new (events ++ e ∷ []) (on opening events came)
 
   pub isolates_still : (old new : State) → Stays old new → IsolatesStill old new
-  isolates_still old new stays opening events came = isolates opening new events (stays opening events came)
+  isolates_still old new stays opening events came = isolated opening new events (stays opening events came)

@@ -1,5 +1,5 @@
 //! The run of a script: a line at a time.
-ghost use Rattle.std.specs.Prelude.{◌≡◌, ℕ, List, IfOk, OnOk, IfSome, OnSome, Err};
+ghost use Rattle.std.specs.Prelude.{◌≡◌, ℕ, List, None, IfOk, OnOk, IfSome, OnSome, Err};
 ghost use Rattle.std.specs.Io.KnownBytes.{IsAtEnd};
 ghost use Rattle.gate_tasks.specs.Lines.{LacksLf};
 ghost use Rattle.gate_tasks.specs.Script.{Step, Ended, Stopped};
@@ -87,12 +87,30 @@ fn run_lines<R: BufRead, W: Write>(
         grid: None,
         gateway: None,
     };
+    run_each(alloc, reader, writer, &mut progress)
+}
+
+/// The same from the first line on, with the progress in another's hands: a function that owns it and leaves at several
+/// places takes the prover long.
+fn run_each<R: BufRead, W: Write>(
+    alloc: Global,
+    reader: &mut R,
+    writer: &mut W,
+    progress: &mut Progress,
+) -> Result<(), ScriptFault>
+    requires no_grid { progress.old.grid ≡ None }
+    requires no_gateway { progress.old.gateway ≡ None }
+    ensures ends { RunEnds (R.remaining reader.old) (R.remaining reader.new)
+        (W.contents writer.old) (W.contents writer.new) result }
+    ensures beginning { IfSome (R.remaining reader.old)
+        (λ script. AnswersSome script (W.contents writer.old) (W.contents writer.new)) }
+{
     let mut line = Vec::new(alloc);
     let mut read = 0;
     for number in 1..u64::MAX {
         let ended = read_line(reader, read, &mut line)?;
         if !line.is_empty() {
-            run_line(alloc, number, &line, &mut progress, writer)?;
+            run_line(alloc, number, &line, progress, writer)?;
         }
         if !ended {
             return Ok(());

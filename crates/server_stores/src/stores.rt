@@ -35,9 +35,22 @@ pub fn open_stores<R: Files<File = File> + AllocGlobal + Net + Clock + Clone + D
             synced: options.synced,
             password: password.as_deref(),
         };
-        stores.push(open_wanted(rt, wanted, &asked)?)?;
+        open_behind(rt, wanted, &asked, &mut stores)?;
     }
     Ok(stores)
+}
+
+/// Opens one store and puts it behind the others.
+fn open_behind<R: Files<File = File> + AllocGlobal + Net + Clock + Clone + Drop + Log + Eprint>(
+    rt: &R,
+    wanted: &StoreWanted<'_>,
+    asked: &Asked<'_>,
+    stores: &mut Vec<ServerStore<R>>,
+) -> Result<(), ProgramFault> {
+    match open_wanted(rt, wanted, asked) {
+        Ok(store) => Ok(stores.push(store)?),
+        Err(fault) => Err(fault),
+    }
 }
 
 /// Refuses a folder with other settings, or with files and none. Nothing is written.

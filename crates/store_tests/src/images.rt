@@ -104,7 +104,7 @@ fn written(alloc: Global, grid: &mut Grid<FailAt>) -> Result<String, NoAnswer> {
 }
 
 /// A grid of these stores with what another one holds, by way of its image.
-fn copied<S: Store, T: Store>(
+fn copy_through_image<S: Store, T: Store>(
     alloc: Global,
     grid: &mut Grid<S>,
     stores: Vec<T>,
@@ -129,7 +129,7 @@ fn copied<S: Store, T: Store>(
 /// Copies the grid by its image into stores of this room, and changes a byte of the copy.
 fn copy(alloc: Global, grid: &mut Grid<FailAt>, case: &Case<'_>) -> Result<String, NoAnswer> {
     let stores = stores_of(alloc, grid.servers(), case.number(2)?, (0, 0, "once"))?;
-    match copied(alloc, grid, stores) {
+    match copy_through_image(alloc, grid, stores) {
         Ok(mut copy) => {
             let (server, number) = (case.number(3)? as usize, number_at(case, 5)?);
             done(

@@ -10,4 +10,8 @@ returns c = record {
   lost = Came-lost c.marks_follow_the_grid.ensures.lost;
   spoiled = Came-spoiled c.marks_follow_the_grid.ensures.spoiled;
   unchanged = Came-unchanged;
+  isolated = λ opening g events came. record {
+    apart = c.isolation.ensures.apart opening g events came;
+    verified = c.verified_isolation.ensures.apart opening g events came;
+  };
 }

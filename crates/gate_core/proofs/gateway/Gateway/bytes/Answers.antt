@@ -6,7 +6,6 @@ use Rattle.gate_core.specs.Held.{connection_at}
 use Rattle.gate_core.proofs.Maps.{Changed-others}
 use Rattle.gate_core.proofs.Forgetting.{lent, no_entry, unheld_refused}
 use Rattle.gate_core.proofs.Arrivals.{same_state, bytes_refused, received, cut_left, cut_short, received_came, where_open, calm_lent}
-use Rattle.gate_core.proofs.Isolating.{isolates}
 use Rattle.gate_core.proofs.gateway.Gateway.bytes.Goals as goal
 
 pub returns-clause-answer : goal.returns-clause-answer
@@ -51,4 +50,4 @@ returns-in_default-clause-answer g c =
 
 pub returns-clause-isolated : goal.returns-clause-isolated
 returns-clause-isolated g c =
-    on_ok_weaker c.bytes.result (λ on opening events came roomy none. isolates c.isolation.ensures.apart c.verified_isolation.ensures.apart opening _ _ (on opening events came roomy none)) (returns-clause-came g c)
+    on_ok_weaker c.bytes.result (λ on opening events came roomy none. c.came_goes_on.ensures.isolated opening _ _ (on opening events came roomy none)) (returns-clause-came g c)

@@ -34,4 +34,4 @@ returns-in_default-clause-answer g c =
     (same_state c.args.self.now _ (ap (λ s. s.settings) c.self.view_is) (ap (λ m. with_gone m.entries c.self.inside.forgotten) c.get_mut.follows.holds-at-none ∙ ap (λ s. s.connections) c.self.view_is) (ap (λ s. s.grid) c.self.view_is))
 
 pub returns-clause-isolated : goal.returns-clause-isolated
-returns-clause-isolated g c = on_ok_weaker c.end.result (isolates_after c.isolation.ensures.apart c.verified_isolation.ensures.apart c.args.self.now _ _) (returns-clause-came g c)
+returns-clause-isolated g c = on_ok_weaker c.end.result (isolates_after c.came_goes_on.ensures.isolated c.args.self.now _ _) (returns-clause-came g c)

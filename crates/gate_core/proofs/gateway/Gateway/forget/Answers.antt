@@ -10,4 +10,4 @@ pub returns-clause-came : goal.returns-clause-came
 returns-clause-came g c = forgotten_came c.args.self.now _ c.args.id c.let_go.result c.let_go.ensures.answer c.let_go.ensures.left c.came_goes_on.ensures.taken
 
 pub returns-clause-isolated : goal.returns-clause-isolated
-returns-clause-isolated g c = on_ok_weaker c.let_go.result (isolates_after c.isolation.ensures.apart c.verified_isolation.ensures.apart c.args.self.now _ _) (returns-clause-came g c)
+returns-clause-isolated g c = on_ok_weaker c.let_go.result (isolates_after c.came_goes_on.ensures.isolated c.args.self.now _ _) (returns-clause-came g c)

@@ -9,7 +9,7 @@ pub returns-clause-came : goal.returns-clause-came
 returns-clause-came g c = unchanged_came c.self.inside.parameters (with_gone c.self.inside.connections.entries c.self.inside.forgotten) c.self.inside.grid c.write_image.new.self c.args.self.now c.self.view_is c.write_image.ensures.leaves c.came_goes_on.ensures.unchanged c.write_image.ensures.unchanged
 
 pub returns-clause-isolated : goal.returns-clause-isolated
-returns-clause-isolated g c = isolates_still c.isolation.ensures.apart c.verified_isolation.ensures.apart c.args.self.now _ (returns-clause-came g c)
+returns-clause-isolated g c = isolates_still c.came_goes_on.ensures.isolated c.args.self.now _ (returns-clause-came g c)
 
 pub invariant_of-self : goal.invariant_of-self
 invariant_of-self g c = fresh_stays c.self.inside.cache c.self.inside.grid c.write_image.new.self c.write_image.ensures.leaves (stamped_unchanged c.self.inside.grid c.write_image.new.self c.write_image.ensures.stamps c.write_image.ensures.unchanged) c.self.invariant

@@ -12,10 +12,10 @@ pub returns-clause-refused : goal.returns-clause-refused
 returns-clause-refused g c = refused_came c.self.inside.parameters (with_gone c.self.inside.connections.entries c.self.inside.forgotten) c.self.inside.grid c.spoil.new.self c.args.self.now c.self.view_is c.spoil.ensures.leaves c.came_goes_on.ensures.unchanged c.spoil.result c.spoil.ensures.err
 
 pub returns-clause-isolated : goal.returns-clause-isolated
-returns-clause-isolated g c = on_ok_weaker c.spoil.result (isolates_after c.isolation.ensures.apart c.verified_isolation.ensures.apart c.args.self.now _ _) (returns-clause-came g c)
+returns-clause-isolated g c = on_ok_weaker c.spoil.result (isolates_after c.came_goes_on.ensures.isolated c.args.self.now _ _) (returns-clause-came g c)
 
 pub returns-clause-isolated_still : goal.returns-clause-isolated_still
-returns-clause-isolated_still g c = on_err_weaker c.spoil.result (isolates_still c.isolation.ensures.apart c.verified_isolation.ensures.apart c.args.self.now _) (returns-clause-refused g c)
+returns-clause-isolated_still g c = on_err_weaker c.spoil.result (isolates_still c.came_goes_on.ensures.isolated c.args.self.now _) (returns-clause-refused g c)
 
 pub invariant_of-self : goal.invariant_of-self
 invariant_of-self g c = fresh_stays c.self.inside.cache c.self.inside.grid c.spoil.new.self c.spoil.ensures.leaves c.spoil.ensures.stamped c.self.invariant

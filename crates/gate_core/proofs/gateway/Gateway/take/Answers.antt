@@ -46,7 +46,7 @@ returns-clause-came g c =
     if_taken c.take.result _ _ _ (λ given step is. taken_came c.args.self.now _ c.args.id _ _ (ap (λ s. s.settings) c.self.view_is) changed c.came_goes_on.ensures.taken c.args.max given.items (ap (λ s. s.grid) c.self.view_is) step is) c.take.ensures.left c.take.ensures.given
 
 pub returns-clause-isolated : goal.returns-clause-isolated
-returns-clause-isolated g c = IfOk-weaker c.take.result _ _ (λ given. isolates_after c.isolation.ensures.apart c.verified_isolation.ensures.apart c.args.self.now _ _) (returns-clause-came g c)
+returns-clause-isolated g c = IfOk-weaker c.take.result _ _ (λ given. isolates_after c.came_goes_on.ensures.isolated c.args.self.now _ _) (returns-clause-came g c)
 
 pub returns-in_default-clause-answer : goal.returns-in_default-clause-answer
 returns-in_default-clause-answer g c =
@@ -70,4 +70,4 @@ returns-in_default-clause-came g c =
 
 pub returns-in_default-clause-isolated : goal.returns-in_default-clause-isolated
 returns-in_default-clause-isolated g c =
-    IfOk-weaker c.nothing_of.result _ _ (λ given. isolates_after c.isolation.ensures.apart c.verified_isolation.ensures.apart c.args.self.now _ _) (returns-in_default-clause-came g c)
+    IfOk-weaker c.nothing_of.result _ _ (λ given. isolates_after c.came_goes_on.ensures.isolated c.args.self.now _ _) (returns-in_default-clause-came g c)

@@ -9,7 +9,7 @@ use Rattle.grid.specs.Image.{image}
 use Rattle.grid.specs.ImageLaws.{ImageLaws}
 use Rattle.grid.specs.ImageReading.{Reading, image_said}
 use Rattle.grid.specs.declared.image_layout.Layout.TheVariants.{VersionTwo}
-use Rattle.store_tests.proofs.images.copied.Goals as goal
+use Rattle.store_tests.proofs.images.copy_through_image.Goals as goal
 
 -- as many stores with the same rows
 by_rows : {E : Type 0} (r : Result GridState E) (before : GridState) (P : E → Type 0) (rows : List Row) (maps : List Shares) → ImageLaws → length before.stores ≡ length maps → rows ≡ rows_of maps → MatchResult r (Leaves before) P

@@ -1,5 +1,5 @@
 use Rattle.gate_tasks.proofs.Stands.{Stands}
-use Rattle.gate_tasks.proofs.script.run_lines.Given as goal
+use Rattle.gate_tasks.proofs.script.run_each.Given as goal
 
 -- the lines so far were read and answered
 abbrev pub invariant-loop-number : goal.invariant-loop-number

@@ -1,7 +1,7 @@
 use Rattle.std.proofs.Common.{◌≡◌, ap, ◌∙◌, length, arith}
 use Rattle.aes_ctr.specs.Crypt.{crypt_from}
 use Rattle.chk_file.proofs.Fitting.{written_back}
-use Rattle.chk_file.proofs.cipher.crypted_at.Goals as goal
+use Rattle.chk_file.proofs.cipher.apply_keystream_at.Goals as goal
 
 pub returns : goal.returns
 returns c =

@@ -1,15 +1,19 @@
-use Rattle.std.proofs.Common.{◌≡◌, ◌+◌, length, false, true, Ok, Err, ap, sym, subst, ◌∙◌, rules, length-append, ◌++◌, [], ◌∷◌}
+use Rattle.std.proofs.Common.{◌≡◌, ◌+◌, length, false, true, None, Ok, Err, ap, sym, subst, ◌∙◌, rules, length-append, ◌++◌, [], ◌∷◌}
 use Rattle.std.specs.Prelude.{◌==◌}
 use Rattle.std.proofs.lemmas.Result.{err_from_is_err_and}
 use Rattle.gate_tasks.specs.Reading.{ReadsLine}
 use Rattle.gate_tasks.specs.Running.{LineRuns, GoesOn}
 use Rattle.gate_tasks.proofs.Stands.{Stands, stands_first, after_empty, after_line}
 use Rattle.gate_tasks.proofs.Ends.{Both, ends_unread, ends_empty, ends_line, ends_last}
-use Rattle.gate_tasks.proofs.script.run_lines.Goals.{then-not-is_empty+in_ok-run_line, else-not-is_empty}
-use Rattle.gate_tasks.proofs.script.run_lines.Goals as goal
+use Rattle.gate_tasks.proofs.script.run_each.Goals.{then-not-is_empty+in_ok-run_line, else-not-is_empty}
+use Rattle.gate_tasks.proofs.script.run_each.Goals as goal
 
 pub loop-number-init : goal.loop-number-init
-loop-number-init g c = stands_first (g.R.Read.remaining c.args.reader.now) (g.W.Write.contents c.args.writer.now)
+loop-number-init g c =
+    let r = g.R.Read.remaining c.args.reader.now in
+    let w = g.W.Write.contents c.args.writer.now in
+    subst (λ grid. Stands r r w w grid c.args.progress.now.gateway 1 0) (sym c.requires.no_grid)
+    (subst (λ gateway. Stands r r w w None gateway 1 0) (sym c.requires.no_gateway) (stands_first r w))
 
 pub returns-in_err-ended : goal.returns-in_err-ended
 returns-in_err-ended g c =
