@@ -3,7 +3,8 @@
 redis-server and redis-benchmark (apt-get install redis-server redis-tools).
 
 share   a put and a get of a file of 500,000 bytes at 1 of 1 over one server, less what they take over a store in memory, the
-        least of 120 turns each, beside `SET` and `GET` of as many bytes by redis-benchmark, one connection
+        least of 240 turns each, beside the least of six runs of redis-benchmark, `SET` and `GET` of as many bytes under as
+        many names, one connection
 file    a put and a get of 4 MiB at 3 of 10 over five servers, and over stores in memory
 grid    files of 4 MiB, ten times as many bytes of shares as the program may have memory (ulimit -v), put, read and checked
 
@@ -25,6 +26,7 @@ from engines import Engine
 from folders import Server
 
 TURNS = 40
+ROUNDS = 6
 SHARE, FILE = 500_000, 4_194_304
 MEMORY = 256 << 20
 
@@ -57,41 +59,45 @@ def store(engine, at):
 
 
 def benchmark(engine):
-    """The median seconds of SET and of GET of as many bytes as a share."""
-    text = subprocess.run(["redis-benchmark", "-p", str(engine.port), "-t", "set,get", "-d", str(SHARE), "-n", "400", "-c", "1", "--csv"],
-                          capture_output=True, text=True, check=True).stdout
+    """The seconds of SET and of GET of as many bytes as a share, under as many names as there are shares."""
+    text = subprocess.run(["redis-benchmark", "-p", str(engine.port), "-t", "set,get", "-d", str(SHARE), "-n", str(5 * TURNS), "-r", str(ROUNDS * TURNS),
+                           "-c", "1", "--csv"], capture_output=True, text=True, check=True).stdout
     rows = dict(re.findall(r'"(SET|GET)","([0-9.]+)"', text))
     return 1 / float(rows["SET"]), 1 / float(rows["GET"])
 
 
-def least_of_both(servers, call):
-    """The least seconds of a call to each of two servers, which take turns, so that both meet the same neighbours."""
-    least = [float("inf")] * 2
-    for at in range(3 * TURNS):
-        for place, server in enumerate(servers):
-            began = time.monotonic()
-            call(place, server, at)
-            least[place] = min(least[place], time.monotonic() - began)
-    return least
+def seconds_of(call):
+    began = time.monotonic()
+    call()
+    return time.monotonic() - began
 
 
 def share(program, engines):
+    """The least of each kind of call, over rounds in which the two servers and redis-benchmark take turns, so that all meet the same neighbours."""
     one = ["--shares", "1,1"]
     servers = [Server(program, one + ["--store", "mem:1000000000"]), Server(program, one + store(engines[0], 0))]
-    bodies = [body(at, SHARE) for at in range(3 * TURNS)]
-    caps = [{}, {}]
+    least = {(kind, place): float("inf") for kind in ("put", "get") for place in range(3)}
+    caps = [[], []]
 
-    def put(place, server, at):
-        caps[place][at] = server.ask("PUT", "/uri", bodies[at]).decode()
+    def note(kind, place, seconds):
+        least[kind, place] = min(least[kind, place], seconds)
 
-    puts = least_of_both(servers, put)
-    gets = least_of_both(servers, lambda place, server, at: server.ask("GET", "/uri/" + caps[place][at]))
+    for at in range(ROUNDS * TURNS):
+        content = body(at, SHARE)
+        for place, server in enumerate(servers):
+            note("put", place, seconds_of(lambda: caps[place].append(server.ask("PUT", "/uri", content).decode())))
+    for at in range(ROUNDS * TURNS):
+        for place, server in enumerate(servers):
+            note("get", place, seconds_of(lambda: server.ask("GET", "/uri/" + caps[place][at])))
+        if at % TURNS == 0:
+            for kind, seconds in zip(("put", "get"), benchmark(engines[0])):
+                note(kind, 2, seconds)
     for server in servers:
         server.end()
-    plain = benchmark(engines[0])
-    for name, (memory, redis), at in (("put", puts, 0), ("get", gets, 1)):
+    for kind in ("put", "get"):
+        memory, redis, plain = (least[kind, place] for place in range(3))
         print("a %s of a share of %d bytes: %.2f ms beside %.2f ms by redis-benchmark: %.2f times (%.2f ms whole, %.2f in memory)" % (
-            name, SHARE, (redis - memory) * 1e3, plain[at] * 1e3, (redis - memory) / plain[at], redis * 1e3, memory * 1e3))
+            kind, SHARE, (redis - memory) * 1e3, plain * 1e3, (redis - memory) / plain, redis * 1e3, memory * 1e3))
 
 
 def file(program, engines):
