@@ -16,7 +16,7 @@ use Rattle.gate_core.specs.declared.fault.GatewayFault.TheVariants.{BadParameter
 use Rattle.gate_tasks.specs.Stores.{fresh}
 use Rattle.gate_tasks.specs.Script.{Step, is_refusal}
 use Rattle.gate_tasks.specs.Replies.{settings_by, opening_by, are_parameters, IsOpenedBy, IsRestoreReply, AreTold}
-use Rattle.gate_tasks.specs.Running.{CameBy, IsAt, IsAnswer, Answered}
+use Rattle.gate_tasks.specs.Running.{CameBy, IsProgress, IsAnswer, Answered}
 use Rattle.gate_tasks.specs.declared.command.Command.TheVariants as command
 use Rattle.gate_tasks.specs.declared.command.Grid.{Grid}
 use Rattle.gate_tasks.specs.declared.reply.Reply.{Reply}
@@ -91,7 +91,7 @@ came_first grid g is starts =
       bytes = came.bytes;
     }
 
-pub begin_made : (log : List Step) (was : Option Grid) (grid : Grid) (g : State) → IsAt log was None → g.settings ≡ settings_by grid → g.grid.stores ≡ replicate grid.servers (fresh grid.room) → Starts empty g → are_parameters grid ≡ true
+pub begin_made : (log : List Step) (was : Option Grid) (grid : Grid) (g : State) → IsProgress log was None → g.settings ≡ settings_by grid → g.grid.stores ≡ replicate grid.servers (fresh grid.room) → Starts empty g → are_parameters grid ≡ true
     → Answered log (command.Grid grid) (Some Done) (Some grid) (Some g)
 begin_made log None grid g at set is starts good =
     let step : Step = record { command = command.Grid grid; reply = Done } in
@@ -103,7 +103,7 @@ begin_made log None grid g at set is starts good =
     }
 begin_made log (Some was) grid g at set is starts good = absurd at
 
-pub begin_refused : (log : List Step) (was after : Option Grid) (grid : Grid) (fault : GatewayFault) → IsAt log was None → fault ≡ BadParameters → are_parameters grid ≡ false
+pub begin_refused : (log : List Step) (was after : Option Grid) (grid : Grid) (fault : GatewayFault) → IsProgress log was None → fault ≡ BadParameters → are_parameters grid ≡ false
     → Answered log (command.Grid grid) (Some (Refused fault)) after None
 begin_refused log None after grid fault at is bad =
     let step : Step = record { command = command.Grid grid; reply = Refused fault } in
@@ -117,7 +117,7 @@ begin_refused log (Some was) after grid fault at is bad = absurd at
 
 -- ---- `restore`
 
-pub restored : (log : List Step) (grid : Grid) (gateway : Option State) (image : List ℕ) (g : State) → IsAt log (Some grid) gateway → AreTold log → g.settings ≡ settings_by grid → (image_said grid.servers image).fault ≡ None
+pub restored : (log : List Step) (grid : Grid) (gateway : Option State) (image : List ℕ) (g : State) → IsProgress log (Some grid) gateway → AreTold log → g.settings ≡ settings_by grid → (image_said grid.servers image).fault ≡ None
     → ((opening : Opening) → IsOpenedBy grid image opening → Came opening g []) → Answered log (command.Restore image) (Some Done) None (Some g)
 restored log grid None image g at told set sound came = absurd at
 restored log grid (Some old) image g at told set sound came =
@@ -131,7 +131,7 @@ restored log grid (Some old) image g at told set sound came =
       at = λ _. (omega arith, record { settings = set; sharing = was.sharing; calm = λ opening opened calm. came opening opened });
     }
 
-pub restore_refused : (log : List Step) (grid : Grid) (gateway : Option State) (image : List ℕ) (reply : Reply) → IsAt log (Some grid) gateway → AreTold log → is_refusal reply ≡ true → IsRestoreReply grid image reply
+pub restore_refused : (log : List Step) (grid : Grid) (gateway : Option State) (image : List ℕ) (reply : Reply) → IsProgress log (Some grid) gateway → AreTold log → is_refusal reply ≡ true → IsRestoreReply grid image reply
     → Answered log (command.Restore image) (Some reply) None None
 restore_refused log grid None image reply at told refusal cause = absurd at
 restore_refused log grid (Some old) image reply at told refusal cause =

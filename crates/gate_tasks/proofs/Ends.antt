@@ -13,7 +13,7 @@ use Rattle.gate_tasks.specs.Lines.{LacksLf, Line, lines_of, piece_of, is_within}
 use Rattle.gate_tasks.specs.Reading.{IsTooLong, ReadsLine, LineReads}
 use Rattle.gate_tasks.specs.Script.{Step, Run, Told, End, Ended, Stopped, allowed, ends_run, answer_text, after_text, stepped, asked_for, told_at, told, written_by}
 use Rattle.gate_tasks.specs.Replies.{AreTold}
-use Rattle.gate_tasks.specs.Running.{GoesOn, EndsAt, IsBad, WritesPart, LineRuns, IsOneLine, StopsAfter, Answers, AnswersSome, RunEnds}
+use Rattle.gate_tasks.specs.Running.{RunGoesOn, EndsAt, IsBad, WritesPart, LineRuns, IsOneLine, StopsAfter, Answers, AnswersSome, RunEnds}
 use Rattle.gate_tasks.specs.declared.command.Command.{Command}
 use Rattle.gate_tasks.specs.declared.command.Grid.{Grid}
 use Rattle.gate_tasks.specs.declared.reply.Reply.{Reply}
@@ -263,7 +263,7 @@ module _ (r0 r1 r2 w0 w1 : Option (List ℕ)) (grid : Option Grid) (gateway : Op
 
   -- the last line was answered
   last_comes : (w2 : Option (List ℕ)) (grid2 : Option Grid) (after : Option State) (line : List ℕ) (reads : ReadsLine size r1 r2 (record { bytes = line; ended = false })) (some : (length line == 0) ≡ false)
-      → GoesOn s.log line grid2 after w1 w2 → (x z : List ℕ) → x ≡ s.done ++ (piece_of (record { bytes = line; ended = false }) ++ z) → (false ≡ false → z ≡ []) → Answers x w0 w2 Ended
+      → RunGoesOn s.log line grid2 after w1 w2 → (x z : List ℕ) → x ≡ s.done ++ (piece_of (record { bytes = line; ended = false }) ++ z) → (false ≡ false → z ≡ []) → Answers x w0 w2 Ended
   last_comes w2 grid2 after line reads some on x z is last =
       let text = answer_text on.step.reply in
       answers x (s.replies ++ on.step.reply ∷ []) w0 w2 (s.text ++ text) (s.log ++ on.step ∷ []) Ended
@@ -273,7 +273,7 @@ module _ (r0 r1 r2 w0 w1 : Option (List ℕ)) (grid : Option Grid) (gateway : Op
       on.is.told (Appends-trans w0 w1 w2 s.text text s.written on.written)
 
   pub ends_last : (w2 : Option (List ℕ)) (grid2 : Option Grid) (after : Option State) (line : List ℕ) → ReadsLine size r1 r2 (record { bytes = line; ended = false }) → (length line == 0) ≡ false
-      → GoesOn s.log line grid2 after w1 w2 → Both r0 r2 w0 w2 (Ok tt)
+      → RunGoesOn s.log line grid2 after w1 w2 → Both r0 r2 w0 w2 (Ok tt)
   ends_last w2 grid2 after line reads some on = (
     (
       with_line r0 r1 r2 s.done (record { bytes = line; ended = false }) (λ script. Answers script w0 w2 Ended) s.taken reads.taken reads.last (last_comes w2 grid2 after line reads some on),

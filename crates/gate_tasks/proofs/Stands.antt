@@ -11,7 +11,7 @@ use Rattle.gate_tasks.specs.Lines.{Line, lines_of, piece_of, fits, is_within}
 use Rattle.gate_tasks.specs.Reading.{ReadsLine}
 use Rattle.gate_tasks.specs.Script.{Step, Run, Told, allowed, ends_run, answer_text, after_text, stepped, asked_for, told_at, told, written_by}
 use Rattle.gate_tasks.specs.Replies.{AreTold}
-use Rattle.gate_tasks.specs.Running.{IsAt, GoesOn}
+use Rattle.gate_tasks.specs.Running.{IsProgress, RunGoesOn}
 use Rattle.gate_tasks.specs.declared.command.Command.{Command}
 use Rattle.gate_tasks.specs.declared.command.Grid.{Grid}
 use Rattle.gate_tasks.specs.declared.reply.Reply.{Reply}
@@ -27,7 +27,7 @@ pub record Stands (read0 read1 write0 write1 : Option (List ℕ)) (grid : Option
   pub whole : IsEmptyOrEndsWith done 10
   pub written : Appends write0 write1 text
   pub goes : (rest : List ℕ) (more : List Reply) → written_by (done ++ rest) (replies ++ more) ≡ after_text text (told number size (record { log = log; replies = more }) (lines_of rest))
-  pub at : IsAt log grid gateway
+  pub at : IsProgress log grid gateway
   pub told : AreTold log
   pub sized : length done ≡ size
   pub within : size ≤ 268435456
@@ -88,7 +88,7 @@ module _ (r0 r1 r2 w0 w1 : Option (List ℕ)) (grid : Option Grid) (gateway : Op
   goes_on : (w2 : Option (List ℕ)) (grid2 : Option Grid) (after : Option State) (line text : List ℕ) (log : List Step) (added : List Reply) → ReadsLine size r1 r2 (record { bytes = line; ended = true })
       → ((lines : List Line) (more : List Reply) → told number size (record { log = s.log; replies = added ++ more }) (record { bytes = line; ended = true } ∷ lines)
       ≡ after_text text (told (number + 1) (size + length (piece_of (record { bytes = line; ended = true }))) (record { log = log; replies = more }) lines))
-      → IsAt log grid2 after → AreTold log → Appends w1 w2 text → Stands r0 r2 w0 w2 grid2 after (number + 1) (size + length (piece_of (record { bytes = line; ended = true })))
+      → IsProgress log grid2 after → AreTold log → Appends w1 w2 text → Stands r0 r2 w0 w2 grid2 after (number + 1) (size + length (piece_of (record { bytes = line; ended = true })))
   goes_on w2 grid2 after line text log added reads step at is_told written =
       let piece = piece_of (record { bytes = line; ended = true }) in
       record {
@@ -125,7 +125,7 @@ module _ (r0 r1 r2 w0 w1 : Option (List ℕ)) (grid : Option Grid) (gateway : Op
 
   -- one that was answered
   pub after_line : (w2 : Option (List ℕ)) (grid2 : Option Grid) (after : Option State) (line : List ℕ) → ReadsLine size r1 r2 (record { bytes = line; ended = true }) → (length line == 0) ≡ false
-      → GoesOn s.log line grid2 after w1 w2
+      → RunGoesOn s.log line grid2 after w1 w2
       → Stands r0 r2 w0 w2 grid2 after (number + 1) (size + length (piece_of (record { bytes = line; ended = true })))
   after_line w2 grid2 after line reads some on =
       goes_on w2 grid2 after line (answer_text on.step.reply) (s.log ++ on.step ∷ []) (on.step.reply ∷ []) reads

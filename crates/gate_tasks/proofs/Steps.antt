@@ -11,7 +11,7 @@ use Rattle.gate_core.specs.Held.{State}
 use Rattle.gate_core.specs.Came.{Opening, Came}
 use Rattle.gate_tasks.specs.Script.{Step, may_stand}
 use Rattle.gate_tasks.specs.Replies.{CallStep, settings_by, IsOpening, IsCalm, IsScriptReply, event_by, events_of, call_of, calls_in, AreReplies, BeginsWell, IsToldAfter, IsToldFrom, AreTold}
-use Rattle.gate_tasks.specs.Running.{CameAfter, CameFrom, CameBy, IsAt, IsCalled, Answered}
+use Rattle.gate_tasks.specs.Running.{CameAfter, CameFrom, CameBy, IsProgress, IsCalled, Answered}
 use Rattle.gate_tasks.specs.declared.command.Command.{Command}
 use Rattle.gate_tasks.specs.declared.command.Command.TheVariants as command
 use Rattle.gate_tasks.specs.declared.command.Call.{Call}
@@ -54,25 +54,25 @@ calm_first grid opening events more calm =
 -- ---- where commands may stand
 
 -- `grid` does not where a gateway is
-pub grid_late : (log : List Step) (was : Option Grid) (g : State) (grid : Grid) → IsAt log was (Some g) → may_stand log (command.Grid grid) ≡ false
+pub grid_late : (log : List Step) (was : Option Grid) (g : State) (grid : Grid) → IsProgress log was (Some g) → may_stand log (command.Grid grid) ≡ false
 grid_late [] None g grid at = absurd (omega arith)
 grid_late [] (Some was) g grid at = cc
 grid_late (step ∷ []) was g grid at = refl
 grid_late (step ∷ next ∷ more) was g grid at = refl
 
 -- no call does where none is
-pub call_none : (log : List Step) (was : Option Grid) (asked : Call) → IsAt log was None → may_stand log (command.Call asked) ≡ false
+pub call_none : (log : List Step) (was : Option Grid) (asked : Call) → IsProgress log was None → may_stand log (command.Call asked) ≡ false
 call_none log None asked at = ap (λ l. may_stand l (command.Call asked)) at
 call_none log (Some was) asked at = absurd at
 
 -- `restore` does only while the parameters are at hand
-pub restore_late : (log : List Step) (gateway : Option State) (image : List ℕ) → IsAt log None gateway → may_stand log (command.Restore image) ≡ false
+pub restore_late : (log : List Step) (gateway : Option State) (image : List ℕ) → IsProgress log None gateway → may_stand log (command.Restore image) ≡ false
 restore_late log None image at = ap (λ l. may_stand l (command.Restore image)) at
 restore_late [] (Some g) image at = absurd (omega arith)
 restore_late (step ∷ []) (Some g) image at = absurd (omega arith)
 restore_late (step ∷ next ∷ more) (Some g) image at = refl
 
-call_late : (log : List Step) (was : Option Grid) (g : State) (asked : Call) → IsAt log was (Some g) → may_stand log (command.Call asked) ≡ true
+call_late : (log : List Step) (was : Option Grid) (g : State) (asked : Call) → IsProgress log was (Some g) → may_stand log (command.Call asked) ≡ true
 call_late [] None g asked at = absurd (omega arith)
 call_late [] (Some was) g asked at = cc
 call_late (step ∷ []) was g asked at = refl
@@ -151,11 +151,11 @@ module _ (old new : State) (asked : Call) (reply : Reply) (called : IsCalled old
   some_step [] came = absurd came
   some_step (first ∷ log) came = omega (arith, length-append log (step ∷ []))
 
-  came_by : (log : List Step) (was : Option Grid) → IsAt log was (Some old) → CameBy log old
+  came_by : (log : List Step) (was : Option Grid) → IsProgress log was (Some old) → CameBy log old
   came_by log None at = at.1
   came_by log (Some was) at = at.1
 
-  pub call_answered : (log : List Step) (was : Option Grid) → IsAt log was (Some old) → AreTold log → Answered log (command.Call asked) (Some reply) None (Some new)
+  pub call_answered : (log : List Step) (was : Option Grid) → IsProgress log was (Some old) → AreTold log → Answered log (command.Call asked) (Some reply) None (Some new)
   call_answered log was at told =
       let came = came_by log was at in
       record {

@@ -40,11 +40,11 @@ CameBy [] g = ⊥
 CameBy (step ∷ log) g = CameFrom step.command log g
 
 -- After these steps there is this gateway; the parameters are at hand while `restore` may stand; for private clauses.
-abbrev pub IsAt : List Step → Option Grid → Option State → Type 0
-IsAt log None None = log ≡ []
-IsAt log None (Some g) = (2 ≤ length log) × CameBy log g
-IsAt log (Some grid) None = ⊥
-IsAt log (Some grid) (Some g) = (log ≡ record { command = command.Grid grid; reply = Done } ∷ []) × CameBy log g
+abbrev pub IsProgress : List Step → Option Grid → Option State → Type 0
+IsProgress log None None = log ≡ []
+IsProgress log None (Some g) = (2 ≤ length log) × CameBy log g
+IsProgress log (Some grid) None = ⊥
+IsProgress log (Some grid) (Some g) = (log ≡ record { command = command.Grid grid; reply = Done } ∷ []) × CameBy log g
 
 -- this call was carried out, with this reply; for private clauses
 pub record IsCalled (old new : State) (asked : Call) (reply : Reply) : Type 0 where
@@ -58,7 +58,7 @@ pub record IsAnswer (log : List Step) (step : Step) (grid : Option Grid) (gatewa
   pub stands : may_stand log step.command ≡ true
   pub told : AreTold (log ++ step ∷ [])
   pub ends : ends_run step ≡ is_none gateway
-  pub at : ends_run step ≡ false → IsAt (log ++ step ∷ []) grid gateway
+  pub at : ends_run step ≡ false → IsProgress (log ++ step ∷ []) grid gateway
 
 -- the reply to a command, if it may stand there; for private clauses
 abbrev pub Answered : List Step → Command → Option Reply → Option Grid → Option State → Type 0
@@ -73,11 +73,11 @@ pub record IsStep (log : List Step) (line : List ℕ) (step : Step) : Type 0 whe
   pub told : AreTold (log ++ step ∷ [])
 
 -- a line was answered, and the run goes on; for private clauses
-pub record GoesOn (log : List Step) (line : List ℕ) (grid : Option Grid) (gateway : Option State) (old new : Option (List ℕ)) : Type 0 where
+pub record RunGoesOn (log : List Step) (line : List ℕ) (grid : Option Grid) (gateway : Option State) (old new : Option (List ℕ)) : Type 0 where
   pub step : Step
   pub is : IsStep log line step
   pub goes : ends_run step ≡ false
-  pub at : IsAt (log ++ step ∷ []) grid gateway
+  pub at : IsProgress (log ++ step ∷ []) grid gateway
   pub written : Appends old new (answer_text step.reply)
 
 -- a line was answered, and the run ends; for private clauses
@@ -100,7 +100,7 @@ pub record WritesPart (log : List Step) (line : List ℕ) (old new : Option (Lis
 
 -- what came of the line with this number; for private clauses
 abbrev pub LineRuns : List Step → ℕ → List ℕ → Option Grid → Option State → Option (List ℕ) → Option (List ℕ) → Result (Unit {0}) ScriptFault → Type 0
-LineRuns log number line grid gateway old new (Ok done) = GoesOn log line grid gateway old new
+LineRuns log number line grid gateway old new (Ok done) = RunGoesOn log line grid gateway old new
 LineRuns log number line grid gateway old new (Err (BadLine n)) = (n ≡ number) × (IsBad log line old new ⊎ EndsAt log line old new)
 LineRuns log number line grid gateway old new (Err ReadFailed) = ⊥
 LineRuns log number line grid gateway old new (Err WriteFailed) = WritesPart log line old new

@@ -4,7 +4,7 @@ ghost use Rattle.std.specs.Io.KnownBytes.{IsAtEnd};
 ghost use Rattle.gate_tasks.specs.Lines.{LacksLf};
 ghost use Rattle.gate_tasks.specs.Script.{Step, Ended, Stopped};
 ghost use Rattle.gate_tasks.specs.Replies.{AreTold};
-ghost use Rattle.gate_tasks.specs.Running.{IsAt, Answered, LineRuns, StopsAfter, Answers, AnswersSome, IsOneLine, RunEnds};
+ghost use Rattle.gate_tasks.specs.Running.{IsProgress, Answered, LineRuns, StopsAfter, Answers, AnswersSome, IsOneLine, RunEnds};
 
 use crate::calls::{MemGateway, carry_out, held_is_what_stands};
 use crate::command::{Call, Command, Grid, read_command};
@@ -129,7 +129,7 @@ fn run_line<W: Write>(
     progress: &mut Progress,
     writer: &mut W,
 ) -> Result<(), ScriptFault>
-    ensures { (log : List Step) → IsAt log progress.old.grid progress.old.gateway → AreTold log →
+    ensures { (log : List Step) → IsProgress log progress.old.grid progress.old.gateway → AreTold log →
         LineRuns log number line.now progress.new.grid progress.new.gateway
         (W.contents writer.old) (W.contents writer.new) result }
 {
@@ -156,7 +156,7 @@ fn answer(
     progress: &mut Progress,
 ) -> Result<Option<Reply>, AllocError>
     ensures { IfOk result (λ reply. (log : List Step) →
-        IsAt log progress.old.grid progress.old.gateway → AreTold log →
+        IsProgress log progress.old.grid progress.old.gateway → AreTold log →
         Answered log command reply progress.new.grid progress.new.gateway) }
 {
     match command {
@@ -169,7 +169,7 @@ fn answer(
 /// Makes the gateway that the first command asks for.
 fn begin(alloc: Global, grid: Grid, progress: &mut Progress) -> Result<Option<Reply>, AllocError>
     ensures { IfOk result (λ reply. (log : List Step) →
-        IsAt log progress.old.grid progress.old.gateway →
+        IsProgress log progress.old.grid progress.old.gateway →
         Answered log (Command.Grid grid) reply progress.new.grid progress.new.gateway) }
 {
     if progress.gateway.is_some() {
@@ -196,7 +196,7 @@ fn restore(
     progress: &mut Progress,
 ) -> Result<Option<Reply>, AllocError>
     ensures { IfOk result (λ reply. (log : List Step) →
-        IsAt log progress.old.grid progress.old.gateway → AreTold log →
+        IsProgress log progress.old.grid progress.old.gateway → AreTold log →
         Answered log (Command.Restore image.now) reply progress.new.grid progress.new.gateway) }
 {
     image_laws();
@@ -230,7 +230,7 @@ fn restore(
 /// Makes a call of the gateway, if there is one.
 fn go_on(alloc: Global, call: &Call, progress: &mut Progress) -> Result<Option<Reply>, AllocError>
     ensures { IfOk result (λ reply. (log : List Step) →
-        IsAt log progress.old.grid progress.old.gateway → AreTold log →
+        IsProgress log progress.old.grid progress.old.gateway → AreTold log →
         Answered log (Command.Call call.now) reply progress.new.grid progress.new.gateway) }
 {
     let Some(gateway) = &mut progress.gateway else {

@@ -1,6 +1,6 @@
 use Rattle.std.proofs.Common.{◌≡◌, length, None, subst, ap, ◌∙◌, rules, vec_len}
 use Rattle.gate_core.specs.Held.{State}
-use Rattle.gate_tasks.specs.Running.{IsAt}
+use Rattle.gate_tasks.specs.Running.{IsProgress}
 use Rattle.gate_tasks.proofs.Begins.{begin_made, made_with, set_is}
 use Rattle.gate_tasks.proofs.script.begin.Goals as goal
 
@@ -11,7 +11,7 @@ returns-in-Ok c log at =
     let none : c.args.progress.now.gateway ≡ None = search rules in
     let servers = vec_len c.in_ok-stores.stores in
     let secret = c.as_slice.result.now in
-    begin_made log was grid c.in-Ok.made (subst (IsAt log was) none at)
+    begin_made log was grid c.in-Ok.made (subst (IsProgress log was) none at)
     (ap (λ (s : State). s.settings) c.in-Ok.ensures.held ∙ set_is grid secret servers c.as_slice.ensures c.in_ok-stores.ensures.count)
     (ap (λ (s : State). s.grid.stores) c.in-Ok.ensures.held ∙ c.in_ok-stores.ensures.fresh)
     c.in-Ok.ensures.came

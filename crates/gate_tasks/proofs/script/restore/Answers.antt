@@ -3,7 +3,7 @@ use Rattle.grid.specs.ImageReading.{image_said}
 use Rattle.grid.specs.declared.fault.GridFault.{GridFault}
 use Rattle.grid.specs.declared.fault.GridFault.TheVariants.{BadImage}
 use Rattle.gate_core.specs.declared.fault.RestoreFault.TheVariants as restore_fault
-use Rattle.gate_tasks.specs.Running.{IsAt, IsAnswer}
+use Rattle.gate_tasks.specs.Running.{IsProgress, IsAnswer}
 use Rattle.gate_tasks.specs.Script.{Step, is_refusal}
 use Rattle.gate_tasks.specs.declared.command.Command.TheVariants as command
 use Rattle.gate_tasks.specs.declared.reply.Reply.TheVariants.{Done, GridRefused}
@@ -18,7 +18,7 @@ returns-in-Ok c log at told =
     let none : c.take.new.self ≡ None = search rules in
     let step : Step = record { command = command.Restore c.args.image.now; reply = Done } in
     subst (λ was. IsAnswer log step was (Some c.in-Ok.made)) (sym none)
-    (restored log grid c.args.progress.now.gateway c.args.image.now c.in-Ok.made (subst (λ was. IsAt log was c.args.progress.now.gateway) some at) told
+    (restored log grid c.args.progress.now.gateway c.args.image.now c.in-Ok.made (subst (λ was. IsProgress log was c.args.progress.now.gateway) some at) told
     (c.in-Ok.ensures.held.0 ∙ set_is grid c.as_slice.result.now _ c.as_slice.ensures c.in_ok-stores.ensures.count)
     (subst (λ servers. (image_said servers c.args.image.now).fault ≡ None) c.in_ok-stores.ensures.count c.in-Ok.ensures.no_fault)
     (came_restored grid c.args.image.now _ c.in-Ok.made c.image_laws.ensures.told_by_rows c.in_ok-stores.ensures.fresh c.in-Ok.ensures.leaves
@@ -36,7 +36,7 @@ returns c log at told =
     let is = c.in_ok-reply-in-Err-Grid.ensures.0 in
     let step : Step = record { command = command.Restore c.args.image.now; reply = reply } in
     subst (λ was. IsAnswer log step was None) (sym none)
-    (restore_refused log grid c.args.progress.now.gateway c.args.image.now reply (subst (λ was. IsAt log was c.args.progress.now.gateway) some at) told (ap is_refusal is)
+    (restore_refused log grid c.args.progress.now.gateway c.args.image.now reply (subst (λ was. IsProgress log was c.args.progress.now.gateway) some at) told (ap is_refusal is)
     record {
       done = λ other. absurd cc;
       bad = λ place other. subst (λ servers. (image_said servers c.args.image.now).fault ≡ Some place) c.in_ok-stores.ensures.count (c.in-Err-Grid.ensures.bad_image place (ap Err (c.in-Err-Grid.field-0-is ∙ ap restore_fault.Grid (same_fault c.in-Err-Grid.fault (BadImage place) (sym is ∙ other)))));

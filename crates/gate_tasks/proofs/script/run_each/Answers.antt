@@ -2,7 +2,7 @@ use Rattle.std.proofs.Common.{◌≡◌, ◌+◌, length, false, true, None, Ok,
 use Rattle.std.specs.Prelude.{◌==◌}
 use Rattle.std.proofs.lemmas.Result.{err_from_is_err_and}
 use Rattle.gate_tasks.specs.Reading.{ReadsLine}
-use Rattle.gate_tasks.specs.Running.{LineRuns, GoesOn}
+use Rattle.gate_tasks.specs.Running.{LineRuns, RunGoesOn}
 use Rattle.gate_tasks.proofs.Stands.{Stands, stands_first, after_empty, after_line}
 use Rattle.gate_tasks.proofs.Ends.{Both, ends_unread, ends_empty, ends_line, ends_last}
 use Rattle.gate_tasks.proofs.script.run_each.Goals.{then-not-is_empty+in_ok-run_line, else-not-is_empty}
@@ -55,7 +55,7 @@ returns-then-not-ended g c =
           let w2 = g.W.Write.contents w.run_line.new.writer in
           let after = w.run_line.new.progress in
           let some : (length line == 0) ≡ false = search rules in
-          let runs = subst (λ l. GoesOn at.invariant.log l after.grid after.gateway w1 w2) w.deref.ensures.value (w.in_ok-run_line.ensures at.invariant.log at.invariant.at at.invariant.told) in
+          let runs = subst (λ l. RunGoesOn at.invariant.log l after.grid after.gateway w1 w2) w.deref.ensures.value (w.in_ok-run_line.ensures at.invariant.log at.invariant.at at.invariant.told) in
           subst (λ v. Both r0 r2 w0 (g.W.Write.contents v) (Ok tt)) (sym w.writer-is)
           (ends_last r0 r1 r2 w0 w1 at.progress.grid at.progress.gateway at.number at.read at.invariant w2 after.grid after.gateway line reads some runs)
       | else-not-is_empty w ↦
@@ -82,7 +82,7 @@ loop-number-preserved g c =
           let w2 = g.W.Write.contents w.run_line.new.writer in
           let after = w.run_line.new.progress in
           let some : (length line == 0) ≡ false = search rules in
-          let runs = subst (λ l. GoesOn at.invariant.log l after.grid after.gateway w1 w2) w.deref.ensures.value (w.in_ok-run_line.ensures at.invariant.log at.invariant.at at.invariant.told) in
+          let runs = subst (λ l. RunGoesOn at.invariant.log l after.grid after.gateway w1 w2) w.deref.ensures.value (w.in_ok-run_line.ensures at.invariant.log at.invariant.at at.invariant.told) in
           subst (λ v. Stands r0 r2 w0 (g.W.Write.contents v) c.if-not-is_empty.progress.grid c.if-not-is_empty.progress.gateway (at.number + 1) (at.read + length (line ++ 10 ∷ []))) (sym w.writer-is)
           (subst (λ q. Stands r0 r2 w0 w2 q.grid q.gateway (at.number + 1) (at.read + length (line ++ 10 ∷ []))) (sym w.progress-is)
           (after_line r0 r1 r2 w0 w1 at.progress.grid at.progress.gateway at.number at.read at.invariant w2 after.grid after.gateway line reads some runs))
