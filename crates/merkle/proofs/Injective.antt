@@ -9,7 +9,7 @@ use Rattle.merkle.specs.Height.{height}
 use Rattle.merkle.specs.Node.{node, node_use, empty_leaf, empty_leaf_use}
 use Rattle.merkle.specs.Tree.{root, root_uses, padded, padding, tree_root, tree_uses}
 use Rattle.merkle.specs.Chain.{chain}
-use Rattle.merkle.specs.Leads.{Leads, led_to, leads_uses, joined, joined_use}
+use Rattle.merkle.specs.Leads.{Leads, led_to, leads_uses, parent, parent_use}
 use Rattle.merkle.proofs.Levels.{double}
 use Rattle.merkle.proofs.Members.{node_parts, Contains-here, Contains-there}
 use Rattle.merkle.proofs.FilledLemmas.{length-padded}
@@ -69,12 +69,12 @@ module _ (uses : List Use) (apart : NoCollision uses) where
   led_to_injective place x y [] (d ∷ ds) long mine theirs e = absurd (omega arith)
   led_to_injective place x y (c ∷ cs) [] long mine theirs e = absurd (omega arith)
   led_to_injective place x y (c ∷ cs) (d ∷ ds) long mine theirs e =
-      let above = led_to_injective (place / 2) (joined place x c) (joined place y d) cs ds (omega arith)
-      (λ u among. mine u (Contains-there (joined_use place x c) (leads_uses (place / 2) (joined place x c) cs) u among))
-      (λ u among. theirs u (Contains-there (joined_use place y d) (leads_uses (place / 2) (joined place y d) ds) u among)) e in
+      let above = led_to_injective (place / 2) (parent place x c) (parent place y d) cs ds (omega arith)
+      (λ u among. mine u (Contains-there (parent_use place x c) (leads_uses (place / 2) (parent place x c) cs) u among))
+      (λ u among. theirs u (Contains-there (parent_use place y d) (leads_uses (place / 2) (parent place y d) ds) u among)) e in
       let both = one_side (place % 2 == 0) x c y d
-      (mine (joined_use place x c) (Contains-here (joined_use place x c) (leads_uses (place / 2) (joined place x c) cs)))
-      (theirs (joined_use place y d) (Contains-here (joined_use place y d) (leads_uses (place / 2) (joined place y d) ds))) above.0 in
+      (mine (parent_use place x c) (Contains-here (parent_use place x c) (leads_uses (place / 2) (parent place x c) cs)))
+      (theirs (parent_use place y d) (Contains-here (parent_use place y d) (leads_uses (place / 2) (parent place y d) ds))) above.0 in
       (both.0, λ i. both.1 i ∷ above.1 i)
 
 node_uses_of : (uses : List Use) (xs : List (List ℕ)) → Includes uses (root_uses xs) → Includes uses (tree_uses (height (length xs)) (padded xs))

@@ -8,26 +8,26 @@ use Rattle.tag_hash.specs.Use.{Use}
 use Rattle.merkle.specs.Node.{node, node_use}
 use Rattle.merkle.specs.Tree.{tree_root, tree_uses}
 use Rattle.merkle.specs.Chain.{tree_chain}
-use Rattle.merkle.specs.Leads.{led_to, leads_uses, joined, joined_use}
+use Rattle.merkle.specs.Leads.{led_to, leads_uses, parent, parent_use}
 use Rattle.merkle.proofs.Levels.{true_or_false, below_is, not_below_is, double}
 use Rattle.merkle.proofs.Members.{Contains-here, Contains-there, Contains-one}
 
 level_up : (place n : ℕ) → place / 2 / 2 ^ n ≡ place / 2 ^ suc n
 level_up place n = div-div-eq-div-mul place 2 (2 ^ n) ∙ ap (λ m. place / m) (sym (pow-succ' 2 n))
 
--- the last of a chain is joined on top
-pub led_to-append : (place : ℕ) (leaf : List ℕ) (chain : List (List ℕ)) (last : List ℕ) → led_to place leaf (chain ++ last ∷ []) ≡ joined (place / 2 ^ length chain) (led_to place leaf chain) last
-led_to-append place leaf [] last = ap (λ n. joined n leaf last) (sym (div-one place))
+-- the last of a chain stands on top
+pub led_to-append : (place : ℕ) (leaf : List ℕ) (chain : List (List ℕ)) (last : List ℕ) → led_to place leaf (chain ++ last ∷ []) ≡ parent (place / 2 ^ length chain) (led_to place leaf chain) last
+led_to-append place leaf [] last = ap (λ n. parent n leaf last) (sym (div-one place))
 led_to-append place leaf (beside ∷ chain) last =
-    led_to-append (place / 2) (joined place leaf beside) chain last
-    ∙ ap (λ n. joined n (led_to (place / 2) (joined place leaf beside) chain) last) (level_up place (length chain))
+    led_to-append (place / 2) (parent place leaf beside) chain last
+    ∙ ap (λ n. parent n (led_to (place / 2) (parent place leaf beside) chain) last) (level_up place (length chain))
 
-pub leads_uses-append : (place : ℕ) (leaf : List ℕ) (chain : List (List ℕ)) (last : List ℕ) → leads_uses place leaf (chain ++ last ∷ []) ≡ leads_uses place leaf chain ++ joined_use (place / 2 ^ length chain) (led_to place leaf chain) last ∷ []
-leads_uses-append place leaf [] last = ap (λ n. joined_use n leaf last ∷ []) (sym (div-one place))
+pub leads_uses-append : (place : ℕ) (leaf : List ℕ) (chain : List (List ℕ)) (last : List ℕ) → leads_uses place leaf (chain ++ last ∷ []) ≡ leads_uses place leaf chain ++ parent_use (place / 2 ^ length chain) (led_to place leaf chain) last ∷ []
+leads_uses-append place leaf [] last = ap (λ n. parent_use n leaf last ∷ []) (sym (div-one place))
 leads_uses-append place leaf (beside ∷ chain) last =
-    ap (λ t. joined_use place leaf beside ∷ t)
-    (leads_uses-append (place / 2) (joined place leaf beside) chain last
-    ∙ ap (λ n. leads_uses (place / 2) (joined place leaf beside) chain ++ joined_use n (led_to (place / 2) (joined place leaf beside) chain) last ∷ []) (level_up place (length chain)))
+    ap (λ t. parent_use place leaf beside ∷ t)
+    (leads_uses-append (place / 2) (parent place leaf beside) chain last
+    ∙ ap (λ n. leads_uses (place / 2) (parent place leaf beside) chain ++ parent_use n (led_to (place / 2) (parent place leaf beside) chain) last ∷ []) (level_up place (length chain)))
 
 half_of : (n place : ℕ) → (2 ^ suc n + place) / 2 ≡ 2 ^ n + place / 2
 half_of n place = let twice = double n in omega arith
@@ -35,10 +35,10 @@ half_of n place = let twice = double n in omega arith
 side_of : (n place : ℕ) → (2 ^ suc n + place) % 2 ≡ place % 2
 side_of n place = let twice = double n in omega arith
 
-same_side : (n place : ℕ) (leaf beside : List ℕ) → joined (2 ^ suc n + place) leaf beside ≡ joined place leaf beside
+same_side : (n place : ℕ) (leaf beside : List ℕ) → parent (2 ^ suc n + place) leaf beside ≡ parent place leaf beside
 same_side n place leaf beside = ap (λ m. if m == 0 then node leaf beside else node beside leaf) (side_of n place)
 
-same_side_use : (n place : ℕ) (leaf beside : List ℕ) → joined_use (2 ^ suc n + place) leaf beside ≡ joined_use place leaf beside
+same_side_use : (n place : ℕ) (leaf beside : List ℕ) → parent_use (2 ^ suc n + place) leaf beside ≡ parent_use place leaf beside
 same_side_use n place leaf beside = ap (λ m. if m == 0 then node_use leaf beside else node_use beside leaf) (side_of n place)
 
 -- what a place has above the chain's height does not count
@@ -46,13 +46,13 @@ pub led_to-high : (place : ℕ) (leaf : List ℕ) (chain : List (List ℕ)) → 
 led_to-high place leaf [] = refl
 led_to-high place leaf (beside ∷ chain) =
     (λ i. led_to (half_of (length chain) place i) (same_side (length chain) place leaf beside i) chain)
-    ∙ led_to-high (place / 2) (joined place leaf beside) chain
+    ∙ led_to-high (place / 2) (parent place leaf beside) chain
 
 pub leads_uses-high : (place : ℕ) (leaf : List ℕ) (chain : List (List ℕ)) → leads_uses (2 ^ length chain + place) leaf chain ≡ leads_uses place leaf chain
 leads_uses-high place leaf [] = refl
 leads_uses-high place leaf (beside ∷ chain) =
     (λ i. same_side_use (length chain) place leaf beside i ∷ leads_uses (half_of (length chain) place i) (same_side (length chain) place leaf beside i) chain)
-    ∙ ap (λ t. joined_use place leaf beside ∷ t) (leads_uses-high (place / 2) (joined place leaf beside) chain)
+    ∙ ap (λ t. parent_use place leaf beside ∷ t) (leads_uses-high (place / 2) (parent place leaf beside) chain)
 
 -- ---- the chain of a place
 
@@ -90,7 +90,7 @@ module _ (h : ℕ) (xs : List (List ℕ)) (place : ℕ) where
       let side : place / 2 ^ length chain ≡ 0 = ap (λ n. place / 2 ^ n) (length-tree_chain h (take (2 ^ h) xs) place) ∙ div-eq_of_lt inside in
       (λ i. led_to place (sym (leaf_left h xs place inside) i) (chain_left h xs place test i))
       ∙ led_to-append place (get_or (take (2 ^ h) xs) place []) chain (tree_root h (drop (2 ^ h) xs))
-      ∙ ap (λ n. joined n (led_to place (get_or (take (2 ^ h) xs) place []) chain) (tree_root h (drop (2 ^ h) xs))) side
+      ∙ ap (λ n. parent n (led_to place (get_or (take (2 ^ h) xs) place []) chain) (tree_root h (drop (2 ^ h) xs))) side
 
   uses_left : nat_lt place (2 ^ h) ≡ true → leads_uses place (get_or xs place []) (tree_chain (suc h) xs place) ≡ leads_uses place (get_or (take (2 ^ h) xs) place []) (tree_chain h (take (2 ^ h) xs) place) ++ node_use (led_to place (get_or (take (2 ^ h) xs) place []) (tree_chain h (take (2 ^ h) xs) place)) (tree_root h (drop (2 ^ h) xs)) ∷ []
   uses_left test =
@@ -99,7 +99,7 @@ module _ (h : ℕ) (xs : List (List ℕ)) (place : ℕ) where
       let side : place / 2 ^ length chain ≡ 0 = ap (λ n. place / 2 ^ n) (length-tree_chain h (take (2 ^ h) xs) place) ∙ div-eq_of_lt inside in
       (λ i. leads_uses place (sym (leaf_left h xs place inside) i) (chain_left h xs place test i))
       ∙ leads_uses-append place (get_or (take (2 ^ h) xs) place []) chain (tree_root h (drop (2 ^ h) xs))
-      ∙ ap (λ n. leads_uses place (get_or (take (2 ^ h) xs) place []) chain ++ joined_use n (led_to place (get_or (take (2 ^ h) xs) place []) chain) (tree_root h (drop (2 ^ h) xs)) ∷ []) side
+      ∙ ap (λ n. leads_uses place (get_or (take (2 ^ h) xs) place []) chain ++ parent_use n (led_to place (get_or (take (2 ^ h) xs) place []) chain) (tree_root h (drop (2 ^ h) xs)) ∷ []) side
 
   -- the place, in the right half
   high : 2 ^ h ≤ place → place ≡ 2 ^ length (tree_chain h (drop (2 ^ h) xs) (place - 2 ^ h)) + (place - 2 ^ h)
@@ -124,7 +124,7 @@ module _ (h : ℕ) (xs : List (List ℕ)) (place : ℕ) where
       let side : place / 2 ^ length chain ≡ 1 = ap (λ n. place / 2 ^ n) (length-tree_chain h (drop (2 ^ h) xs) (place - 2 ^ h)) ∙ right_side h place past inside in
       ap (led_to place (get_or xs place [])) (chain_right h xs place test)
       ∙ led_to-append place (get_or xs place []) chain (tree_root h (take (2 ^ h) xs))
-      ∙ (λ i. joined (side i) (led_right past i) (tree_root h (take (2 ^ h) xs)))
+      ∙ (λ i. parent (side i) (led_right past i) (tree_root h (take (2 ^ h) xs)))
 
   uses_right : place < 2 ^ suc h → nat_lt place (2 ^ h) ≡ false → leads_uses place (get_or xs place []) (tree_chain (suc h) xs place) ≡ leads_uses (place - 2 ^ h) (get_or (drop (2 ^ h) xs) (place - 2 ^ h) []) (tree_chain h (drop (2 ^ h) xs) (place - 2 ^ h)) ++ node_use (tree_root h (take (2 ^ h) xs)) (led_to (place - 2 ^ h) (get_or (drop (2 ^ h) xs) (place - 2 ^ h) []) (tree_chain h (drop (2 ^ h) xs) (place - 2 ^ h))) ∷ []
   uses_right inside test =
@@ -133,7 +133,7 @@ module _ (h : ℕ) (xs : List (List ℕ)) (place : ℕ) where
       let side : place / 2 ^ length chain ≡ 1 = ap (λ n. place / 2 ^ n) (length-tree_chain h (drop (2 ^ h) xs) (place - 2 ^ h)) ∙ right_side h place past inside in
       ap (leads_uses place (get_or xs place [])) (chain_right h xs place test)
       ∙ leads_uses-append place (get_or xs place []) chain (tree_root h (take (2 ^ h) xs))
-      ∙ (λ i. used_right past i ++ joined_use (side i) (led_right past i) (tree_root h (take (2 ^ h) xs)) ∷ [])
+      ∙ (λ i. used_right past i ++ parent_use (side i) (led_right past i) (tree_root h (take (2 ^ h) xs)) ∷ [])
 
 right_inside : (h place : ℕ) → place < 2 ^ suc h → 2 ^ h ≤ place → place - 2 ^ h < 2 ^ h
 right_inside h place inside past = let twice = double h in omega arith

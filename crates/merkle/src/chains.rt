@@ -2,7 +2,7 @@
 ghost use Rattle.std.specs.Prelude.{◌≡◌, ◌+◌, ◌^◌, ◌<◌, ◌≤◌, ◌++◌, ◌↔◌, length, IfOk, OnOk, IsTrue};
 ghost use Rattle.merkle.specs.Chain.{chain, tree_chain};
 ghost use Rattle.merkle.specs.Filled.{filled};
-ghost use Rattle.merkle.specs.Leads.{Leads, joined};
+ghost use Rattle.merkle.specs.Leads.{Leads, parent};
 
 use crate::heights::height;
 use crate::trees::{halves, leaf_count, node, subtree_root};
@@ -64,15 +64,15 @@ pub fn check(root: &[u8; 32], place: usize, leaf: &[u8; 32], chain: &[[u8; 32]])
     let mut hash = *leaf;
     let mut rest = place;
     for beside in chain {
-        hash = joined(rest, &hash, beside);
+        hash = parent(rest, &hash, beside);
         rest /= 2;
     }
     rest == 0 && hash == *root
 }
 
 /// The node over a hash at a place and the one beside it.
-fn joined(place: usize, hash: &[u8; 32], beside: &[u8; 32]) -> [u8; 32]
-    ensures { result ≡ joined place hash.now beside.now }
+fn parent(place: usize, hash: &[u8; 32], beside: &[u8; 32]) -> [u8; 32]
+    ensures { result ≡ parent place hash.now beside.now }
 {
     if place % 2 == 0 {
         node(hash, beside)

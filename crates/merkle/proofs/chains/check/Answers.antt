@@ -5,7 +5,7 @@ use Rattle.std.proofs.Math.Seq.{drop-cons}
 use Rattle.std.proofs.lemmas.Bool.Decides.{nat_tests}
 use Rattle.std.proofs.lemmas.List.{drop_all}
 use Rattle.std.specs.Cmp.Lexicographic.{pointwise, same_text, other_text}
-use Rattle.merkle.specs.Leads.{Leads, led_to, joined}
+use Rattle.merkle.specs.Leads.{Leads, led_to, parent}
 use Rattle.merkle.proofs.Levels.{pow_positive, true_or_false}
 use Rattle.merkle.proofs.chains.check.Goals as goal
 
@@ -13,7 +13,7 @@ pub loop-beside-init : goal.loop-beside-init
 loop-beside-init c = record { leads = refl; above = sym (div-one c.args.place) }
 
 -- one step up
-step_up : (rest i : ℕ) (hash above : List ℕ) (chain : List (List ℕ)) → i < length chain → above ≡ joined rest hash (get_or chain i []) → led_to rest hash (drop i chain) ≡ led_to (rest / 2) above (drop (i + 1) chain)
+step_up : (rest i : ℕ) (hash above : List ℕ) (chain : List (List ℕ)) → i < length chain → above ≡ parent rest hash (get_or chain i []) → led_to rest hash (drop i chain) ≡ led_to (rest / 2) above (drop (i + 1) chain)
 step_up rest i hash above chain inside is =
     let next : suc i ≡ i + 1 = omega arith in
     ap (led_to rest hash) (drop-cons chain i [] inside)
@@ -26,7 +26,7 @@ halved place rest i is =
 
 pub loop-beside-preserved : goal.loop-beside-preserved
 loop-beside-preserved c = record {
-  leads = c.loop-beside.invariant.leads ∙ step_up c.loop-beside.rest c.loop-beside.beside-index c.loop-beside.hash c.joined-hash.result c.args.chain.now c.loop-beside-test.true c.joined-hash.ensures;
+  leads = c.loop-beside.invariant.leads ∙ step_up c.loop-beside.rest c.loop-beside.beside-index c.loop-beside.hash c.parent-hash.result c.args.chain.now c.loop-beside-test.true c.parent-hash.ensures;
   above = halved c.args.place c.loop-beside.rest c.loop-beside.beside-index c.loop-beside.invariant.above;
 }
 
