@@ -9,14 +9,14 @@ last=260
 folder=$(mktemp -d)
 trap 'rm -rf "$folder"' EXIT
 
-# The runs are shared out among the processors.
-processors=$(nproc)
-parts=$(seq 0 $((processors - 1)))
+# The runs are shared out among half as many builds as there are processors: each build keeps two of them busy.
+builds=$((($(nproc) + 1) / 2))
+parts=$(seq 0 $((builds - 1)))
 for part in $parts; do
     mkdir "$folder/$part"
 done
 for before in $(seq 0 $last); do
-    name=$(printf '%d/%04d' $((before % processors)) "$before")
+    name=$(printf '%d/%04d' $((before % builds)) "$before")
     : > "$folder/$name"
     echo "$before" > "$folder/$name.args"
 done
