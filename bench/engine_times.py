@@ -10,12 +10,13 @@ grid    files of 4 MiB, ten times as many bytes of shares as the program may hav
 
 Servers keep their data in memory alone (no append-only file), so that the disk isn't timed.
 
-usage: bench/engine_times.py PROGRAM [share|file|grid ..]
+usage: bench/engine_times.py PROGRAM [share|reads|file|grid ..]
 """
 
 import os
 import re
 import resource
+import socket
 import statistics
 import subprocess
 import sys
@@ -28,6 +29,7 @@ from folders import Server
 TURNS = 40
 ROUNDS = 6
 SHARE, FILE = 500_000, 4_194_304
+PAUSE = 0.004
 MEMORY = 256 << 20
 
 
@@ -100,6 +102,51 @@ def share(program, engines):
             kind, SHARE, (redis - memory) * 1e3, plain * 1e3, (redis - memory) / plain, redis * 1e3, memory * 1e3))
 
 
+def paced(engine, command, wanted):
+    """The least seconds of an exchange of a plain client that rests before each: what it tells, and how many bytes it is answered."""
+    room = memoryview(bytearray(wanted))
+    least = float("inf")
+    with socket.create_connection(("127.0.0.1", engine.port)) as client:
+        client.setsockopt(socket.IPPROTO_TCP, socket.TCP_NODELAY, 1)
+        for _ in range(TURNS):
+            until = time.monotonic() + PAUSE
+            while time.monotonic() < until:
+                pass
+            began = time.monotonic()
+            client.sendall(command)
+            came = 0
+            while came < wanted:
+                count = client.recv_into(room[came:])
+                if count == 0:
+                    sys.exit("engine_times.py: the server ended the connection")
+                came += count
+            least = min(least, time.monotonic() - began)
+    return least
+
+
+def reads(program, engines):
+    words = [["--shares", "1,1"] + store(engines[1], at) for at in (30, 31)]
+    server = Server(program, words[0])
+    for at in range(ROUNDS * TURNS):
+        server.ask("PUT", "/uri", body(at, SHARE))
+    server.end()
+    head = b"$%d\r\n" % SHARE
+    exchanges = ((b"*3\r\n$3\r\nSET\r\n$6\r\npaced:\r\n" + head + bytes(SHARE) + b"\r\n", len("+OK\r\n")), (b"GET paced:\r\n", len(head) + SHARE + 2))
+    starts, plain, pauses = [float("inf")] * 2, float("inf"), [float("inf")] * 2
+    for _ in range(8):
+        for place in range(2):
+            server = Server(program, words[place])
+            starts[place] = min(starts[place], server.start)
+            server.end()
+        plain = min(plain, benchmark(engines[1])[1])
+        for kind, (command, wanted) in enumerate(exchanges):
+            pauses[kind] = min(pauses[kind], paced(engines[1], command, wanted))
+    read = (starts[0] - starts[1]) / (ROUNDS * TURNS)
+    print("a read of a share of %d bytes by itself: %.3f ms beside %.3f ms by redis-benchmark: %.2f times (a start %.1f ms, over none %.1f)" % (
+        SHARE, read * 1e3, plain * 1e3, read / plain, starts[0] * 1e3, starts[1] * 1e3))
+    print("a plain client that asks every %d ms: SET %.2f ms, GET %.2f ms" % (PAUSE * 1e3, pauses[0] * 1e3, pauses[1] * 1e3))
+
+
 def file(program, engines):
     words = ["--shares", "3,10"]
     memory = timed(program, words + ["--store", "mem:2000000000"] * 5, FILE, TURNS)
@@ -136,8 +183,8 @@ def main():
         for engine in engines:
             engine.start()
         try:
-            for part in parts or ("share", "file", "grid"):
-                {"share": share, "file": file, "grid": grid}[part](program, engines)
+            for part in parts or ("share", "reads", "file", "grid"):
+                {"share": share, "reads": reads, "file": file, "grid": grid}[part](program, engines)
         finally:
             for engine in engines:
                 engine.kill()
