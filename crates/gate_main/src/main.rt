@@ -3,6 +3,9 @@
 //! on an address and serves connections one after the other, over stores in memory.
 #![tactic(auto)]
 
+/// What is wrong with arguments that ask for nothing.
+mod wrong;
+
 ghost use Rattle.std.specs.Prelude.{◌≡◌, ◌≢◌, ◌⊎◌, Err};
 ghost use Rattle.std.specs.Process.{exit_status as status_at_exit};
 ghost use Rattle.gate_tasks.specs.Arguments.{Asks};
@@ -17,6 +20,7 @@ use std::net::{Net, TcpListener, TcpStream};
 use std::process::ExitCode;
 use std::rt::Env;
 use std::{env, io};
+use wrong::what_is_wrong;
 
 /// How many bytes are read and written at a time.
 const BUFFER: usize = 65_536;
@@ -59,8 +63,16 @@ fn carry_out<
     match task {
         Some(Task::Replay) => replay(rt),
         Some(Task::Serve(service)) => serve(rt, &service),
-        None => Err(ProgramFault::Usage),
+        None => Err(refuse(rt, words)),
     }
+}
+
+/// Tells what is wrong with words that ask for nothing, and refuses them.
+fn refuse(rt: &impl Eprint, words: &[Bytes]) -> ProgramFault
+    ensures { result ≡ ProgramFault.Usage }
+{
+    let _ = eprintln!(rt; "gate_main: {}", what_is_wrong(words));
+    ProgramFault::Usage
 }
 
 /// The arguments after the program's name. One that is no text is a fault of usage.
@@ -93,8 +105,8 @@ fn replay(rt: &(impl Input + Print + AllocGlobal)) -> Result<(), ProgramFault>
     }
 }
 
-/// Serves connections on an address, over stores in memory.
-fn serve<R: Eprint + AllocGlobal + Net<Listener = TcpListener, Stream = TcpStream>>(
+/// Serves connections on an address, which is printed as it was bound, over stores in memory.
+fn serve<R: Print + Eprint + AllocGlobal + Net<Listener = TcpListener, Stream = TcpStream>>(
     rt: &R,
     service: &Service,
 ) -> Result<(), ProgramFault>
@@ -106,6 +118,9 @@ fn serve<R: Eprint + AllocGlobal + Net<Listener = TcpListener, Stream = TcpStrea
     let Ok(listener) = TcpListener::bind(rt, service.address) else {
         return Err(ProgramFault::BindFailed);
     };
+    if let Ok(address) = listener.local_addr() {
+        let _ = println!(rt; "listening on {address}");
+    }
     match serve_on(rt, &listener, service.connections, &mut gateway) {
         Ok(0) => Ok(()),
         Ok(faults) => Err(ProgramFault::Connections(faults)),
