@@ -6,6 +6,7 @@ use Rattle.std.proofs.lemmas.List.Elements.{All-tail, All-cons, All-nil}
 use Rattle.std.proofs.lemmas.List.Sums.{sum_by-cons}
 use Rattle.std.specs.Option.{option_map}
 use Rattle.std.specs.FinMap as finite
+use Rattle.share_store.specs.History.{History}
 use Rattle.share_store.specs.Shares.{Shares, ShareKey, Entry, bytes_in, bytes_of, key_cmp}
 use Rattle.grid.specs.Standing.{standing}
 use Rattle.grid.specs.GridState.{StoreState, states, stood, maps_of, IsHonest}
@@ -26,13 +27,13 @@ no_entries [] le = refl
 no_entries (e ∷ es) le = absurd (omega arith)
 
 -- where stores hold nothing, nothing stands
-module _ {S : Type 0} (shares : S → Shares) (room held failures : S → ℕ) (honest : S → Bool) (held_is : (store : S) → IsTrue (honest store) → held store ≡ bytes_of (shares store))
+module _ {S : Type 0} (shares : S → Shares) (room held failures : S → ℕ) (honest : S → Bool) (history : S → History) (held_is : (store : S) → IsTrue (honest store) → held store ≡ bytes_of (shares store))
     (none_empty : (store : S) → IsTrue (honest store) → All (λ e. 0 < length e.1) (finite.entries (shares store))) (stores : List S) (nothing : All (λ store. held store ≡ 0) stores)
-    (all : IsHonest (states shares room held failures honest stores)) where
+    (all : IsHonest (states shares room held failures honest history stores)) where
   abbrev state_of : S → StoreState
-  state_of store = record { shares = shares store; room = room store; held = held store; failures = failures store; honest = honest store }
+  state_of store = record { shares = shares store; room = room store; held = held store; failures = failures store; honest = honest store; history = history store }
 
-  map_at : (s : ℕ) → slice_get (maps_of (states shares room held failures honest stores)) s ≡ option_map shares (slice_get stores s)
+  map_at : (s : ℕ) → slice_get (maps_of (states shares room held failures honest history stores)) s ≡ option_map shares (slice_get stores s)
   map_at s = slice_get-map (λ (t : StoreState). t.shares) (map state_of stores) s ∙ ap (option_map (λ (t : StoreState). t.shares)) (slice_get-map state_of stores s) ∙ same (slice_get stores s)
     where
       same : (o : Option S) → option_map (λ (t : StoreState). t.shares) (option_map state_of o) ≡ option_map shares o
@@ -44,14 +45,14 @@ module _ {S : Type 0} (shares : S → Shares) (room held failures : S → ℕ) (
       finite.get-entries (shares x) q
       ∙ ap (finite.find key_cmp q) (no_entries (finite.entries (shares x)) (omega (arith, length_le_bytes (finite.entries (shares x)) (none_empty x good), held_is x good, zero_held)))
 
-  none_at : (s : ℕ) (q : ShareKey) → standing (maps_of (states shares room held failures honest stores)) s q ≡ None
+  none_at : (s : ℕ) (q : ShareKey) → standing (maps_of (states shares room held failures honest history stores)) s q ≡ None
   none_at s q = ap (option_and_then (λ m. finite.get m q)) (map_at s) ∙ by_case (slice_get_cases stores s).1
     where
       by_case : ((x : S) × (s < length stores) × (slice_get stores s ≡ Some x) × (get_or stores s x ≡ x)) ⊎ ((length stores ≤ s) × (slice_get stores s ≡ None)) → option_and_then (λ m. finite.get m q) (option_map shares (slice_get stores s)) ≡ None
       by_case (inl (x, lt, at, read)) =
           ap (λ o. option_and_then (λ m. finite.get m q) (option_map shares o)) at
-          ∙ none_in x q (subst (λ y. IsTrue (honest y)) read (All-unmap (λ (t : StoreState). IsTrue t.honest) (λ store. record { shares = shares store; room = room store; held = held store; failures = failures store; honest = honest store }) stores all s x lt)) (subst (λ y. held y ≡ 0) read (nothing s x lt))
+          ∙ none_in x q (subst (λ y. IsTrue (honest y)) read (All-unmap (λ (t : StoreState). IsTrue t.honest) (λ store. record { shares = shares store; room = room store; held = held store; failures = failures store; honest = honest store; history = history store }) stores all s x lt)) (subst (λ y. held y ≡ 0) read (nothing s x lt))
       by_case (inr h) = ap (λ o. option_and_then (λ m. finite.get m q) (option_map shares o)) h.1
 
-  pub nothing_stood : stood (states shares room held failures honest stores) ≡ shown empty.marks
+  pub nothing_stood : stood (states shares room held failures honest history stores) ≡ shown empty.marks
   nothing_stood i s q = none_at s q i

@@ -7,6 +7,7 @@ use Rattle.grid.specs.GridState.{GridState, stood, room_at, IsHonest, NoneFailed
 use Rattle.grid.specs.Leaves.{Leaves, IsUnchanged}
 use Rattle.grid.specs.NewBytes.{new_bytes}
 use Rattle.grid.specs.Changed.{ArePut}
+use Rattle.grid.proofs.Histories.{tells_none}
 use Rattle.grid.proofs.Puts.{put_none}
 use Rattle.chk_file.specs.Upload.{Upload, index, shares_of}
 use Rattle.chk_file.specs.Marks.{shown}
@@ -138,8 +139,8 @@ begun_out e k n secret head body same request old new is_k is_n is_secret is_hea
 
 -- where nothing was done, nothing of it was put
 pub nothing_begun : (o : Option Upload) (g : GridState) → IsBegunIn o g g
-nothing_begun None g = record { maps = refl; rooms = λ s. refl }
-nothing_begun (Some u) g = (0, put_none (index u) (shares_of u) g)
+nothing_begun None g = record { maps = refl; rooms = λ s. refl; histories = λ s. refl }
+nothing_begun (Some u) g = record { servers = refl; m = 0; put = put_none (index u) (shares_of u) g; history = tells_none _ g g refl }
 
 no_error : {T : Type 0} (E : Type 0) (x : T) → IsErr {T = T} {E = E} (Ok x) → ⊥
 no_error E x e = cc

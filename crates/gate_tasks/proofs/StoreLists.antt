@@ -1,6 +1,6 @@
 -- Stores in which nothing stands.
 use Rattle.std.proofs.Common.{◌≡◌, ℕ, ◌+◌, ◌<◌, zero, suc, List, [], ◌∷◌, ◌++◌, true, false, cond, All, refl, sym, ap, ◌∙◌, add-one, arith, nat_lt, length, get_or}
-use Rattle.std.specs.Prelude.{map, replicate, IsTrue}
+use Rattle.std.specs.Prelude.{None, map, replicate, IsTrue}
 use Rattle.std.specs.FinMap as finite
 use Rattle.std.proofs.lemmas.Bool.Decides.{nat_tests}
 use Rattle.share_store.specs.Shares.{Shares}
@@ -13,13 +13,13 @@ use Rattle.gate_tasks.specs.Stores.{fresh}
 
 -- what contracts see of a store in memory
 abbrev pub state_of : MemStore → StoreState
-state_of store = record { shares = shares_in rc_slice_items store.shares.indexes; room = store.room; held = store.held; failures = 0; honest = true }
+state_of store = record { shares = shares_in rc_slice_items store.shares.indexes; room = store.room; held = store.held; failures = 0; honest = true; history = None }
 
-one_fresh : (shares : Shares) (room held wanted : ℕ) → shares ≡ finite.empty → room ≡ wanted → held ≡ 0 → (let s : StoreState = record { shares = shares; room = room; held = held; failures = 0; honest = true } in s) ≡ fresh wanted
+one_fresh : (shares : Shares) (room held wanted : ℕ) → shares ≡ finite.empty → room ≡ wanted → held ≡ 0 → (let s : StoreState = record { shares = shares; room = room; held = held; failures = 0; honest = true; history = None } in s) ≡ fresh wanted
 one_fresh shares room held wanted a b c =
-    ap (λ (q : Shares). let s : StoreState = record { shares = q; room = room; held = held; failures = 0; honest = true } in s) a
-    ∙ ap (λ q. let s : StoreState = record { shares = finite.empty; room = q; held = held; failures = 0; honest = true } in s) b
-    ∙ ap (λ q. let s : StoreState = record { shares = finite.empty; room = wanted; held = q; failures = 0; honest = true } in s) c
+    ap (λ (q : Shares). let s : StoreState = record { shares = q; room = room; held = held; failures = 0; honest = true; history = None } in s) a
+    ∙ ap (λ q. let s : StoreState = record { shares = finite.empty; room = q; held = held; failures = 0; honest = true; history = None } in s) b
+    ∙ ap (λ q. let s : StoreState = record { shares = finite.empty; room = wanted; held = q; failures = 0; honest = true; history = None } in s) c
 
 more_same : (n : ℕ) (v : StoreState) → replicate n v ++ v ∷ [] ≡ replicate (n + 1) v
 more_same zero v = refl

@@ -13,7 +13,8 @@ pub fn make_stores(alloc: Global, count: u16, room: u64) -> Result<Vec<MemStore>
         All (λ store. ⟦<MemStore as Store>⟧.held store ≡ 0) stores.items) }
     ensures fresh { IfOk result (λ stores.
         stores_seen ⟦<MemStore as Store>⟧.shares ⟦<MemStore as Store>⟧.room ⟦<MemStore as Store>⟧.held
-        ⟦<MemStore as Store>⟧.failures ⟦<MemStore as Store>⟧.honest stores.items
+        ⟦<MemStore as Store>⟧.failures ⟦<MemStore as Store>⟧.honest
+        ⟦<MemStore as Store>⟧.history stores.items
         ≡ replicate count (fresh room)) }
 {
     let mut stores = Vec::with_capacity(alloc, usize::from(count))?;

@@ -4,6 +4,7 @@ pub mod Entries
 pub mod FaultReads
 pub mod FoundAll
 pub mod Gather
+pub mod Histories
 pub mod ImageReads
 pub mod ImageRuns
 pub mod ImageSteps

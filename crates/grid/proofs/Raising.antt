@@ -14,9 +14,10 @@ use Rattle.grid.specs.GridState.{GridState, stood, raised_at, IsHonest}
 use Rattle.grid.specs.Standing.{Standing, standing}
 use Rattle.grid.specs.Changes.{changed_at}
 use Rattle.grid.specs.Placement.{server_of, placed}
-use Rattle.grid.specs.Leaves.{Leaves, IsUnchanged}
+use Rattle.grid.specs.Leaves.{Leaves, HoldsAsBefore}
 use Rattle.grid.specs.Changed.{ArePut, StopsAt, IsLost, IsSpoiled}
 use Rattle.grid.specs.Stamped.{IsStamped}
+use Rattle.grid.specs.Histories.{TellsOfChange}
 
 -- the state with other stamps
 abbrev pub stamped_so : GridState → Stamps → GridState
@@ -29,8 +30,11 @@ module _ (old : GridState) (stamps : Stamps) where
   pub leaves_to : (new : GridState) → Leaves new (stamped_so old stamps) → Leaves new old
   leaves_to new l = record { servers = l.servers; rises = l.rises; honest = l.honest; was_honest = l.was_honest; sums = l.sums }
 
-  pub unchanged_so : (new : GridState) → IsUnchanged (stamped_so old stamps) new → IsUnchanged old new
-  unchanged_so new u = record { maps = u.maps; rooms = u.rooms }
+  pub held_so : (new : GridState) → HoldsAsBefore (stamped_so old stamps) new → HoldsAsBefore old new
+  held_so new u = record { maps = u.maps; rooms = u.rooms }
+
+  pub tells_so : (asked : Standing) (new : GridState) → TellsOfChange asked (stamped_so old stamps) new → TellsOfChange asked old new
+  tells_so asked new told = told
 
   pub put_so : (index : List ℕ) (shares : List (List ℕ)) (new : GridState) → ArePut index shares (stamped_so old stamps) new → ArePut index shares old new
   put_so index shares new p = record { stands = p.stands; rooms = p.rooms }
@@ -135,8 +139,8 @@ same_but_placed count index shares before after is si other s n =
     ap (λ f. f s (si, n)) is
     ∙ ap (λ b. if b && nat_lt n (length shares) && s == server_of count index n then Some (unwrap_or (before s (si, n)) (unwrap_or (slice_get shares n) [])) else before s (si, n)) other
 
-pub same_but_unchanged : (index : List ℕ) (old new : GridState) → IsUnchanged old new → SameBut index (stood old) (stood new)
-same_but_unchanged index old new same si other s n = ap (λ maps. standing maps s (si, n)) same.maps
+pub same_but_held : (index : List ℕ) (old new : GridState) → HoldsAsBefore old new → SameBut index (stood old) (stood new)
+same_but_held index old new same si other s n = ap (λ maps. standing maps s (si, n)) same.maps
 
 -- by what a call answered
 pub by_answer : {A E : Type 0} (P X Y : Type 0) (r : Result A E) → OnOk r X → OnErr r Y → (X → P) → (Y → P) → P

@@ -35,7 +35,7 @@ standing_by_maps {S} shares stores =
     through q (Some x) = refl
 
 -- a choice under a function
-choice : {A B : Type 0} (f : A → B) (b : Bool) (x y : A) → f (cond b x y) ≡ cond b (f x) (f y)
+pub choice : {A B : Type 0} (f : A → B) (b : Bool) (x y : A) → f (cond b x y) ≡ cond b (f x) (f y)
 choice f true x y = refl
 choice f false x y = refl
 

@@ -4,6 +4,7 @@ pub mod Found
 pub mod FoundLaws
 pub mod GatherLaws
 pub mod GridState
+pub mod Histories
 pub mod Image
 pub mod ImageFaults
 pub mod ImageHeads

@@ -51,14 +51,14 @@ impl<S: Store> Grid<S> {
         requires few { vec_len stores ≤ 256 }
         requires empty { All (λ store. S.held store ≡ 0) stores.items }
         ensures leaves { MatchResult result
-            (Leaves (states S.shares S.room S.held S.failures S.honest stores.items))
-            (λ refusal. Leaves (states S.shares S.room S.held S.failures S.honest stores.items)
-            (states S.shares S.room S.held S.failures S.honest refusal.1.items)) }
+            (Leaves (states S.shares S.room S.held S.failures S.honest S.history stores.items))
+            (λ refusal. Leaves (states S.shares S.room S.held S.failures S.honest S.history stores.items)
+            (states S.shares S.room S.held S.failures S.honest S.history refusal.1.items)) }
         ensures calm { IfOk result (NoneFailed
-            (states S.shares S.room S.held S.failures S.honest stores.items)) }
+            (states S.shares S.room S.held S.failures S.honest S.history stores.items)) }
         ensures down { IfErr result (λ refusal. TellsDown {T = Unit {0}}
-            (states S.shares S.room S.held S.failures S.honest stores.items)
-            (states S.shares S.room S.held S.failures S.honest refusal.1.items) (Err refusal.0)) }
+            (states S.shares S.room S.held S.failures S.honest S.history stores.items)
+            (states S.shares S.room S.held S.failures S.honest S.history refusal.1.items) (Err refusal.0)) }
         ensures refusals { IfErr result (λ refusal. IsReadRefusal refusal.0) }
 
         // Where the reader tells its bytes, they are the image.
@@ -69,29 +69,29 @@ impl<S: Store> Grid<S> {
         ensures bad_image { IfErr result (λ refusal. (place : ℕ) →
             refusal.0 ≡ GridFault.BadImage place → IfSome (R.remaining reader.old)
             (λ bytes. ((image_said (vec_len stores) bytes).fault ≡ Some place)
-            × (IsHonest (states S.shares S.room S.held S.failures S.honest stores.items) →
-            rows_of (maps_of (states S.shares S.room S.held S.failures S.honest refusal.1.items))
+            × (IsHonest (states S.shares S.room S.held S.failures S.honest S.history stores.items) →
+            rows_of (maps_of (states S.shares S.room S.held S.failures S.honest S.history refusal.1.items))
             ≡ (image_said (vec_len stores) bytes).rows))) }
         ensures full { IfErr result (λ refusal. (server : ℕ) →
             refusal.0 ≡ GridFault.Full server → IfSome (R.remaining reader.old)
             (λ bytes. RefusesRow (image_said (vec_len stores) bytes).rows server
-            (room_at (states S.shares S.room S.held S.failures S.honest refusal.1.items) server)
-            (IsHonest (states S.shares S.room S.held S.failures S.honest stores.items))
+            (room_at (states S.shares S.room S.held S.failures S.honest S.history refusal.1.items) server)
+            (IsHonest (states S.shares S.room S.held S.failures S.honest S.history stores.items))
             (rows_of (maps_of
-            (states S.shares S.room S.held S.failures S.honest refusal.1.items))))) }
+            (states S.shares S.room S.held S.failures S.honest S.history refusal.1.items))))) }
 
-        ensures ok { IsHonest (states S.shares S.room S.held S.failures S.honest stores.items) →
+        ensures ok { IsHonest (states S.shares S.room S.held S.failures S.honest S.history stores.items) →
             IfOk result (λ grid. IfSome (R.remaining reader.old)
             (λ bytes. rows_of (maps_of grid) ≡ (image_said (vec_len stores) bytes).rows)) }
-        ensures rooms { IsHonest (states S.shares S.room S.held S.failures S.honest stores.items) →
+        ensures rooms { IsHonest (states S.shares S.room S.held S.failures S.honest S.history stores.items) →
             MatchResult result
-            (TakesRoom (states S.shares S.room S.held S.failures S.honest stores.items))
-            (λ refusal. TakesRoom (states S.shares S.room S.held S.failures S.honest stores.items)
-            (states S.shares S.room S.held S.failures S.honest refusal.1.items)) }
-        ensures err { IsHonest (states S.shares S.room S.held S.failures S.honest stores.items) →
+            (TakesRoom (states S.shares S.room S.held S.failures S.honest S.history stores.items))
+            (λ refusal. TakesRoom (states S.shares S.room S.held S.failures S.honest S.history stores.items)
+            (states S.shares S.room S.held S.failures S.honest S.history refusal.1.items)) }
+        ensures err { IsHonest (states S.shares S.room S.held S.failures S.honest S.history stores.items) →
             IfErr result (λ refusal. IfSome (R.remaining reader.old)
             (λ bytes. AreFirst
-            (rows_of (maps_of (states S.shares S.room S.held S.failures S.honest refusal.1.items)))
+            (rows_of (maps_of (states S.shares S.room S.held S.failures S.honest S.history refusal.1.items)))
             (image_said (vec_len stores) bytes).rows)) }
     {
         let mut grid = Grid::new(stores);

@@ -9,7 +9,10 @@ ghost use Rattle.share_store.specs.Stored.{entry_of};
 ghost use Rattle.grid.specs.GridState.{states, stores_seen, maps_of, stood, room_at, held_at, size_at, failures_at, failures_in, raised_at, IsHonest, NoneFailed};
 ghost use Rattle.grid.specs.Stamps.{raised, stamp_of};
 ghost use Rattle.grid.specs.Stamped.{IsStamped, MayRaise};
-ghost use Rattle.grid.specs.Leaves.{Leaves, TellsDown, IsUnchanged};
+ghost use Rattle.grid.specs.Leaves.{Leaves, TellsDown, IsUnchanged, HoldsAsBefore};
+ghost use Rattle.grid.specs.Histories.{TellsOfChange};
+ghost use Rattle.grid.specs.Changes.{put_at, without, spoiled};
+ghost use Rattle.grid.specs.Placement.{placed};
 ghost use Rattle.grid.specs.Changed.{ArePut, StopsAt, IsLost, IsSpoiled};
 ghost use Rattle.grid.specs.NewBytes.{HasRoom};
 ghost use Rattle.grid.specs.Refusals.{IsPutRefusal, IsChangeRefusal};
@@ -26,7 +29,8 @@ use std::marker::Model;
 use std::rc::RcSlice;
 
 /// Servers with a store each, 1 to 256. A server is named by its place among them, from 0. Contracts see a state for
-/// each server: what stands there, its room, what it holds, its count of failures, and whether its store is honest.
+/// each server: what stands there, its room, what it holds, its count of failures, whether its store is honest, and what
+/// it tells of its past.
 #[derive(Drop)]
 pub struct Grid<S: Store> {
     /// The stores, in the order of the servers.
@@ -44,7 +48,7 @@ impl<S: Store> Model for Grid<S> {
     ghost coded = { grid_code };
 
     ghost view = { λ grid. record {
-      stores = stores_seen S.shares S.room S.held S.failures S.honest grid.stores.items;
+      stores = stores_seen S.shares S.room S.held S.failures S.honest S.history grid.stores.items;
       stamps = grid.counts;
     } };
 
@@ -56,7 +60,7 @@ impl<S: Store> Grid<S> {
     pub fn new(stores: Vec<S>) -> Self
         requires some { 0 < vec_len stores }
         requires few { vec_len stores ≤ 256 }
-        ensures { result ≡ states S.shares S.room S.held S.failures S.honest stores.items }
+        ensures { result ≡ states S.shares S.room S.held S.failures S.honest S.history stores.items }
     {
         let counts = Counts::new(*stores.allocator());
         Grid { stores, counts }
@@ -73,7 +77,7 @@ impl<S: Store> Grid<S> {
 
     /// The stores, in the order of the servers, to look at the room of each, what it holds and how often it failed.
     pub fn stores(&self) -> &[S]
-        ensures { stores_seen S.shares S.room S.held S.failures S.honest result.now ≡ self.now.stores }
+        ensures { stores_seen S.shares S.room S.held S.failures S.honest S.history result.now ≡ self.now.stores }
     {
         &self.stores
     }
@@ -98,6 +102,9 @@ impl<S: Store> Grid<S> {
             OnOk result (ArePut index (map rc_slice_items shares.now) self.old self.new) }
         ensures err { IfErr result
             (StopsAt index (map rc_slice_items shares.now) self.old self.new) }
+        // Refused or not, a crash in the call leaves at each place what stood there or the share that goes there.
+        ensures history { IsHonest self.old → TellsOfChange (placed (length self.old.stores) index
+            (map rc_slice_items shares.now) (stood self.old)) self.old self.new }
         ensures never_full { IsHonest self.old →
             HasRoom self.old index (map rc_slice_items shares.now) →
             (s : ℕ) → IsErrOf result (GridFault.Full s) → ⊥ }
@@ -128,7 +135,9 @@ impl<S: Store> Grid<S> {
             IfOk result (λ lost. lost ≡ is_some (stood self.old server (index, number))) }
         ensures ok { IsHonest self.old →
             OnOk result (IsLost server (index, number) self.old self.new) }
-        ensures err { IsHonest self.old → OnErr result (IsUnchanged self.old self.new) }
+        ensures err { IsHonest self.old → OnErr result (HoldsAsBefore self.old self.new) }
+        ensures history { IsHonest self.old → TellsOfChange
+            (without server (index, number) (stood self.old)) self.old self.new }
     {
         if server >= self.stores.len() {
             return Err(GridFault::NoServer);
@@ -163,7 +172,9 @@ impl<S: Store> Grid<S> {
             ≡ nat_lt place (length (unwrap_or (stood self.old server (index, number)) []))) }
         ensures ok { IsHonest self.old →
             OnOk result (IsSpoiled server (index, number) place self.old self.new) }
-        ensures err { IsHonest self.old → OnErr result (IsUnchanged self.old self.new) }
+        ensures err { IsHonest self.old → OnErr result (HoldsAsBefore self.old self.new) }
+        ensures history { IsHonest self.old → TellsOfChange
+            (spoiled server (index, number) place (stood self.old)) self.old self.new }
     {
         if server >= self.stores.len() {
             return Err(GridFault::NoServer);
@@ -224,6 +235,8 @@ impl<S: Store> Grid<S> {
             OnOk result (ArePut index (map rc_slice_items shares.now) self.old self.new) }
         ensures err { IfErr result
             (StopsAt index (map rc_slice_items shares.now) self.old self.new) }
+        ensures history { IsHonest self.old → TellsOfChange (placed (length self.old.stores) index
+            (map rc_slice_items shares.now) (stood self.old)) self.old self.new }
         ensures never_full { IsHonest self.old →
             HasRoom self.old index (map rc_slice_items shares.now) →
             (s : ℕ) → IsErrOf result (GridFault.Full s) → ⊥ }
@@ -248,7 +261,9 @@ impl<S: Store> Grid<S> {
             IfOk result (λ lost. lost ≡ is_some (stood self.old server (index, number))) }
         ensures ok { IsHonest self.old →
             OnOk result (IsLost server (index, number) self.old self.new) }
-        ensures err { IsHonest self.old → OnErr result (IsUnchanged self.old self.new) }
+        ensures err { IsHonest self.old → OnErr result (HoldsAsBefore self.old self.new) }
+        ensures history { IsHonest self.old → TellsOfChange
+            (without server (index, number) (stood self.old)) self.old self.new }
     {
         size_laws();
         if server >= self.stores.len() {
@@ -275,7 +290,9 @@ impl<S: Store> Grid<S> {
             ≡ nat_lt place (length (unwrap_or (stood self.old server (index, number)) []))) }
         ensures ok { IsHonest self.old →
             OnOk result (IsSpoiled server (index, number) place self.old self.new) }
-        ensures err { IsHonest self.old → OnErr result (IsUnchanged self.old self.new) }
+        ensures err { IsHonest self.old → OnErr result (HoldsAsBefore self.old self.new) }
+        ensures history { IsHonest self.old → TellsOfChange
+            (spoiled server (index, number) place (stood self.old)) self.old self.new }
     {
         size_laws();
         if server >= self.stores.len() {
@@ -447,7 +464,10 @@ impl<S: Store> Grid<S> {
             stood self.new server (index, number) ≡ None }
         ensures ok { IsHonest self.old → OnOk result
             (IsPutHere server (index, number) (rc_slice_items bytes) self.old self.new) }
-        ensures err { IsHonest self.old → OnErr result (IsUnchanged self.old self.new) }
+        ensures err { IsHonest self.old → OnErr result (HoldsAsBefore self.old self.new) }
+        ensures history { IsHonest self.old → TellsOfChange
+            (put_at server (index, number) (rc_slice_items bytes) (stood self.old))
+            self.old self.new }
     {
         size_laws();
         answer_of(server, self.stores[server].put(index, number, bytes))

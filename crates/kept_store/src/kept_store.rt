@@ -1,7 +1,8 @@
 //! A store in memory with a shelf beside it.
-ghost use Rattle.std.specs.Prelude.{◌≡◌, ◌<◌, ◌≤◌, ◌+◌, ◌-◌, ◌^◌, ◌==◌, ◌↔◌, true, false, not, length, IsTrue, IfOk, OnOk, OnErr, IsErrOf, if◌then◌else◌};
+ghost use Rattle.std.specs.Prelude.{◌≡◌, ◌<◌, ◌≤◌, ◌+◌, ◌-◌, ◌^◌, ◌==◌, ◌↔◌, true, false, not, length, IsTrue, IfOk, OnOk, OnErr, IsErrOf, if◌then◌else◌, None};
 ghost use Rattle.std.specs.FinMap as map;
 ghost use Rattle.std.specs.Rc.{rc_slice_items};
+ghost use Rattle.share_store.specs.History.{IsEither, GoesOnBy};
 ghost use Rattle.share_store.specs.MapLaws.{held_fits};
 ghost use Rattle.share_store.specs.Put.{put_once};
 ghost use Rattle.share_store.specs.Stored.{shares_in};
@@ -40,11 +41,16 @@ fn with_bit_changed(alloc: Global, bytes: &[u8], place: usize) -> Result<RcSlice
 }
 
 impl<H: Shelf> KeptStore<H> {
-    /// The shelf beside it: until it failed, an honest one keeps the store's shares.
+    /// The shelf beside it: until it failed, an honest one keeps the store's shares. What an honest one tells of its past
+    /// is what the store tells.
     pub fn shelf(&self) -> &H
         ensures shelf { result.now ≡ self.now.shelf }
         ensures in_step { IsInStep H.moment H.left_since H.honest self.now.down result.now
             (⟦<KeptStore<H> as Store>⟧.shares self.now) }
+        ensures history { IsTrue (H.honest result.now) →
+            ⟦<KeptStore<H> as Store>⟧.history self.now ≡ H.history result.now }
+        ensures no_history { H.honest result.now ≡ false →
+            ⟦<KeptStore<H> as Store>⟧.history self.now ≡ None }
     {
         &self.shelf
     }
@@ -102,6 +108,11 @@ impl<H: Shelf> KeptStore<H> {
             (⟦<MemStore as Store>⟧.shares self.old.memory)
             (put_once (⟦<MemStore as Store>⟧.shares self.old.memory) (index, number)
             (rc_slice_items bytes)) }
+        ensures history { IsTrue (H.honest self.old.shelf) →
+            GoesOnBy (IsEither (⟦<MemStore as Store>⟧.shares self.old.memory)
+            (put_once (⟦<MemStore as Store>⟧.shares self.old.memory) (index, number)
+            (rc_slice_items bytes)))
+            (H.history self.old.shelf) (H.history self.new.shelf) }
         ensures stays_down { self.old.down ≡ true → self.new.down ≡ true }
         ensures goes_down { H.failures self.old.shelf < H.failures self.new.shelf →
             self.new.down ≡ true }
@@ -150,6 +161,10 @@ impl<H: Shelf> KeptStore<H> {
             self.old.down self.old.shelf self.new.shelf
             (⟦<MemStore as Store>⟧.shares self.old.memory)
             (map.remove (⟦<MemStore as Store>⟧.shares self.old.memory) (index, number)) }
+        ensures history { IsTrue (H.honest self.old.shelf) →
+            GoesOnBy (IsEither (⟦<MemStore as Store>⟧.shares self.old.memory)
+            (map.remove (⟦<MemStore as Store>⟧.shares self.old.memory) (index, number)))
+            (H.history self.old.shelf) (H.history self.new.shelf) }
         ensures stays_down { self.old.down ≡ true → self.new.down ≡ true }
         ensures goes_down { H.failures self.old.shelf < H.failures self.new.shelf →
             self.new.down ≡ true }
@@ -192,6 +207,10 @@ impl<H: Shelf> KeptStore<H> {
             self.old.down self.old.shelf self.new.shelf
             (⟦<MemStore as Store>⟧.shares self.old.memory)
             (with_toggle (⟦<MemStore as Store>⟧.shares self.old.memory) (index, number) place) }
+        ensures history { IsTrue (H.honest self.old.shelf) →
+            GoesOnBy (IsEither (⟦<MemStore as Store>⟧.shares self.old.memory)
+            (with_toggle (⟦<MemStore as Store>⟧.shares self.old.memory) (index, number) place))
+            (H.history self.old.shelf) (H.history self.new.shelf) }
         ensures stays_down { self.old.down ≡ true → self.new.down ≡ true }
         ensures goes_down { H.failures self.old.shelf < H.failures self.new.shelf →
             self.new.down ≡ true }
@@ -227,6 +246,9 @@ impl<H: Shelf> KeptStore<H> {
 
 impl<H: Shelf> Store for KeptStore<H> {
     ghost honest = { λ store. true };
+
+    ghost history = { λ store.
+        if H.honest store.shelf then H.history store.shelf else None };
 
     ghost shares = { λ store. ⟦<MemStore as Store>⟧.shares store.memory };
 

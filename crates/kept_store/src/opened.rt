@@ -22,6 +22,8 @@ fn take_in<H: Shelf>(
 ) -> Result<(), OpenFault>
     ensures honest { H.honest shelf.new ≡ H.honest shelf.old }
     ensures quiet { IsQuiet H.moment H.left_since shelf.old shelf.new }
+    ensures same_history { IsTrue (H.honest shelf.old) →
+        H.history shelf.new ≡ H.history shelf.old }
     ensures room { ⟦<MemStore as Store>⟧.room memory.new + ⟦<MemStore as Store>⟧.held memory.new
         ≡ ⟦<MemStore as Store>⟧.room memory.old + ⟦<MemStore as Store>⟧.held memory.old }
     ensures taken { IsTrue (H.honest shelf.old) →
@@ -65,6 +67,8 @@ impl<H: Shelf + Drop> KeptStore<H> {
             + ⟦<MemStore as Store>⟧.held store.memory ≡ room) }
         ensures quiet { IfOk result (λ store. IsQuiet H.moment H.left_since shelf store.shelf) }
         ensures same_honest { IfOk result (λ store. H.honest store.shelf ≡ H.honest shelf) }
+        ensures same_history { IsTrue (H.honest shelf) →
+            IfOk result (λ store. H.history store.shelf ≡ H.history shelf) }
         ensures shares { IsTrue (H.honest shelf) →
             (m : Shares) → Keeps H.moment H.left_since shelf m →
             IfOk result (λ store. ⟦<MemStore as Store>⟧.shares store.memory ≡ m) }

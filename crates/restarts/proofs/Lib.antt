@@ -5,4 +5,6 @@ pub mod Calls
 pub mod Places
 pub mod Lives
 pub mod Mends
+pub mod Steps
+pub mod MidCalls
 pub mod Histories

@@ -1,5 +1,5 @@
 -- Runs one after the other.
-use Rattle.std.proofs.Common.{◌≡◌, ℕ, List, [], ◌∷◌, ◌++◌, Bool, true, refl, sym, ap, subst, ◌∙◌, arith, inl, inr, eq-eqb}
+use Rattle.std.proofs.Common.{◌≡◌, ℕ, List, [], ◌∷◌, ◌++◌, Bool, true, refl, sym, ap, subst, ◌∙◌, eq-eqb}
 use Rattle.std.specs.Prelude.{All}
 use Rattle.std.proofs.lemmas.List.{append_assoc}
 use Rattle.octets.specs.Sharing.{IsSharing}
@@ -17,14 +17,13 @@ use Rattle.gate_core.specs.Uploaded.{IsProper, IsLeftBy, uploads_by, uploads_of}
 use Rattle.gate_core.specs.Rooms.{Rooms}
 use Rattle.gate_core.specs.Held.{State, waiting}
 use Rattle.gate_core.specs.Came.{Opening, Came}
-use Rattle.restarts.specs.Resumed.{IsEnd}
 use Rattle.restarts.specs.Lives.{Life, IsLived, AreLived, IsHistory, items_in, items_of, told_in, told_over, unheard, all_items}
-use Rattle.restarts.proofs.Ends.{still_proper}
+use Rattle.restarts.proofs.Mends.{proper_none, proper_ends}
 use Rattle.restarts.proofs.Runs.{said-append, proper-append, left-append}
 
 -- ---- a gateway's own secret has no part in runs
 
-same_after : (s : Settings) (own : List ℕ) (x : Entry) (w : World) → after_entry (under s own) x w ≡ after_entry s x w
+pub same_after : (s : Settings) (own : List ℕ) (x : Entry) (w : World) → after_entry (under s own) x w ≡ after_entry s x w
 same_after s own (Asked id secret item) w = refl
 same_after s own (Lost server key) w = refl
 same_after s own (Spoiled server key place) w = refl
@@ -60,20 +59,10 @@ proper_calls settings w rooms g events sharing same came = record {
   bytes = subst (All (λ (u : Upload). AreBytes u.bytes)) (ap (λ (s : Settings). uploads_of s (items events)) same ∙ same_uploads settings g.settings.secret (items events)) came.bytes;
 }
 
-proper_none : (settings : Settings) → IsSharing settings.k settings.n → IsProper settings []
-proper_none settings sharing = record { sharing = sharing; bytes = λ k d lt. absurd (omega arith) }
-
--- of what an item brought that ended so
-proper_end : (settings : Settings) (w : World) (x : Entry) (last : List Entry) → IsSharing settings.k settings.n → IsEnd w x last → IsProper settings (x ∷ []) → IsProper settings last
-proper_end settings w x last sharing (inl none) here = subst (IsProper settings) (sym none) (proper_none settings sharing)
-proper_end settings w x last sharing (inr (lost, is, new)) here = subst (IsProper settings) (sym is) (still_proper settings x lost here)
-
 proper_life : (settings : Settings) (w : World) (life : Life) → IsSharing settings.k settings.n → IsLived settings w life → IsProper settings (items_in life)
 proper_life settings w life sharing lived =
-    let done : IsProper settings life.done = record { sharing = sharing; bytes = lived.carried } in
-    let here : IsProper settings (life.at ∷ []) = record { sharing = sharing; bytes = lived.brings } in
-    let last : IsProper settings life.last = proper_end settings (world_after settings w (items life.events ++ life.done)) life.at life.last sharing lived.end here in
-    proper-append settings (items life.events) (life.done ++ life.last) (proper_calls settings w lived.rooms life.gateway life.events sharing lived.same lived.came) (proper-append settings life.done life.last done last)
+    proper-append settings (items life.events) life.ends (proper_calls settings w lived.rooms life.gateway life.events sharing lived.same lived.came)
+    (proper_ends settings (world_after settings w (items life.events)) life.asked life.ends sharing lived.end lived.proper)
 
 proper_lives : (settings : Settings) (w : World) (lives : List Life) → IsSharing settings.k settings.n → AreLived settings w lives → IsProper settings (items_of lives)
 proper_lives settings w [] sharing lived = proper_none settings sharing
@@ -107,10 +96,10 @@ module _ (whole : Whole) (settings : Settings) (caller : ℕ) where
 
   told_life : (w : World) (life : Life) → IsLived settings w life → handed caller life.events ++ unheard settings caller w life ≡ said_by by_fit settings caller w (items_in life)
   told_life w life lived =
-      let rest : List ℕ = said_by by_fit settings caller (world_after settings w (items life.events)) (life.done ++ life.last) in
+      let rest : List ℕ = said_by by_fit settings caller (world_after settings w (items life.events)) life.ends in
       sym (append_assoc (handed caller life.events) (waiting life.gateway caller) rest)
       ∙ ap (λ (l : List ℕ). l ++ rest) (told_calls w lived.rooms life.gateway life.events lived.same lived.came)
-      ∙ sym (said-append by_fit settings caller w (items life.events) (life.done ++ life.last))
+      ∙ sym (said-append by_fit settings caller w (items life.events) life.ends)
 
   told_lives : (w : World) (lives : List Life) → AreLived settings w lives → told_in settings caller w lives ≡ said_by by_fit settings caller w (items_of lives)
   told_lives w [] lived = refl

@@ -65,7 +65,7 @@ long_asked : (e : Encoding) (asked : Interpreted) (u : Upload) → upload_asked 
 long_asked e (Ok request) u is = long_in e request u is
 long_asked e (Err fault) u is = cc
 
-long_by : (settings : Settings) (item : Item) (u : Upload) → upload_by settings item ≡ Some u → nat_lt 55 (length u.bytes) ≡ true
+pub long_by : (settings : Settings) (item : Item) (u : Upload) → upload_by settings item ≡ Some u → nat_lt 55 (length u.bytes) ≡ true
 unfolding upload_by
 long_by settings (RequestItem head body close) u is = long_asked (encoding_in settings) (asked_of head body) u is
 long_by settings Continue u is = cc

@@ -1,5 +1,6 @@
 pub mod CutOff
 pub mod Resumed
+pub mod LeftIn
 pub mod Reopened
 pub mod Mended
 pub mod Stores

@@ -1,30 +1,29 @@
 -- Runs of a gateway, one after the other, each of which a crash ended, and what callers were told in them.
-use Rattle.std.specs.Prelude.{◌≡◌, ℕ, List, [], ◌∷◌, ◌++◌, All}
-use Rattle.erasure.specs.Code.{AreBytes}
+use Rattle.std.specs.Prelude.{◌≡◌, ℕ, List, [], ◌∷◌, ◌++◌}
+use Rattle.std.specs.List.{AllByRecursion}
 use Rattle.chk_file.specs.World.{World}
 use Rattle.chk_file.specs.Look.{by_fit}
 use Rattle.gate_core.specs.Settings.{Settings, under}
 use Rattle.gate_core.specs.Events.{Event, handed}
 use Rattle.gate_core.specs.Items.{Entry, items}
 use Rattle.gate_core.specs.Runs.{world_after, said_by}
-use Rattle.gate_core.specs.Uploaded.{uploads_of}
+use Rattle.gate_core.specs.Uploaded.{IsProper}
 use Rattle.gate_core.specs.Rooms.{Rooms}
 use Rattle.gate_core.specs.Held.{State, waiting}
 use Rattle.gate_core.specs.Came.{Came}
-use Rattle.restarts.specs.Resumed.{IsEnd}
+use Rattle.restarts.specs.Mended.{AreEnds}
 
--- A run that a crash ended: its calls that were answered, what the gateway held after them, the items that the call under
--- way had carried out, the one at which the crash came, and how that one ended.
+-- A run that a crash ended: its calls that were answered, what the gateway held after them, the items of the call under way,
+-- and how these ended.
 pub record Life : Type 0 where
   pub events : List Event
   pub gateway : State
-  pub done : List Entry
-  pub at : Entry
-  pub last : List Entry
+  pub asked : List Entry
+  pub ends : List Entry
 
 -- its items, as one run that goes on
 abbrev pub items_in : Life → List Entry
-items_in life = items life.events ++ (life.done ++ life.last)
+items_in life = items life.events ++ life.ends
 
 -- those of several runs, one after the other
 abbrev pub items_of : List Life → List Entry
@@ -36,9 +35,8 @@ pub record IsLived (settings : Settings) (w : World) (life : Life) : Type 0 wher
   pub same : life.gateway.settings ≡ under settings life.gateway.settings.secret
   pub rooms : Rooms
   pub came : Came (record { world = w; rooms = rooms }) life.gateway life.events
-  pub end : IsEnd (world_after settings w (items life.events ++ life.done)) life.at life.last
-  pub carried : All (λ u. AreBytes u.bytes) (uploads_of settings life.done)
-  pub brings : All (λ u. AreBytes u.bytes) (uploads_of settings (life.at ∷ []))
+  pub end : AreEnds settings (world_after settings w (items life.events)) life.asked life.ends
+  pub proper : AllByRecursion (λ x. IsProper settings (x ∷ [])) life.asked
 
 -- each run began where the one before it, and the crash, left off
 abbrev pub AreLived : Settings → World → List Life → Type 0
@@ -47,7 +45,7 @@ AreLived settings w (life ∷ lives) = IsLived settings w life × AreLived setti
 
 -- What a caller didn't get at the crash: what waited for it, and the answers of the call under way.
 abbrev pub unheard : Settings → ℕ → World → Life → List ℕ
-unheard settings caller w life = waiting life.gateway caller ++ said_by by_fit settings caller (world_after settings w (items life.events)) (life.done ++ life.last)
+unheard settings caller w life = waiting life.gateway caller ++ said_by by_fit settings caller (world_after settings w (items life.events)) life.ends
 
 -- what a caller was handed in each run, and what it didn't get there
 abbrev pub told_in : Settings → ℕ → World → List Life → List ℕ
@@ -70,7 +68,7 @@ all_items lives events = items_of lives ++ items events
 abbrev pub told_over : Settings → ℕ → World → List Life → State → List Event → List ℕ
 told_over settings caller w lives g events = told_in settings caller w lives ++ (handed caller events ++ waiting g caller)
 
--- a crash in a call that had carried out these items, at x, ended a run, and the next one begins with this gateway
-pub record Restarted (settings : Settings) (w : World) (lives : List Life) (g : State) (events : List Event) (done : List Entry) (x : Entry) (h : State) : Type 0 where
-  pub last : List Entry
-  pub history : IsHistory settings w (lives ++ record { events = events; gateway = g; done = done; at = x; last = last } ∷ []) h []
+-- a crash in a call that these items were asked for in ended a run, and the next one begins with this gateway
+pub record Restarted (settings : Settings) (w : World) (lives : List Life) (g : State) (events : List Event) (asked : List Entry) (h : State) : Type 0 where
+  pub ends : List Entry
+  pub history : IsHistory settings w (lives ++ record { events = events; gateway = g; asked = asked; ends = ends } ∷ []) h []

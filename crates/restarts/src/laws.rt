@@ -1,30 +1,37 @@
 //! Laws, each on a function that does nothing.
-ghost use Rattle.std.specs.Prelude.{◌≡◌, ◌++◌, ◌∷◌, ℕ, Bool, IsTrue, List, [], length, false};
+ghost use Rattle.std.specs.Prelude.{◌≡◌, ◌⊎◌, ◌+◌, ◌++◌, ◌∷◌, ℕ, Bool, IsTrue, List, [], length, take, false};
+ghost use Rattle.octets.specs.Sharing.{IsSharing};
 ghost use Rattle.std.specs.List.{AllByRecursion};
-ghost use Rattle.share_store.specs.Shares.{Shares};
+ghost use Rattle.share_store.specs.Shares.{Shares, ShareKey};
 ghost use Rattle.kept_store.specs.Calls.{after, MayBeLeft, IsRun};
 ghost use Rattle.kept_store.specs.Step.{IsInStep};
 ghost use Rattle.kept_store.specs.declared.calls.Call.{Call};
 ghost use Rattle.std.specs.FinMap as map;
 ghost use Rattle.grid.specs.Standing.{Standing, standing};
-ghost use Rattle.grid.specs.GridState.{stood, IsHonest};
+ghost use Rattle.grid.specs.GridState.{GridState, stood, IsHonest};
+ghost use Rattle.grid.specs.Changes.{without, spoiled};
+ghost use Rattle.grid.specs.Histories.{TellsOfChange};
+ghost use Rattle.http_edge.specs.Left.{frame_from};
 ghost use Rattle.chk_file.specs.Marks.{shown};
 ghost use Rattle.chk_file.specs.World.{World};
 ghost use Rattle.chk_file.specs.Look.{Look, by_fit};
 ghost use Rattle.gate_core.specs.Settings.{Settings, under};
 ghost use Rattle.gate_core.specs.Events.{Event, handed};
-ghost use Rattle.gate_core.specs.Items.{Entry, items};
+ghost use Rattle.gate_core.specs.Items.{Entry, Lost, Spoiled, items, entries_of_items};
 ghost use Rattle.gate_core.specs.Runs.{world_after, said_by, said};
 ghost use Rattle.gate_core.specs.Reach.{only, kept_by, kept};
 ghost use Rattle.gate_core.specs.Apart.{Apart};
 ghost use Rattle.gate_core.specs.Uploaded.{IsProper, IsLeftBy};
-ghost use Rattle.gate_core.specs.Held.{State, waiting};
+ghost use Rattle.gate_core.specs.Held.{Held, State, secret_at, waiting};
+ghost use Rattle.gate_core.specs.Served.{IsReceived};
+ghost use Rattle.gate_core.specs.Stopped.{IsCutShort};
 ghost use Rattle.gate_core.specs.Came.{Starts, GoesOn};
 ghost use Rattle.restarts.specs.CutOff.{IsCutOff};
 ghost use Rattle.restarts.specs.Resumed.{Resumed};
 ghost use Rattle.restarts.specs.Reopened.{Reopened};
 ghost use Rattle.restarts.specs.Mended.{AreCutOff, Mended};
 ghost use Rattle.restarts.specs.Stores.{AreLeft};
+ghost use Rattle.restarts.specs.LeftIn.{AreLeftIn};
 ghost use Rattle.restarts.specs.Lives.{Life, AreLived, IsHistory, Restarted, items_of, all_items, told_over};
 
 use share_shelf::Shelf;
@@ -92,6 +99,42 @@ pub fn refused_items_are_mended()
     gate_core::laws::came_begins();
 }
 
+/// A crash inside a call of a gateway cuts items off: whatever the stores tell of the call, at whatever moment of it each
+/// server is left, each item of the piece was done, cut off or not begun. It holds over honest stores, whether they have
+/// room and fail or not, and so of the call as it would have ended.
+pub fn calls_are_cut_off()
+    // by `received` of `Gateway::bytes`
+    ensures received { (old new : State) (id : ℕ) (held : Held) (piece : List ℕ) (d : Standing) →
+        IsHonest old.grid → length old.grid.stores ≡ old.settings.servers →
+        IsReceived old new id held piece → AreLeftIn old.grid new.grid d →
+        AreCutOff old.settings (stood old.grid) (entries_of_items id
+        (secret_at old.settings held) (frame_from held.conn piece)) d }
+    // and what these items upload are bytes
+    ensures proper { (old new : State) (id : ℕ) (held : Held) (piece : List ℕ) →
+        IsSharing old.settings.k old.settings.n → IsReceived old new id held piece →
+        AllByRecursion (λ x. IsProper old.settings (x ∷ [])) (entries_of_items id
+        (secret_at old.settings held) (frame_from held.conn piece)) }
+    // by `cut_short`, where memory runs out: of the items up to the one at which it does
+    ensures cut_short { (old new : State) (id : ℕ) (held : Held) (piece : List ℕ) (d : Standing)
+        (short : IsCutShort old new id held piece) →
+        IsHonest old.grid → length old.grid.stores ≡ old.settings.servers →
+        AreLeftIn old.grid new.grid d →
+        AreCutOff old.settings (stood old.grid) (entries_of_items id (secret_at old.settings held)
+        (take (short.stopped.done + 1) (frame_from held.conn piece))) d }
+    // by `ok`, `err` and `history` of `Gateway::lose` and `Gateway::spoil`
+    ensures lost { (settings : Settings) (server : ℕ) (key : ShareKey) (old new : GridState)
+        (d : Standing) → (stood new ≡ stood old) ⊎ (stood new ≡ without server key (stood old)) →
+        TellsOfChange (without server key (stood old)) old new →
+        AreLeftIn old new d → AreCutOff settings (stood old) (Lost server key ∷ []) d }
+    ensures spoiled { (settings : Settings) (server : ℕ) (key : ShareKey) (place : ℕ)
+        (old new : GridState) (d : Standing) →
+        (stood new ≡ stood old) ⊎ (stood new ≡ spoiled server key place (stood old)) →
+        TellsOfChange (spoiled server key place (stood old)) old new →
+        AreLeftIn old new d → AreCutOff settings (stood old) (Spoiled server key place ∷ []) d }
+{
+    chk_file::laws::marks_follow_the_grid();
+}
+
 /// Histories over restarts go on: with each call of a gateway that its own contract takes on, and with each crash.
 pub fn histories_go_on()
     // where a gateway starts from a world
@@ -102,18 +145,31 @@ pub fn histories_go_on()
         (events : List Event) (e : Event) → IsHistory settings w lives old events →
         new.settings ≡ old.settings → GoesOn old new e →
         IsHistory settings w lives new (events ++ e ∷ []) }
-    // the run that a crash ended is one more behind it, and a gateway over what the crash left begins the next
+    // The run that a crash ended is one more behind it, and a gateway over what the crash left begins the next: each item
+    // of the call under way was done, cut off or not begun.
     ensures crashed { (settings : Settings) (w : World) (lives : List Life) (g : State)
-        (events : List Event) (done : List Entry) (x : Entry) (c : Standing) (h : State) →
+        (events : List Event) (asked : List Entry) (c : Standing) (h : State) →
         IsHistory settings w lives g events →
-        IsProper settings done → IsProper settings (x ∷ []) →
-        IsCutOff settings (world_after settings (world_after settings w (items_of lives))
-        (items events ++ done)) x c →
+        AllByRecursion (λ x. IsProper settings (x ∷ [])) asked →
+        AreCutOff settings (shown (world_after settings (world_after settings w (items_of lives))
+        (items events)).marks) asked c →
         h.settings ≡ under settings h.settings.secret →
         h.connections ≡ map.empty → length h.grid.stores ≡ h.settings.servers →
         IsHonest h.grid → stood h.grid ≡ c →
-        Restarted settings w lives g events done x h }
+        Restarted settings w lives g events asked h }
+    // So it is of a crash inside `Gateway::bytes`, at whatever moment of the call each server was left.
+    ensures crashed_in_bytes { (settings : Settings) (w : World) (lives : List Life)
+        (g new : State) (events : List Event) (id : ℕ) (held : Held) (piece : List ℕ)
+        (c : Standing) (h : State) → IsSharing settings.k settings.n →
+        IsHistory settings w lives g events → IsReceived g new id held piece →
+        AreLeftIn g.grid new.grid c →
+        h.settings ≡ under settings h.settings.secret →
+        h.connections ≡ map.empty → length h.grid.stores ≡ h.settings.servers →
+        IsHonest h.grid → stood h.grid ≡ c →
+        Restarted settings w lives g events (entries_of_items id
+        (secret_at g.settings held) (frame_from held.conn piece)) h }
 {
+    chk_file::laws::marks_follow_the_grid();
     crashes_are_losses();
     gate_core::laws::came_begins();
 }

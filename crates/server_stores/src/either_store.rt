@@ -26,6 +26,8 @@ impl<K: Store, D: Store> Store for EitherStore<K, D> {
 
     ghost failures = { elim [ First store ↦ K.failures store | Second store ↦ D.failures store ] };
 
+    ghost history = { elim [ First store ↦ K.history store | Second store ↦ D.history store ] };
+
     fn has(&mut self, index: [u8; 16], number: u16) -> Result<bool, AllocError> {
         match self {
             EitherStore::First(store) => store.has(index, number),

@@ -203,7 +203,7 @@ fn gateway_over<S: Store + Drop>(
         servers = vec_len stores;
       };
       connections = map.empty;
-      grid = states S.shares S.room S.held S.failures S.honest stores.items;
+      grid = states S.shares S.room S.held S.failures S.honest S.history stores.items;
     }) }
 {
     match Gateway::resume(alloc, shares.needed, shares.made, stores, secret) {

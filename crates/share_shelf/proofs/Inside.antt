@@ -1,8 +1,10 @@
 -- A shelf with a shelf in memory inside.
-use Rattle.std.proofs.Common.{◌≡◌, ℕ, Result, sym, subst, length}
+use Rattle.std.proofs.Common.{◌≡◌, ℕ, Result, Some, sym, subst, length}
 use Rattle.std.specs.Prelude.{OnOk}
+use Rattle.std.specs.FinMap.{empty}
 use Rattle.share_store.specs.Shares.{Shares}
-use Rattle.share_shelf.specs.Kept.{told_of, HadBeen}
+use Rattle.share_store.specs.History.{History, GoesOnBy}
+use Rattle.share_shelf.specs.Kept.{told_of, states_from, HadBeen}
 use Rattle.share_shelf.specs.Left.{Keeps, LeavesOnly, IsChanged, MayBeChanged}
 use Rattle.share_shelf.specs.declared.mem_shelf.MemShelf.{MemShelf}
 
@@ -27,3 +29,10 @@ each_as r old mid new f same each = subst (λ (s : MemShelf). OnOk r ((c : Share
 
 pub maybe_as : (old mid new : MemShelf) (f : Shares → Shares) → mid ≡ old → LeavesOnly moment_of left_of mid new (MayBeChanged moment_of left_of mid f) → LeavesOnly moment_of left_of old new (MayBeChanged moment_of left_of old f)
 maybe_as old mid new f same leaves = subst (λ (s : MemShelf). LeavesOnly moment_of left_of s new (MayBeChanged moment_of left_of s f)) same leaves
+
+abbrev pub history_of : MemShelf → History
+history_of shelf = Some (states_from empty (told_of shelf.changes.items))
+
+-- and its history goes on as that one's
+pub goes_as : (old mid new : MemShelf) (P : Shares → Type 0) → mid ≡ old → GoesOnBy P (history_of mid) (history_of new) → GoesOnBy P (history_of old) (history_of new)
+goes_as old mid new P same goes = subst (λ (s : MemShelf). GoesOnBy P (history_of s) (history_of new)) same goes

@@ -31,6 +31,11 @@ after (t ∷ told) m = after told (with_told t m)
 abbrev pub stood_after : List Told → ℕ → Shares
 stood_after told k = after (take k told) empty
 
+-- what stood after each of these changes, the first of them first
+abbrev pub states_from : Shares → List Told → List Shares
+states_from m [] = []
+states_from m (t ∷ told) = with_told t m ∷ states_from (with_told t m) told
+
 -- what stood after some of the changes, no fewer than t
 pub record HadBeen (told : List Told) (t : ℕ) (c : Shares) : Type 0 where
   pub k : ℕ

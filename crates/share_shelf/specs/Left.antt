@@ -3,10 +3,7 @@ use Rattle.std.specs.Prelude.{◌≡◌, ◌≤◌, ◌⊎◌, ℕ}
 use Rattle.std.specs.Coded.{Coded-set, coded×, coded_ℕ, coded_list}
 use Rattle.std.specs.FinMap as finite
 use Rattle.share_store.specs.Shares.{Shares, key_cmp}
-
--- one of these two
-abbrev pub IsEither : Shares → Shares → Shares → Type 0
-IsEither a b c = (c ≡ a) ⊎ (c ≡ b)
+pub use Rattle.share_store.specs.History.{IsEither}
 
 module _ {H : Type 0} (moment : H → ℕ) (left_since : H → ℕ → Shares → Type 0) where
   -- a crash now leaves these shares and nothing else

@@ -28,6 +28,8 @@ impl FailShelf {
         ensures keeps { (m : Shares) →
             Keeps ⟦<MemShelf as Shelf>⟧.moment ⟦<MemShelf as Shelf>⟧.left_since inner m →
             Keeps ⟦<FailShelf as Shelf>⟧.moment ⟦<FailShelf as Shelf>⟧.left_since result m }
+        ensures history { ⟦<FailShelf as Shelf>⟧.history result
+            ≡ ⟦<MemShelf as Shelf>⟧.history inner }
         ensures failures { ⟦<FailShelf as Shelf>⟧.failures result ≡ 0 }
     {
         FailShelf {
@@ -52,6 +54,8 @@ impl FailShelf {
         ensures keeps { (m : Shares) →
             Keeps ⟦<FailShelf as Shelf>⟧.moment ⟦<FailShelf as Shelf>⟧.left_since self m →
             Keeps ⟦<MemShelf as Shelf>⟧.moment ⟦<MemShelf as Shelf>⟧.left_since result m }
+        ensures history { ⟦<MemShelf as Shelf>⟧.history result
+            ≡ ⟦<FailShelf as Shelf>⟧.history self }
     {
         self.inner
     }
@@ -88,6 +92,8 @@ impl Shelf for FailShelf {
     ghost moment = { λ shelf. ⟦<MemShelf as Shelf>⟧.moment shelf.inner };
 
     ghost left_since = { λ shelf t c. ⟦<MemShelf as Shelf>⟧.left_since shelf.inner t c };
+
+    ghost history = { λ shelf. ⟦<MemShelf as Shelf>⟧.history shelf.inner };
 
     ghost shares = { λ shelf. ⟦<MemShelf as Shelf>⟧.shares shelf.inner };
 

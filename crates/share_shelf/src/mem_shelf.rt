@@ -1,10 +1,10 @@
 //! A shelf in memory, which remembers what it held.
-ghost use Rattle.std.specs.Prelude.{◌≡◌, ◌≤◌, ◌++◌, ◌∷◌, [], IsTrue, true, Some, None, length, IfOk, OnOk, OnErr};
+ghost use Rattle.std.specs.Prelude.{◌≡◌, ◌≤◌, ◌⊎◌, ◌↔◌, ℕ, List, ◌++◌, ◌∷◌, [], drop, Contains, IsTrue, true, Some, None, length, IfOk, OnOk, OnErr};
 ghost use Rattle.std.specs.FinMap.{empty};
 ghost use Rattle.std.specs.Rc.{rc_slice_items};
 ghost use Rattle.share_store.specs.Shares.{Shares};
 ghost use Rattle.share_store.specs.Stored.{shares_in};
-ghost use Rattle.share_shelf.specs.Kept.{told_by, told_of, after, stood_after, HadBeen, narrowed, kept_is};
+ghost use Rattle.share_shelf.specs.Kept.{told_by, told_of, after, stood_after, states_from, HadBeen, narrowed, kept_is};
 ghost use Rattle.share_shelf.specs.Left.{Keeps, shares-set};
 
 use crate::{Shelf, ShelfFault};
@@ -39,6 +39,7 @@ impl MemShelf {
         ensures keeps { Keeps ⟦<MemShelf as Shelf>⟧.moment
             ⟦<MemShelf as Shelf>⟧.left_since result empty }
         ensures none_told { told_of result.changes.items ≡ [] }
+        ensures history { ⟦<MemShelf as Shelf>⟧.history result ≡ Some [] }
     {
         MemShelf {
             map: ShareMap::new(alloc),
@@ -68,6 +69,18 @@ impl MemShelf {
         ensures { (m : Shares)
             × Keeps ⟦<MemShelf as Shelf>⟧.moment ⟦<MemShelf as Shelf>⟧.left_since self.now m
             × ⟦<MemShelf as Shelf>⟧.left_since self.now (⟦<MemShelf as Shelf>⟧.moment self.now) m }
+    {
+        let _changes = &self.changes;
+    }
+
+    /// A law and no more: it tells as many shares of its past as changes were done, and from a moment on a crash might
+    /// have left what stood then, or what it tells past that, and nothing else.
+    pub fn history_is_all_that_was_left(&self)
+        ensures told { (h : List Shares) × (⟦<MemShelf as Shelf>⟧.history self.now ≡ Some h)
+            × (length h ≡ ⟦<MemShelf as Shelf>⟧.moment self.now)
+            × ((t : ℕ) (c : Shares) → t ≤ ⟦<MemShelf as Shelf>⟧.moment self.now →
+            ⟦<MemShelf as Shelf>⟧.left_since self.now t c ↔
+            ((c ≡ stood_after (told_of self.now.changes.items) t) ⊎ Contains (drop t h) c)) }
     {
         let _changes = &self.changes;
     }
@@ -144,6 +157,8 @@ impl Shelf for MemShelf {
     ghost moment = { λ shelf. length (told_of shelf.changes.items) };
 
     ghost left_since = { λ shelf t c. HadBeen (told_of shelf.changes.items) t c };
+
+    ghost history = { λ shelf. Some (states_from empty (told_of shelf.changes.items)) };
 
     ghost shares = { λ shelf. after (told_of shelf.changes.items) empty };
 

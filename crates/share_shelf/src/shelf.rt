@@ -1,9 +1,10 @@
 //! What a store asks of a shelf.
-ghost use Rattle.std.specs.Prelude.{◌≡◌, ◌<◌, ◌≤◌, ◌↔◌, ℕ, Bool, IsTrue, length, map as map_list, IfOk, OnOk, IsErrOf};
+ghost use Rattle.std.specs.Prelude.{◌≡◌, ◌<◌, ◌≤◌, ◌↔◌, ℕ, Bool, IsTrue, length, map as map_list, IfOk, OnOk, IsErrOf, None};
 ghost use Rattle.std.specs.Option.{option_map};
 ghost use Rattle.std.specs.FinMap as map;
 ghost use Rattle.std.specs.Rc.{rc_slice_items};
 ghost use Rattle.share_store.specs.Shares.{Shares};
+ghost use Rattle.share_store.specs.History.{History, GoesOnBy};
 ghost use Rattle.share_shelf.specs.Left.{Keeps, IsEither, LeavesOnly, IsQuiet, IsChanged, MayBeChanged};
 
 use crate::ShelfFault;
@@ -24,6 +25,9 @@ pub trait Shelf {
     /// What a crash at some moment from that one on might have left, during a call or between two.
     ghost left_since: { Self → ℕ → Shares → Type 0 };
 
+    /// What a crash might have left on it so far, the oldest first, where the shelf tells it.
+    ghost history: { Self → History } = { λ _. None };
+
     /// What stands on it, as far as that is known.
     ghost shares: { Self → Shares };
 
@@ -35,6 +39,7 @@ pub trait Shelf {
     fn list(&mut self, alloc: Global) -> Result<Vec<([u8; 16], u16)>, ShelfFault>
         ensures honest { honest self.new ≡ honest self.old }
         ensures quiet { IsQuiet moment left_since self.old self.new }
+        ensures same_history { IsTrue (honest self.old) → history self.new ≡ history self.old }
         ensures rises { failures self.old ≤ failures self.new }
         ensures failed { IsErrOf result ShelfFault.Failed ↔
             (failures self.old < failures self.new) }
@@ -46,6 +51,7 @@ pub trait Shelf {
     fn read(&mut self, index: [u8; 16], number: u16) -> Result<Option<RcSlice<u8>>, ShelfFault>
         ensures honest { honest self.new ≡ honest self.old }
         ensures quiet { IsQuiet moment left_since self.old self.new }
+        ensures same_history { IsTrue (honest self.old) → history self.new ≡ history self.old }
         ensures rises { failures self.old ≤ failures self.new }
         ensures failed { IsErrOf result ShelfFault.Failed ↔
             (failures self.old < failures self.new) }
@@ -78,6 +84,10 @@ pub trait Shelf {
             (m : Shares) → Keeps moment left_since self.old m →
             LeavesOnly moment left_since self.old self.new
             (IsEither m (map.insert m (index, number) (rc_slice_items bytes))) }
+        ensures history { IsTrue (honest self.old) →
+            (m : Shares) → Keeps moment left_since self.old m →
+            GoesOnBy (IsEither m (map.insert m (index, number) (rc_slice_items bytes)))
+            (history self.old) (history self.new) }
 
         // Where a change failed before, a crash may leave more than one thing, and each is changed so.
         ensures done_each { IsTrue (honest self.old) → OnOk result ((c : Shares) →
@@ -104,6 +114,10 @@ pub trait Shelf {
             (m : Shares) → Keeps moment left_since self.old m →
             LeavesOnly moment left_since self.old self.new
             (IsEither m (map.remove m (index, number))) }
+        ensures history { IsTrue (honest self.old) →
+            (m : Shares) → Keeps moment left_since self.old m →
+            GoesOnBy (IsEither m (map.remove m (index, number)))
+            (history self.old) (history self.new) }
         ensures done_each { IsTrue (honest self.old) → OnOk result ((c : Shares) →
             left_since self.new (moment self.new) c → IsChanged moment left_since self.old
             (λ d. map.remove d (index, number)) c) }

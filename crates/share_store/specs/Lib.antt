@@ -1,3 +1,4 @@
+pub mod History
 pub mod Looked
 pub mod MapLaws
 pub mod Numbers

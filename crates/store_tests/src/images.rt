@@ -114,7 +114,7 @@ fn copy_through_image<S: Store, T: Store>(
     requires many { vec_len stores ≡ length_of grid.old.stores }
     requires empty { All (λ store. T.held store ≡ 0) stores.items }
     ensures same { IsHonest grid.old →
-        IsHonest (states T.shares T.room T.held T.failures T.honest stores.items) →
+        IsHonest (states T.shares T.room T.held T.failures T.honest T.history stores.items) →
         IfOk result (λ copy. maps_of copy ≡ maps_of grid.old) }
 {
     image_laws();

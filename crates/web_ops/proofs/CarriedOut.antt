@@ -1,7 +1,7 @@
 -- Calls that store an upload, and requests.
-use Rattle.std.proofs.Common.{Fits, w8, get_or, ◌≡◌, ◌+◌, ◌<◌, ◌≤◌, ℕ, List, length, take, Bool, true, false, cond, Option, Some, None, Result, Ok, Err, IfOk, OnOk, refl, sym, ap, subst, ◌∙◌, arith, inl}
+use Rattle.std.proofs.Common.{Fits, w8, get_or, ◌≡◌, ◌+◌, ◌<◌, ◌≤◌, ℕ, List, length, Bool, true, false, cond, Option, Some, None, Result, Ok, Err, IfOk, OnOk, refl, sym, ap, subst, ◌∙◌, arith, inl}
 use Rattle.std.specs.Prelude.{◌↔◌, ⊤, IsTrue, nat_lt}
-use Rattle.std.specs.Result.{IsOkUnless}
+use Rattle.std.specs.Result.{IsOkUnless, IsErrAnd}
 use Rattle.std.proofs.lemmas.Bool.Decides.{nat_tests}
 use Rattle.std.proofs.lemmas.List.{take_all, get_or_default}
 use Rattle.std.proofs.lemmas.Result.{IfOk-weaker}
@@ -9,7 +9,7 @@ use Rattle.std.specs.declared.alloc.AllocError.{AllocError}
 use Rattle.caps.specs.declared.cap.Cap.{Cap}
 use Rattle.grid.specs.Standing.{standing}
 use Rattle.erasure.specs.Code.{AreBytes}
-use Rattle.grid.specs.GridState.{GridState, stood, maps_of, room_at, failures_at, IsHonest, NoneFailed}
+use Rattle.grid.specs.GridState.{GridState, stood, maps_of, room_at, failures_at, history_at, IsHonest, NoneFailed}
 use Rattle.grid.specs.Leaves.{Leaves, IsUnchanged}
 use Rattle.grid.specs.NewBytes.{HasRoom}
 use Rattle.grid.specs.declared.fault.GridFault.TheVariants.{Full, Down}
@@ -31,8 +31,9 @@ use Rattle.web_ops.specs.Uploads.{if_long, as_directory, made_upload, upload_in}
 use Rattle.web_ops.specs.Replies.{cap_reply, bad_children, store_full, store_down}
 use Rattle.web_ops.specs.Answers.{made_reply}
 use Rattle.web_ops.specs.Replied.{IsStored, IsMade}
-use Rattle.web_ops.specs.Changes.{IsBegunIn, TellsOf}
+use Rattle.web_ops.specs.Changes.{TellsOfUpload, IsBegun, IsBegunIn, TellsOf}
 use Rattle.web_ops.specs.Calls.{IsFound, IsCarriedOut, IsRequest, IsPerformed}
+use Rattle.grid.proofs.Histories.{tells_none}
 use Rattle.grid.proofs.Standing.{placed_none}
 use Rattle.grid.proofs.Turns.{leaves_none, unchanged_none}
 use Rattle.web_ops.proofs.Found.{unasked}
@@ -55,7 +56,11 @@ nothing_stored Fresh Fits says r old new found = record {
 -- ---- uploads
 
 same_grid : (old new : GridState) → new ≡ old → IsUnchanged old new
-same_grid old new e = record { maps = ap maps_of e; rooms = λ s. ap (λ g. room_at g s) e }
+same_grid old new e = record {
+  maps = ap maps_of e;
+  rooms = λ s. ap (λ g. room_at g s) e;
+  histories = λ s. ap (λ g. history_at g s) e;
+}
 
 no_more : (n : ℕ) → n ≤ n
 no_more n = omega arith
@@ -105,21 +110,27 @@ down_tells u server x old new is stops failed = record {
 
 module _ (u : Upload) (cap : Cap) (r : Result Reply AllocError) (old new : GridState) (leaves : Leaves old new) (bytes : AreBytes u.bytes) (same : length u.bytes ≤ 55 → new ≡ old) where
   stored_by : (b : Bool) → (b ≡ true → 55 < length u.bytes) → (b ≡ false → length u.bytes ≤ 55) → IfOk r (λ x. x ≡ cap_reply cap)
+      → (IsHonest old → TellsOfUpload u old new)
       → (55 < length u.bytes → IsHonest old → ArePut (index u) (shares_of u) old new)
       → (55 < length u.bytes → IsHonest old → AllStand u old new)
       → (IsHonest old → (w : World) → stood old ≡ shown w.marks → stood new ≡ shown (after_upload (length old.stores) u w).marks)
       → IsCarriedOut ⊤ (cond b (Some u) None) (IsStored cap) (λ look. cap_reply cap) r old new
-  stored_by true many few is put all stand = record {
+  stored_by true many few is tells put all stand = record {
     leaves = leaves;
     fits = IfOk-weaker r _ _ (λ x e. inl e) is;
     bytes = IfOk-weaker r _ _ (λ x e. bytes) is;
-    begun = λ honest. (length (shares_of u), subst (λ s. ArePut (index u) s old new) (sym (take_all (length (shares_of u)) (shares_of u) (no_more (length (shares_of u))))) (put (many refl) honest));
+    begun = λ honest. record {
+      servers = leaves.servers;
+      m = length (shares_of u);
+      put = subst (λ s. ArePut (index u) s old new) (sym (take_all (length (shares_of u)) (shares_of u) (no_more (length (shares_of u))))) (put (many refl) honest);
+      history = tells honest;
+    };
     tells = IfOk-weaker r _ _ (λ x e. cap_tells u cap x old new e (all (many refl))) is;
     written = λ fresh honest room calm. is;
     stored = λ honest room calm. IfOk-weaker r _ _ (λ x e. put (many refl) honest) is;
     world = λ honest room calm. IfOk-weaker r _ _ (λ x e. stand honest) is;
   }
-  stored_by false many few is put all stand = record {
+  stored_by false many few is tells put all stand = record {
     leaves = leaves;
     fits = IfOk-weaker r _ _ (λ x e. inl e) is;
     bytes = IfOk-weaker r _ _ (λ x e. tt) is;
@@ -132,15 +143,16 @@ module _ (u : Upload) (cap : Cap) (r : Result Reply AllocError) (old new : GridS
 
   -- the upload was stored
   pub stored : IfOk r (λ x. x ≡ cap_reply cap)
+      → (IsHonest old → TellsOfUpload u old new)
       → (55 < length u.bytes → IsHonest old → ArePut (index u) (shares_of u) old new)
       → (55 < length u.bytes → IsHonest old → AllStand u old new)
       → (IsHonest old → (w : World) → stood old ≡ shown w.marks → stood new ≡ shown (after_upload (length old.stores) u w).marks)
       → IsCarriedOut ⊤ (if_long u) (IsStored cap) (λ look. cap_reply cap) r old new
-  stored is put all stand = stored_by (nat_lt 55 (length u.bytes)) (long (length u.bytes)) (short (length u.bytes)) is put all stand
+  stored is tells put all stand = stored_by (nat_lt 55 (length u.bytes)) (long (length u.bytes)) (short (length u.bytes)) is tells put all stand
 
   stopped_by : (b : Bool) → (b ≡ true → 55 < length u.bytes) → (b ≡ false → length u.bytes ≤ 55) → IfOk r (IsStored cap)
       → IfOk r (λ x. TellsOf u x old new)
-      → (IsHonest old → (m : ℕ) × ArePut (index u) (take m (shares_of u)) old new)
+      → (IsHonest old → IsBegun u old new)
       → (IsHonest old → HasRoom old (index u) (shares_of u) → NoneFailed old new → OnOk r ⊥) → (length u.bytes ≤ 55 → OnOk r ⊥)
       → IsCarriedOut ⊤ (cond b (Some u) None) (IsStored cap) (λ look. cap_reply cap) r old new
   stopped_by true many few fits tells begun never_long never_short = record {
@@ -167,7 +179,7 @@ module _ (u : Upload) (cap : Cap) (r : Result Reply AllocError) (old new : GridS
   -- the upload was stopped: not where there is room and no store fails, nor where it is short
   pub stopped : IfOk r (IsStored cap)
       → IfOk r (λ x. TellsOf u x old new)
-      → (IsHonest old → (m : ℕ) × ArePut (index u) (take m (shares_of u)) old new)
+      → (IsHonest old → IsBegun u old new)
       → (IsHonest old → HasRoom old (index u) (shares_of u) → NoneFailed old new → OnOk r ⊥) → (length u.bytes ≤ 55 → OnOk r ⊥)
       → IsCarriedOut ⊤ (if_long u) (IsStored cap) (λ look. cap_reply cap) r old new
   stopped fits tells begun never_long never_short = stopped_by (nat_lt 55 (length u.bytes)) (long (length u.bytes)) (short (length u.bytes)) fits tells begun never_long never_short
@@ -200,7 +212,12 @@ plus_none n = omega arith
 
 nothing_begun : (o : Option Upload) (g : GridState) → IsBegunIn o g g
 nothing_begun None g = unchanged_none g
-nothing_begun (Some u) g = (0, record { stands = sym (placed_none (length g.stores) (index u) (stood g)); rooms = λ s. plus_none (room_at g s) })
+nothing_begun (Some u) g = record {
+  servers = refl;
+  m = 0;
+  put = record { stands = sym (placed_none (length g.stores) (index u) (stood g)); rooms = λ s. plus_none (room_at g s) };
+  history = tells_none _ g g refl;
+}
 
 -- memory was refused before anything was stored
 pub not_begun : (e : Encoding) (request : Request) (fault : AllocError) (g : GridState) → IsPerformed e request (Err fault) g g
@@ -214,6 +231,10 @@ not_begun e request fault g = record {
   stored = λ honest room calm. tt;
   world = λ honest room calm. tt;
 }
+
+pub refused_before : (P : AllocError → Type 0) (e : Encoding) (request : Request) (r : Result Reply AllocError) (g : GridState) → IsErrAnd r P → IsPerformed e request r g g
+refused_before P e request (Ok x) g refused = absurd refused
+refused_before P e request (Err fault) g refused = not_begun e request fault g
 
 -- ---- directories
 

@@ -5,6 +5,8 @@ use Rattle.grid.specs.GridState.{GridState, stood, failures_at, IsHonest}
 use Rattle.grid.specs.Leaves.{IsUnchanged}
 use Rattle.grid.specs.NewBytes.{HasRoom}
 use Rattle.grid.specs.Changed.{ArePut, StopsAt}
+use Rattle.grid.specs.Histories.{TellsOfChange}
+use Rattle.grid.specs.Placement.{placed}
 use Rattle.chk_file.specs.AllStand.{AllStand}
 use Rattle.chk_file.specs.Upload.{Upload, index, shares_of}
 use Rattle.chk_file.specs.Marks.{shown}
@@ -24,10 +26,21 @@ abbrev pub IsStoredIn : Option Upload → GridState → GridState → Type 0
 IsStoredIn None old new = IsUnchanged old new
 IsStoredIn (Some u) old new = ArePut (index u) (shares_of u) old new
 
--- the first of them, in the order of their numbers
+-- What the stores tell of an upload: a crash in it leaves at each place what stood there, or the share that goes there.
+abbrev pub TellsOfUpload : Upload → GridState → GridState → Type 0
+TellsOfUpload u old new = TellsOfChange (placed (length old.stores) (index u) (shares_of u) (stood old)) old new
+
+-- the first of them, in the order of their numbers, and a crash on the way leaves no other
+pub record IsBegun (u : Upload) (old new : GridState) : Type 0 where
+  pub servers : length new.stores ≡ length old.stores
+  pub m : ℕ
+  pub put : ArePut (index u) (take m (shares_of u)) old new
+  pub history : TellsOfUpload u old new
+
+-- the same, if there is an upload
 abbrev pub IsBegunIn : Option Upload → GridState → GridState → Type 0
 IsBegunIn None old new = IsUnchanged old new
-IsBegunIn (Some u) old new = (m : ℕ) × ArePut (index u) (take m (shares_of u)) old new
+IsBegunIn (Some u) old new = IsBegun u old new
 
 -- whatever world stood, the one after what was stored stands
 abbrev pub Follows : Option Upload → GridState → GridState → Type 0

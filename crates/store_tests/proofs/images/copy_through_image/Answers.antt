@@ -31,6 +31,6 @@ returns g c = record {
       let back = c.image_laws.ensures.read_back VersionTwo servers rows (c.in_default.ensures.rows all) in
       let said : (image_said (vec_len stores) bytes).rows ≡ rows =
       ap (λ n. (image_said n bytes).rows) c.requires.many ∙ ap (λ b. (image_said servers b).rows) written ∙ ap (λ (r : Reading). r.rows) back in
-      by_rows c.read_image.result (states store.shares store.room store.held store.failures store.honest stores.items) _ (image_said (vec_len stores) bytes).rows (maps_of old) c.image_laws.ensures
+      by_rows c.read_image.result (states store.shares store.room store.held store.failures store.honest store.history stores.items) _ (image_said (vec_len stores) bytes).rows (maps_of old) c.image_laws.ensures
       (length-map stores.items _ ∙ sym stores.ok.0 ∙ c.requires.many ∙ sym (length-map old.stores (λ (t : StoreState). t.shares))) said c.read_image.ensures.leaves (c.read_image.ensures.ok empty);
 }

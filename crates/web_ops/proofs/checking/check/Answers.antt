@@ -4,7 +4,7 @@ use Rattle.caps.specs.Weakening.{weakened}
 use Rattle.caps.specs.Kinds.{is_verify_cap}
 use Rattle.web_ops.specs.Answers.{health_reply}
 use Rattle.web_ops.specs.Replied.{IsHealth}
-use Rattle.web_ops.proofs.Found.{from_somewhere, walked_to}
+use Rattle.web_ops.proofs.Found.{from_somewhere, walked_to, walk_stopped}
 use Rattle.chk_file.proofs.Freshness.{fresh_stays}
 use Rattle.web_ops.proofs.checking.check.Goals as goal
 
@@ -17,3 +17,9 @@ returns-in-Ok-clause-found g c =
 pub returns-in-Ok-clause-fresh : goal.returns-in-Ok-clause-fresh
 returns-in-Ok-clause-fresh g c fresh =
     fresh_stays c.walk.new.cache c.walk.new.grid c.health.new.grid c.health.ensures.found.leaves c.health.ensures.stamped (c.walk.ensures.fresh fresh)
+
+pub returns-in-Err-clause-found : goal.returns-in-Err-clause-found
+returns-in-Err-clause-found g c =
+    from_somewhere _ (is_verify_cap c.args.cap.now && not (length c.args.names.now == 0)) _ _ c.args.cap.now c.args.names.now c.walk_refused.result c.args.grid.now c.walk.new.grid (sym c.leads_nowhere.ensures ∙ c.if-leads_nowhere.false)
+    (walk_stopped _ (λ end. IsHealth (weakened end)) (λ look. health_reply look c.args.verify) c.args.cap.now c.args.names.now c.in-Err.fault c.walk_refused.result c.args.grid.now c.walk.new.grid
+    c.walk.ensures.leaves c.walk.ensures.unchanged c.in-Err.ensures.stops c.in-Err.ensures.refused c.walk_refused.ensures)

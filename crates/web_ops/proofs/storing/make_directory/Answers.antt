@@ -1,6 +1,6 @@
 use Rattle.web_ops.specs.Encoding.{encoding_of}
 use Rattle.web_request.specs.declared.request.Request.TheVariants.{Mkdir}
-use Rattle.web_ops.proofs.CarriedOut.{directory_stored, no_directory, not_begun, none_of, not_met}
+use Rattle.web_ops.proofs.CarriedOut.{directory_stored, no_directory, not_begun, refused_before, none_of, not_met}
 use Rattle.web_ops.proofs.storing.make_directory.Goals as goal
 
 pub returns-in_ok-text-in-Ok-clause-done : goal.returns-in_ok-text-in-Ok-clause-done
@@ -16,3 +16,6 @@ returns-in-Err-2-clause-done g c =
     no_directory (encoding_of c.args.k c.args.n c.args.secret.now) c.args.json.now c.failure_reply.result c.args.grid.now
     (none_of _ _ c.in-Err.fault (λ entries. c.made_children_are_named.ensures entries c.args.json.now) (c.in-Err.ensures.refused (not_met c.is_memory.result _ c.is_memory.ensures c.if-is_memory.false)))
     c.failure_reply.ensures
+
+pub returns-in_err-text-in-Ok-clause-done : goal.returns-in_err-text-in-Ok-clause-done
+returns-in_err-text-in-Ok-clause-done g c = refused_before _ (encoding_of c.args.k c.args.n c.args.secret.now) (Mkdir c.args.json.now) c.from_residual.result c.args.grid.now c.from_residual.ensures.1

@@ -21,5 +21,5 @@ held_by (Err e) s same = tt
 pub returns-clause-came : goal.returns-clause-came
 returns-clause-came g c =
     begins c.resume.result _
-    (nothing_stood g.S.Store.shares g.S.Store.room g.S.Store.held g.S.Store.failures g.S.Store.honest g.met.S.Store.held_is g.met.S.Store.none_empty c.args.stores.items c.requires.empty)
+    (nothing_stood g.S.Store.shares g.S.Store.room g.S.Store.held g.S.Store.failures g.S.Store.honest g.S.Store.history g.met.S.Store.held_is g.met.S.Store.none_empty c.args.stores.items c.requires.empty)
     (held_by c.resume.result _ c.resume.ensures.held) c.resume.ensures.came

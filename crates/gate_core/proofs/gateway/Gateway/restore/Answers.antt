@@ -1,4 +1,4 @@
-use Rattle.std.proofs.Common.{Err, length, vec_len, ◌∙◌, ap, sym}
+use Rattle.std.proofs.Common.{length, vec_len, ◌∙◌, ap, sym}
 use Rattle.grid.specs.ImageReading.{image_said}
 use Rattle.gate_core.specs.Held.{State}
 use Rattle.gate_core.proofs.Arrivals.{inner_fault, fault_told}
@@ -23,7 +23,7 @@ pub returns-in-Err-clause-full : goal.returns-in-Err-clause-full
 returns-in-Err-clause-full g c server e =
     let refused = c.in-Err.ensures in
     record {
-      after = states g.S.Store.shares g.S.Store.room g.S.Store.held g.S.Store.failures g.S.Store.honest c.in-Err.field-0-1.items;
+      after = states g.S.Store.shares g.S.Store.room g.S.Store.held g.S.Store.failures g.S.Store.honest g.S.Store.history c.in-Err.field-0-1.items;
       leaves = refused.leaves;
       rooms = refused.rooms;
       full = refused.full server (inner_fault c.in-Err.fault _ e);

@@ -1,3 +1,8 @@
+use Rattle.std.proofs.Common.{subst}
+use Rattle.grid.specs.GridState.{stood, IsHonest}
+use Rattle.grid.specs.Changes.{spoiled}
+use Rattle.grid.specs.Histories.{TellsOfChange}
+use Rattle.gate_core.specs.Held.{State}
 use Rattle.chk_file.proofs.Freshness.{fresh_stays}
 use Rattle.gate_core.specs.Forgotten.{with_gone}
 use Rattle.gate_core.proofs.Arrivals.{spoiled_came, refused_came}
@@ -19,3 +24,6 @@ returns-clause-isolated_still g c = on_err_weaker c.spoil.result (isolates_still
 
 pub invariant_of-self : goal.invariant_of-self
 invariant_of-self g c = fresh_stays c.self.inside.cache c.self.inside.grid c.spoil.new.self c.spoil.ensures.leaves c.spoil.ensures.stamped c.self.invariant
+
+pub returns-clause-history : goal.returns-clause-history
+returns-clause-history g c = subst (λ (s : State). IsHonest s.grid → TellsOfChange (spoiled c.args.server (c.args.index, c.args.number) c.args.place (stood s.grid)) s.grid c.spoil.new.self) c.self.view_is c.spoil.ensures.history

@@ -7,4 +7,4 @@ pub returns : goal.returns
 returns g c =
     let store = g.S.Store in
     subst (λ (grid : GridState). IsHonest grid → (s : ℕ) → held_at grid s ≡ size_at grid s) c.self.view_is
-    (held_is_size store.shares store.room store.held store.failures store.honest g.met.S.Store.held_is c.self.inside.stores.items)
+    (held_is_size store.shares store.room store.held store.failures store.honest store.history g.met.S.Store.held_is c.self.inside.stores.items)

@@ -1,13 +1,16 @@
 use Rattle.std.proofs.Common.{◌∙◌, ◌≡◌, ◌<◌, sym, ap, subst, map, take, length, get_or, [], arith}
 use Rattle.std.proofs.lemmas.List.{length-map}
 use Rattle.std.proofs.lemmas.Option.{slice_get-get_or}
+use Rattle.std.proofs.lemmas.Result.{on_ok_weaker}
 use Rattle.std.specs.Rc.{rc_slice_items}
 use Rattle.grid.specs.declared.fault.GridFault.TheVariants.{NoMemory}
 use Rattle.grid.specs.Stamps.{raised}
 use Rattle.grid.specs.GridState.{GridState, stood, IsHonest}
 use Rattle.grid.specs.Changed.{ArePut, StopsAt}
 use Rattle.grid.proofs.Puts.{put_none, passed_on}
-use Rattle.grid.proofs.Raising.{SameBut, none_there, put_so, stops_so, raise_stamped, same_but_placed, by_fault, if_err_weaker}
+use Rattle.grid.specs.Placement.{placed}
+use Rattle.grid.specs.Histories.{TellsOfChange}
+use Rattle.grid.proofs.Raising.{tells_so, SameBut, none_there, put_so, stops_so, raise_stamped, same_but_placed, by_fault, if_err_weaker}
 use Rattle.grid.proofs.server_grid.Grid.put_all.Goals as goal
 
 pub returns-then-shares-eq0-clause-ok : goal.returns-then-shares-eq0-clause-ok
@@ -56,3 +59,20 @@ returns-clause-stamped g c =
     (c.put_each.ensures.ok honest) c.put_each.ensures.err
     (λ p. same_but_placed (length old.stores) c.args.index shares (stood old) (stood new) (put_so old stamps c.args.index shares new (subst (λ g. ArePut c.args.index shares g new) is p)).stands)
     (λ e p. same_but_placed (length old.stores) c.args.index (take p.n shares) (stood old) (stood new) (put_so old stamps c.args.index (take p.n shares) new (subst (λ g. ArePut c.args.index (take p.n shares) g new) is (p.put honest))).stands)))
+
+pub returns-clause-history : goal.returns-clause-history
+returns-clause-history g c all =
+    let is = c.in_ok-raise.ensures.ok in
+    let old = c.args.self.now in
+    let new = c.put_each.new.self in
+    let shares = map rc_slice_items c.args.shares.now in
+    tells_so old (raised c.args.index old.stamps) (placed (length old.stores) c.args.index shares (stood old)) new
+    (subst (λ (g : GridState). TellsOfChange (placed (length g.stores) c.args.index shares (stood g)) g new) is (c.put_each.ensures.history (subst IsHonest (sym is) all)))
+
+pub returns-clause-ok : goal.returns-clause-ok
+returns-clause-ok g c all =
+    let is = c.in_ok-raise.ensures.ok in
+    let old = c.args.self.now in
+    let new = c.put_each.new.self in
+    let shares = map rc_slice_items c.args.shares.now in
+    on_ok_weaker c.put_each.result (λ p. put_so old (raised c.args.index old.stamps) c.args.index shares new (subst (λ g. ArePut c.args.index shares g new) is p)) (c.put_each.ensures.ok (subst IsHonest (sym is) all))

@@ -104,7 +104,7 @@ returns-clause-rows g c all =
     let is : done.0 ≡ rows_of maps = done.2 (c.in_ok-shares.ensures.leaves.honest all) ∙ ap rows_of (c.in_ok-shares.ensures.unchanged all).maps in
     let store = g.S.Store in
     let some = subst (λ (grid : GridState). IsHonest grid → (s : ℕ) → All (λ e. 0 < length e.1) (entries_at (maps_of grid) s)) c.self.view_is
-    (some_at store.shares store.room store.held store.failures store.honest g.met.S.Store.none_empty c.self.inside.stores.items) in
+    (some_at store.shares store.room store.held store.failures store.honest store.history g.met.S.Store.none_empty c.self.inside.stores.items) in
     can_be_written maps servers (length-map c.args.self.now.stores (λ (t : StoreState). t.shares)) (omega (arith, c.servers.ensures.few, c.servers.ensures.servers, c.in_ok-shares.ensures.leaves.servers))
     (subst (λ rows. refused_place rows ≡ None) is (image_fits servers shares _ _ old mid new done.0 front done.1 refl (omega arith) refl (omega arith)))
     (subst (λ (rows : List Row). All (λ row. length row.1.0.0 ≡ 16) rows) is done.1.sized) (subst (λ (rows : List Row). All (λ row. length row.1.1 < 2 ^ 64) rows) is done.1.short) (some all)

@@ -3,11 +3,13 @@ use Rattle.std.specs.Prelude.{IsTrue}
 use Rattle.std.specs.FinMap.{insert, remove, contains_key}
 use Rattle.std.specs.Rc.{rc_slice_items}
 use Rattle.share_store.specs.Shares.{Shares, ShareKey}
+use Rattle.share_store.specs.History.{IsEither, GoesOnBy}
 use Rattle.share_store.specs.Put.{put_once}
 use Rattle.share_store.specs.Stored.{shares_in}
 use Rattle.share_store.specs.declared.mem_store.MemStore.{MemStore}
 use Rattle.kept_store.specs.Step.{Crashes}
 use Rattle.kept_store.proofs.Steps.{told, leaves_as, quiet_keeps, put_is, put_undone}
+use Rattle.kept_store.proofs.Histories.{goes_as}
 use Rattle.kept_store.proofs.kept_store.KeptStore.keep.Goals as goal
 
 pub invariant_of-self-in-Err-NoMemory : goal.invariant_of-self-in-Err-NoMemory
@@ -57,3 +59,28 @@ returns-in-Err-Failed-clause-crash g c =
     subst (λ (s : g.row.H.Denot). Crashes g.H.Shelf.moment g.H.Shelf.left_since g.H.Shelf.honest c.args.self.now.down c.args.self.now.shelf s m (put_once m key b)) (sym c.refuse-in-Err-Failed.ensures.shelf)
     (told g.H.Shelf.moment g.H.Shelf.left_since g.H.Shelf.honest c.args.self.now.down c.args.self.now.shelf c.put-2.new.self m (put_once m key b) c.if-self.false c.args.self.now.in_step c.put-2.ensures.honest
     (λ h keeps. leaves_as g.H.Shelf.moment g.H.Shelf.left_since g.H.Shelf.honest c.args.self.now.shelf c.put-2.new.self m (insert m key b) (put_once m key b) (sym (put_is m key b none)) (c.put-2.ensures.crash h m keeps)))
+
+pub returns-in-Ok-clause-history : goal.returns-in-Ok-clause-history
+returns-in-Ok-clause-history g c h =
+    let key : ShareKey = (c.args.index, c.args.number) in
+    let m : Shares = shares_in rc_slice_items c.args.self.now.memory.shares.indexes in
+    let b : List ℕ = rc_slice_items c.args.bytes in
+    let none : contains_key m key ≡ false = sym (c.in_ok-has.ensures.found refl refl) ∙ c.if-branch.false in
+    goes_as g.H.Shelf.history c.args.self.now.shelf c.put-2.new.self m (insert m key b) (put_once m key b) (sym (put_is m key b none)) (c.put-2.ensures.history h m (c.args.self.now.in_step c.if-self.false h))
+
+pub returns-in-Err-NoMemory-clause-history : goal.returns-in-Err-NoMemory-clause-history
+returns-in-Err-NoMemory-clause-history g c h =
+    let key : ShareKey = (c.args.index, c.args.number) in
+    let m : Shares = shares_in rc_slice_items c.args.self.now.memory.shares.indexes in
+    let b : List ℕ = rc_slice_items c.args.bytes in
+    let none : contains_key m key ≡ false = sym (c.in_ok-has.ensures.found refl refl) ∙ c.if-branch.false in
+    goes_as g.H.Shelf.history c.args.self.now.shelf c.put-2.new.self m (insert m key b) (put_once m key b) (sym (put_is m key b none)) (c.put-2.ensures.history h m (c.args.self.now.in_step c.if-self.false h))
+
+pub returns-in-Err-Failed-clause-history : goal.returns-in-Err-Failed-clause-history
+returns-in-Err-Failed-clause-history g c h =
+    let key : ShareKey = (c.args.index, c.args.number) in
+    let m : Shares = shares_in rc_slice_items c.args.self.now.memory.shares.indexes in
+    let b : List ℕ = rc_slice_items c.args.bytes in
+    let none : contains_key m key ≡ false = sym (c.in_ok-has.ensures.found refl refl) ∙ c.if-branch.false in
+    subst (λ (s : g.row.H.Denot). GoesOnBy (IsEither m (put_once m key b)) (g.H.Shelf.history c.args.self.now.shelf) (g.H.Shelf.history s)) (sym c.refuse-in-Err-Failed.ensures.shelf)
+    (goes_as g.H.Shelf.history c.args.self.now.shelf c.put-2.new.self m (insert m key b) (put_once m key b) (sym (put_is m key b none)) (c.put-2.ensures.history h m (c.args.self.now.in_step c.if-self.false h)))

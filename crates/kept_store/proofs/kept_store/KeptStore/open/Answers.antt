@@ -37,6 +37,7 @@ loop-name-preserved g c =
     record {
       quiet = quiet;
       same_honest = c.take_in.ensures.honest ∙ inv.same_honest;
+      same_history = λ h. c.take_in.ensures.same_history (subst IsTrue (sym inv.same_honest) h) ∙ inv.same_history h;
       same_room = c.take_in.ensures.room ∙ inv.same_room;
       filled = λ h m keeps.
           let taken = c.in_ok-take_in.ensures.taken (subst IsTrue (sym inv.same_honest) h) m (quiet_keeps g.H.Shelf.moment g.H.Shelf.left_since g.H.Shelf.honest c.args.shelf c.loop-name.shelf m inv.quiet keeps) in

@@ -12,6 +12,7 @@ abbrev pub invariant-loop-name : goal.invariant-loop-name
 invariant-loop-name g l = record {
   quiet : IsQuiet g.H.Shelf.moment g.H.Shelf.left_since l.fn.shelf l.shelf;
   same_honest : g.H.Shelf.honest l.shelf ≡ g.H.Shelf.honest l.fn.shelf;
+  same_history : IsTrue (g.H.Shelf.honest l.fn.shelf) → g.H.Shelf.history l.shelf ≡ g.H.Shelf.history l.fn.shelf;
   same_room : l.memory.room + l.memory.held ≡ l.fn.room;
   filled : IsTrue (g.H.Shelf.honest l.fn.shelf) → (m : Shares) → Keeps g.H.Shelf.moment g.H.Shelf.left_since l.fn.shelf m → shares_in rc_slice_items l.memory.shares.indexes ≡ filled (take l.name-index (entries m)) empty;
 }

@@ -3,7 +3,7 @@ use Rattle.std.specs.FinMap.{insert}
 use Rattle.std.specs.Rc.{rc_slice_items}
 use Rattle.share_store.specs.Shares.{Shares}
 use Rattle.share_shelf.specs.Left.{IsEither}
-use Rattle.share_shelf.proofs.Inside.{keeps_as, leaves_as, each_as, maybe_as}
+use Rattle.share_shelf.proofs.Inside.{keeps_as, goes_as, leaves_as, each_as, maybe_as}
 use Rattle.share_shelf.proofs.fail_shelf.FailShelfShelf.put.Goals as goal
 
 pub returns-then-not-fails-clause-done : goal.returns-then-not-fails-clause-done
@@ -33,3 +33,13 @@ pub returns-clause-crash_each : goal.returns-clause-crash_each
 returns-clause-crash_each c h =
     let leaves = maybe_as c.args.self.now.inner c.fails.new.self.inner c.put-done.new.self (λ (d : Shares). insert d (c.args.index, c.args.number) (rc_slice_items c.args.bytes)) c.fails.ensures.inner (c.put-done.ensures.crash_each refl) in
     record { later = leaves.later; since = leaves.since }
+
+pub returns-then-not-fails-clause-history : goal.returns-then-not-fails-clause-history
+returns-then-not-fails-clause-history c h m keeps =
+    goes_as c.args.self.now.inner c.fails.new.self.inner c.put.new.self (IsEither m (insert m (c.args.index, c.args.number) (rc_slice_items c.args.bytes))) c.fails.ensures.inner
+    (c.put.ensures.history refl m (keeps_as c.args.self.now.inner c.fails.new.self.inner m c.fails.ensures.inner keeps))
+
+pub returns-clause-history : goal.returns-clause-history
+returns-clause-history c h m keeps =
+    goes_as c.args.self.now.inner c.fails.new.self.inner c.put-done.new.self (IsEither m (insert m (c.args.index, c.args.number) (rc_slice_items c.args.bytes))) c.fails.ensures.inner
+    (c.put-done.ensures.history refl m (keeps_as c.args.self.now.inner c.fails.new.self.inner m c.fails.ensures.inner keeps))

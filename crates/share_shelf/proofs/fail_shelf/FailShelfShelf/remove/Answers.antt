@@ -2,7 +2,7 @@ use Rattle.std.proofs.Common.{refl}
 use Rattle.std.specs.FinMap.{remove}
 use Rattle.share_store.specs.Shares.{Shares}
 use Rattle.share_shelf.specs.Left.{IsEither}
-use Rattle.share_shelf.proofs.Inside.{keeps_as, leaves_as, each_as, maybe_as}
+use Rattle.share_shelf.proofs.Inside.{keeps_as, goes_as, leaves_as, each_as, maybe_as}
 use Rattle.share_shelf.proofs.fail_shelf.FailShelfShelf.remove.Goals as goal
 
 pub returns-then-not-fails-clause-done : goal.returns-then-not-fails-clause-done
@@ -32,3 +32,13 @@ pub returns-clause-crash_each : goal.returns-clause-crash_each
 returns-clause-crash_each c h =
     let leaves = maybe_as c.args.self.now.inner c.fails.new.self.inner c.remove-done.new.self (λ (d : Shares). remove d (c.args.index, c.args.number)) c.fails.ensures.inner (c.remove-done.ensures.crash_each refl) in
     record { later = leaves.later; since = leaves.since }
+
+pub returns-then-not-fails-clause-history : goal.returns-then-not-fails-clause-history
+returns-then-not-fails-clause-history c h m keeps =
+    goes_as c.args.self.now.inner c.fails.new.self.inner c.remove.new.self (IsEither m (remove m (c.args.index, c.args.number))) c.fails.ensures.inner
+    (c.remove.ensures.history refl m (keeps_as c.args.self.now.inner c.fails.new.self.inner m c.fails.ensures.inner keeps))
+
+pub returns-clause-history : goal.returns-clause-history
+returns-clause-history c h m keeps =
+    goes_as c.args.self.now.inner c.fails.new.self.inner c.remove-done.new.self (IsEither m (remove m (c.args.index, c.args.number))) c.fails.ensures.inner
+    (c.remove-done.ensures.history refl m (keeps_as c.args.self.now.inner c.fails.new.self.inner m c.fails.ensures.inner keeps))

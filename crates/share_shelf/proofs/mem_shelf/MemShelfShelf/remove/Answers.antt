@@ -1,5 +1,6 @@
 use Rattle.std.proofs.Common.{◌∷◌, [], ap, subst, arith, None, length, length-append, List}
 use Rattle.share_shelf.specs.Kept.{Told, told_of, HadBeen}
+use Rattle.share_shelf.proofs.Histories.{goes_on}
 use Rattle.share_shelf.proofs.Moments.{keeps_pushed, since_pushed, each_pushed, since_each}
 use Rattle.share_shelf.proofs.mem_shelf.MemShelfShelf.remove.Goals as goal
 
@@ -36,3 +37,8 @@ returns-clause-crash_each c honest =
       later = omega (arith, ap (λ (l : List Told). length l) c.in_ok-tell_remove.ensures.told, length-append past (one ∷ []));
       since = λ t d le had. since_each past one t d le (subst (λ (l : List Told). HadBeen l t d) c.in_ok-tell_remove.ensures.told had);
     }
+
+pub returns-clause-history : goal.returns-clause-history
+returns-clause-history c honest m keeps =
+    let one : Told = ((c.args.index, c.args.number), None) in
+    goes_on (told_of c.args.self.now.changes.items) (told_of c.tell_remove.new.self.changes.items) one m c.in_ok-tell_remove.ensures.told keeps
