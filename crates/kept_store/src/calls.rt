@@ -1,5 +1,5 @@
 //! Calls of a store that change it, and runs of them.
-ghost use Rattle.std.specs.Prelude.{◌≡◌, ◌<◌, ◌++◌, List, Bool, true, false, length, IsTrue, OnOk, OnErr};
+ghost use Rattle.std.specs.Prelude.{◌≡◌, ◌<◌, ◌≤◌, ◌+◌, ◌++◌, List, Bool, true, false, length, IsTrue, OnOk, OnErr};
 ghost use Rattle.std.specs.Rc.{rc_slice_items};
 ghost use Rattle.kept_store.specs.Calls.{done, IsRun};
 ghost use Rattle.kept_store.specs.Step.{Crashes};
@@ -33,6 +33,11 @@ impl<H: Shelf> KeptStore<H> {
             (⟦<MemStore as Store>⟧.shares self.old.memory)
             (done call.now (⟦<MemStore as Store>⟧.shares self.old.memory)) }
         ensures stays_down { self.old.down ≡ true → self.new.down ≡ true }
+        ensures rises { self.old.failures ≤ self.new.failures }
+        ensures room { ⟦<MemStore as Store>⟧.room self.new.memory
+            + ⟦<MemStore as Store>⟧.held self.new.memory
+            ≡ ⟦<MemStore as Store>⟧.room self.old.memory
+            + ⟦<MemStore as Store>⟧.held self.old.memory }
     {
         match call {
             Call::Put(index, number, bytes) => {
@@ -50,14 +55,20 @@ impl<H: Shelf> KeptStore<H> {
     /// Makes calls, one after the other, and adds to `answers` whether each was granted; a put of no bytes isn't.
     /// Refused where there was no memory for an answer; the calls up to there were made.
     ///
-    /// What stands then is what stood, with the calls done that were granted. A crash at any moment leaves on an honest
+    /// What stands then is what stood, with the calls done that were granted, and the bytes that fit in all stay as many.
+    /// A crash at any moment leaves on an honest
     /// shelf what stood after some of them, as they were answered, and the next one done or not.
     pub fn run(&mut self, calls: &[Call], answers: &mut Vec<bool>) -> Result<(), AllocError>
-        ensures { (oks : List Bool) × OnOk result ((answers.new.items ≡ answers.old.items ++ oks)
+        ensures ran { (oks : List Bool) × OnOk result ((answers.new.items ≡ answers.old.items ++ oks)
             × (length oks ≡ length calls.now))
             × IsRun H.moment H.left_since H.honest calls.now oks self.old.down self.old.shelf
             self.new.shelf (⟦<MemStore as Store>⟧.shares self.old.memory)
             (⟦<MemStore as Store>⟧.shares self.new.memory) }
+        ensures rises { self.old.failures ≤ self.new.failures }
+        ensures room { ⟦<MemStore as Store>⟧.room self.new.memory
+            + ⟦<MemStore as Store>⟧.held self.new.memory
+            ≡ ⟦<MemStore as Store>⟧.room self.old.memory
+            + ⟦<MemStore as Store>⟧.held self.old.memory }
     {
         let [call, rest @ ..] = calls else {
             return Ok(());
