@@ -11,7 +11,10 @@ mod case;
 mod fault;
 /// The run of all cases.
 mod run;
+/// What an answer says, as text.
+mod texts;
 
 pub use case::{Case, shown};
 pub use fault::{CaseFault, NoAnswer};
 pub use run::{Answers, run_cases};
+pub use texts::{debug, done, fixed, told};

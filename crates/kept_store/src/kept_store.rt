@@ -6,12 +6,12 @@ ghost use Rattle.share_store.specs.History.{IsEither, GoesOnBy};
 ghost use Rattle.share_store.specs.MapLaws.{held_fits};
 ghost use Rattle.share_store.specs.Put.{put_once};
 ghost use Rattle.share_store.specs.Stored.{shares_in};
-ghost use Rattle.share_store.specs.Toggle.{toggled, has_byte, with_toggle};
+ghost use Rattle.share_store.specs.Toggle.{has_byte, with_toggle};
 ghost use Rattle.kept_store.specs.Step.{IsInStep, IsInStep-prop, Crashes};
 
 use share_shelf::{Shelf, ShelfFault};
 use share_store::laws::toggle_laws;
-use share_store::{MemStore, Share, Store, StoreFault};
+use share_store::{MemStore, Share, Store, StoreFault, with_bit_changed};
 use std::alloc::{AllocError, Global};
 use std::rc::RcSlice;
 
@@ -28,16 +28,6 @@ pub struct KeptStore<H: Shelf> {
         (shares_in rc_slice_items memory.shares.indexes) } by { IsInStep-prop
             H.moment H.left_since H.honest down shelf
             (shares_in rc_slice_items memory.shares.indexes) },
-}
-
-/// A copy of the bytes with the lowest bit of one changed.
-fn with_bit_changed(alloc: Global, bytes: &[u8], place: usize) -> Result<RcSlice<u8>, AllocError>
-    requires { place < length bytes.now }
-    ensures { IfOk result (λ changed. rc_slice_items changed ≡ toggled bytes.now place) }
-{
-    let mut copy = bytes.to_vec(alloc)?;
-    copy[place] ^= 1;
-    RcSlice::from_vec(copy)
 }
 
 impl<H: Shelf> KeptStore<H> {

@@ -11,9 +11,6 @@ mod kept_store;
 mod calls;
 // Stores opened over shelves that hold shares.
 mod opened;
-// Why a store was not opened.
-mod fault;
 
 pub use calls::Call;
-pub use fault::OpenFault;
 pub use kept_store::KeptStore;

@@ -5,10 +5,10 @@ ghost use Rattle.share_store.specs.Put.{put_once};
 ghost use Rattle.share_store.specs.Shares.{Shares, ShareKey, bytes_of};
 ghost use Rattle.share_shelf.specs.Left.{Keeps, IsQuiet};
 ghost use Rattle.kept_store.specs.Filled.{IsTooLong};
-ghost use Rattle.kept_store.specs.declared.fault.OpenFault.TheVariants.{Store as StoreRefused};
+ghost use Rattle.share_shelf.specs.declared.open_fault.OpenFault.TheVariants.{Store as StoreRefused};
 
-use crate::{KeptStore, OpenFault};
-use share_shelf::Shelf;
+use crate::KeptStore;
+use share_shelf::{OpenFault, Shelf};
 use share_store::laws::size_laws;
 use share_store::{MemStore, Store, StoreFault};
 use std::alloc::Global;

@@ -3,11 +3,9 @@ ghost use Rattle.std.specs.Prelude.{◌≡◌};
 ghost use Rattle.server_stores.specs.Status.{status_of, folder_status};
 
 use folder_shelf::FolderFault;
-use kept_store::OpenFault as KeptFault;
 use redis_shelf::RedisFault;
-use share_shelf::ShelfFault;
+use share_shelf::{OpenFault, ShelfFault};
 use share_store::StoreFault;
-use shelf_store::OpenFault as DiskFault;
 use std::alloc::{AllocError, AllocFailed};
 use thiserror::Error;
 
@@ -195,23 +193,12 @@ impl From<FolderFault> for ProgramFault {
     }
 }
 
-impl From<KeptFault> for ProgramFault {
-    fn from(fault: KeptFault) -> ProgramFault {
+impl From<OpenFault> for ProgramFault {
+    fn from(fault: OpenFault) -> ProgramFault {
         match fault {
-            KeptFault::Shelf(ShelfFault::NoMemory) => ProgramFault::NoMemory,
-            KeptFault::Store(StoreFault::NoMemory) => ProgramFault::NoMemory,
-            KeptFault::Store(StoreFault::Full) => ProgramFault::NoRoom,
-            _ => ProgramFault::Folder(FolderFault::Failed),
-        }
-    }
-}
-
-impl From<DiskFault> for ProgramFault {
-    fn from(fault: DiskFault) -> ProgramFault {
-        match fault {
-            DiskFault::Shelf(ShelfFault::NoMemory) => ProgramFault::NoMemory,
-            DiskFault::Store(StoreFault::NoMemory) => ProgramFault::NoMemory,
-            DiskFault::Store(StoreFault::Full) => ProgramFault::NoRoom,
+            OpenFault::Shelf(ShelfFault::NoMemory) => ProgramFault::NoMemory,
+            OpenFault::Store(StoreFault::NoMemory) => ProgramFault::NoMemory,
+            OpenFault::Store(StoreFault::Full) => ProgramFault::NoRoom,
             _ => ProgramFault::Folder(FolderFault::Failed),
         }
     }

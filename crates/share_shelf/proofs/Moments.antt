@@ -5,7 +5,8 @@ use Rattle.std.proofs.lemmas.List.{take-append-le, take_all}
 use Rattle.std.proofs.lemmas.Bool.{leb-true, leb-false}
 use Rattle.std.proofs.Math.Seq.{take-length}
 use Rattle.std.specs.FinMap.{empty}
-use Rattle.share_store.specs.Shares.{Shares, Entry}
+use Rattle.std.specs.Option.{option_map}
+use Rattle.share_store.specs.Shares.{Shares, ShareKey, Entry}
 use Rattle.share_shelf.specs.declared.mem_shelf.Change.{Change}
 use Rattle.share_shelf.specs.Kept.{Told, told_by, told_of, with_told, after, HadBeen}
 use Rattle.share_shelf.specs.Left.{IsEither}
@@ -73,12 +74,12 @@ more_told cs at change is = rw add-one (steps cs at is)
     steps (x ∷ cs) (suc at) is = ap (λ (l : List Told). told_by x ∷ l) (steps cs at is)
 
 -- one more name
-pub one_more : (es : List Entry) (at : ℕ) (e : Entry) → slice_get es at ≡ Some e → map (λ (f : Entry). f.0) (take (at + 1) es) ≡ map (λ (f : Entry). f.0) (take at es) ++ e.0 ∷ []
-one_more es at e is = rw add-one (steps es at is)
+pub one_more : (es : List Entry) (at : ℕ) (key : ShareKey) → option_map (λ (f : Entry). f.0) (slice_get es at) ≡ Some key → map (λ (f : Entry). f.0) (take (at + 1) es) ≡ map (λ (f : Entry). f.0) (take at es) ++ key ∷ []
+one_more es at key is = rw add-one (steps es at is)
   where
-    steps : (es : List Entry) (at : ℕ) → slice_get es at ≡ Some e → map (λ (f : Entry). f.0) (take (suc at) es) ≡ map (λ (f : Entry). f.0) (take at es) ++ e.0 ∷ []
+    steps : (es : List Entry) (at : ℕ) → option_map (λ (f : Entry). f.0) (slice_get es at) ≡ Some key → map (λ (f : Entry). f.0) (take (suc at) es) ≡ map (λ (f : Entry). f.0) (take at es) ++ key ∷ []
     steps [] at is = cc
-    steps (x ∷ es) zero is = let same : x ≡ e = cc in ap (λ (f : Entry). f.0 ∷ []) same
+    steps (x ∷ es) zero is = let same : x.0 ≡ key = cc in ap (λ (k : ShareKey). k ∷ []) same
     steps (x ∷ es) (suc at) is = ap (λ l. x.0 ∷ l) (steps es at is)
 
 -- none past the last

@@ -9,6 +9,8 @@
 mod shelf;
 // Why a shelf refuses.
 mod fault;
+// Why a store was not opened over a shelf.
+mod open_fault;
 // A shelf in memory.
 mod mem_shelf;
 // A shelf that fails at a call.
@@ -17,4 +19,5 @@ mod fail_shelf;
 pub use fail_shelf::FailShelf;
 pub use fault::ShelfFault;
 pub use mem_shelf::MemShelf;
+pub use open_fault::OpenFault;
 pub use shelf::Shelf;

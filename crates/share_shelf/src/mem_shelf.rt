@@ -24,7 +24,7 @@ pub(crate) struct Change {
 /// left can be asked. Its moment is how many changes were done. It is honest, and never fails.
 #[derive(Drop)]
 pub struct MemShelf {
-    map: ShareMap,
+    map: ShareMap<RcSlice<u8>>,
     changes: Vec<Change>,
     ghost told: { shares_in rc_slice_items map.indexes
         ≡ after (told_of changes.items) empty } by { shares-set
@@ -167,11 +167,8 @@ impl Shelf for MemShelf {
     fn list(&mut self, alloc: Global) -> Result<Vec<([u8; 16], u16)>, ShelfFault> {
         let mut names = Vec::new(alloc);
         for at in 0..u64::MAX {
-            match self.map.nth(at)? {
-                Some(share) => {
-                    let index = share.index;
-                    names.push((index, share.number))?;
-                }
+            match self.map.nth(at) {
+                Some(name) => names.push(name)?,
                 None => return Ok(names),
             }
         }

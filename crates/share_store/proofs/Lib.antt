@@ -1,5 +1,6 @@
 pub mod Edits
 pub mod Levels
+pub mod Nth
 pub mod Parts
 pub mod Places
 pub mod Sizes

@@ -1,5 +1,5 @@
 -- Shares as they are kept: by storage index, and under it by number.
-use Rattle.std.specs.Prelude.{◌<◌, ℕ, List, [], ◌∷◌, ◌++◌, map, filter, not, All}
+use Rattle.std.specs.Prelude.{◌<◌, ℕ, List, [], ◌∷◌, ◌++◌, map, filter, not, All, replicate}
 use Rattle.std.specs.Ordering.{nat_cmp}
 use Rattle.std.specs.Cmp.Lexicographic.{slice_cmp}
 use Rattle.std.specs.FinMap.{from_sorted}
@@ -15,6 +15,10 @@ use Rattle.share_store.specs.Shares.{Shares, Entry}
 -- a share as an entry of the map
 abbrev pub entry_of : Share → Entry
 entry_of share = ((share.index, share.number), rc_slice_items share.bytes)
+
+-- so many bytes, each 0: what stands where only the length of a share is known
+abbrev pub blank : ℕ → List ℕ
+blank len = replicate len 0
 
 -- shares by number, under one index
 abbrev pub Numbers : Type 0 → Type 0

@@ -11,7 +11,7 @@ use Rattle.std.proofs.lemmas.Map.Views.{tells_apart}
 use Rattle.share_store.specs.Shares.{Shares, ShareKey, Entry, bytes_in, bytes_of, key_cmp}
 use Rattle.share_store.specs.MapLaws.{key_cmp_total, key_cmp_exact}
 use Rattle.share_store.specs.Put.{put_once}
-use Rattle.share_store.proofs.Sorted.{find_at}
+use Rattle.share_store.proofs.Nth.{found_at}
 use Rattle.shelf_store.specs.Sizes.{sizes_of}
 use Rattle.shelf_store.specs.SizeLaws.{sizes_as, bytes_as}
 
@@ -74,14 +74,6 @@ entry_at : (es : List Entry) (i : ℕ) (key : ShareKey) → slice_get (map (λ (
 entry_at [] i key is = cc
 entry_at (x ∷ es) zero key is = let same : x.0 ≡ key = cc in (x.1, ap (λ (k : ShareKey). Some (k, x.1)) same)
 entry_at (x ∷ es) (suc i) key is = entry_at es i key is
-
--- what is found at it
-found_at : (m : Shares) (i : ℕ) (key : ShareKey) (b : List ℕ) → slice_get (entries m) i ≡ Some (key, b) → get m key ≡ Some b
-found_at m i key b at = get-entries m key ∙ find_at key_cmp_total (entries m) key b i at (sorted_is _ (entries_sorted m))
-  where
-    sorted_is : (t : Bool) → T t → t ≡ true
-    sorted_is true h = refl
-    sorted_is false h = absurd h
 
 -- what a name of the list stands for
 pub named : (m : Shares) (names : List ShareKey) (i : ℕ) (key : ShareKey) → names ≡ map (λ (e : Entry). e.0) (entries m) → slice_get names i ≡ Some key → (b : List ℕ) × (slice_get (entries m) i ≡ Some (key, b)) × (get m key ≡ Some b)
@@ -149,33 +141,3 @@ too_many m names i key s room held whole are at begun long has sum =
     let bytes : bytes_of s ≡ bytes_in es = bytes_as s first same ∙ ap bytes_in (entries-from_sorted key_cmp es rise) in
     let whole_part : bytes_in es + length e.0 ≤ bytes_of m = part 0 (entries m) i (key, e.0) e.1 in
     omega (arith, long e.0 e.2, bytes, whole_part, has, sum)
-
--- ---- the share at a place
-
-pub nth_found : (m : Shares) (at : ℕ) (key : ShareKey) (b : List ℕ) → option_map (λ (e : Entry). e.0) (slice_get (entries m) at) ≡ Some key → get m key ≡ Some b → slice_get (entries m) at ≡ Some (key, b)
-nth_found m at key b name found = by_case (slice_get (entries m) at) refl name
-  where
-    by_case : (o : Option Entry) → slice_get (entries m) at ≡ o → option_map (λ (e : Entry). e.0) o ≡ Some key → slice_get (entries m) at ≡ Some (key, b)
-    by_case None is n = cc
-    by_case (Some e) is n =
-        let same : e.0 ≡ key = cc in
-        let both : ◌≡◌ {A = Option (List ℕ)} (Some e.1) (Some b) = sym (found_at m at e.0 e.1 is) ∙ ap (get m) same ∙ found in
-        let bytes : e.1 ≡ b = cc in
-        is ∙ ap (λ (k : ShareKey). Some (k, e.1)) same ∙ ap (λ (v : List ℕ). Some (key, v)) bytes
-
-pub nth_none : (m : Shares) (at : ℕ) → option_map (λ (e : Entry). e.0) (slice_get (entries m) at) ≡ None → slice_get (entries m) at ≡ None
-nth_none m at name = by_case (slice_get (entries m) at) name
-  where
-    by_case : (o : Option Entry) → option_map (λ (e : Entry). e.0) o ≡ None → o ≡ None
-    by_case None n = refl
-    by_case (Some e) n = cc
-
-pub nth_stands : (m : Shares) (at : ℕ) (key : ShareKey) → option_map (λ (e : Entry). e.0) (slice_get (entries m) at) ≡ Some key → get m key ≡ None → ⊥
-nth_stands m at key name none = by_case (slice_get (entries m) at) refl name
-  where
-    by_case : (o : Option Entry) → slice_get (entries m) at ≡ o → option_map (λ (e : Entry). e.0) o ≡ Some key → ⊥
-    by_case None is n = cc
-    by_case (Some e) is n =
-        let same : e.0 ≡ key = cc in
-        let both : ◌≡◌ {A = Option (List ℕ)} (Some e.1) None = sym (found_at m at e.0 e.1 is) ∙ ap (get m) same ∙ none in
-        cc

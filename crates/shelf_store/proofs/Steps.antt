@@ -14,7 +14,8 @@ use Rattle.share_store.specs.Put.{put_once}
 use Rattle.share_store.specs.Toggle.{toggled, bytes_at, has_byte, with_toggle}
 use Rattle.share_shelf.specs.Left.{Keeps, IsEither, LeavesOnly, IsQuiet, IsChanged, MayBeChanged}
 use Rattle.shelf_store.specs.Doubt.{InDoubt, as_before}
-use Rattle.shelf_store.specs.Sizes.{blank, sizes_of}
+use Rattle.share_store.specs.Stored.{blank}
+use Rattle.shelf_store.specs.Sizes.{sizes_of}
 use Rattle.shelf_store.specs.Step.{IsInStep, Crashes}
 use Rattle.shelf_store.specs.SizeLaws.{as_long}
 use Rattle.shelf_store.proofs.Sizes.{is_some-map, contains_as, none_as}

@@ -2,7 +2,8 @@
 use Rattle.std.proofs.Common.{◌≡◌, ◌∙◌}
 use Rattle.share_store.specs.Shares.{Shares, bytes_of}
 use Rattle.share_store.specs.Stored.{shares_in}
-use Rattle.shelf_store.specs.Sizes.{blank, sizes_of}
+use Rattle.share_store.specs.Stored.{blank}
+use Rattle.shelf_store.specs.Sizes.{sizes_of}
 use Rattle.shelf_store.specs.SizeLaws.{bytes_as}
 use Rattle.shelf_store.specs.declared.index.Index.{Index}
 

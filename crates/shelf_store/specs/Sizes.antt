@@ -1,11 +1,7 @@
 -- How many bytes shares have.
-use Rattle.std.specs.Prelude.{ℕ, List, map, length, replicate}
+use Rattle.std.specs.Prelude.{ℕ, List, map, length}
 use Rattle.std.specs.FinMap.{entries}
 use Rattle.share_store.specs.Shares.{Shares, ShareKey, Entry}
-
--- so many bytes, each 0: what stands where only the length of a share is known
-abbrev pub blank : ℕ → List ℕ
-blank size = replicate size 0
 
 -- each key, with the number of bytes
 abbrev pub sizes_in : List Entry → List (ShareKey × ℕ)

@@ -4,17 +4,15 @@ ghost use Rattle.std.specs.Option.{option_map};
 ghost use Rattle.std.specs.FinMap as map;
 ghost use Rattle.share_store.specs.Numbers.{numbers_of};
 ghost use Rattle.share_store.specs.Shares.{bytes_of};
-ghost use Rattle.share_store.specs.Stored.{shares_in};
-ghost use Rattle.shelf_store.specs.Sizes.{blank};
+ghost use Rattle.share_store.specs.Stored.{blank, shares_in};
 
-use crate::length_map::LengthMap;
-use share_store::StoreFault;
+use share_store::{ShareMap, StoreFault};
 use std::alloc::{AllocError, Global};
 
 /// The lengths of the shares that stand, none of them 0, and how many more bytes there is room for.
 #[derive(Drop)]
 pub(crate) struct Index {
-    pub(crate) lengths: LengthMap,
+    pub(crate) lengths: ShareMap<u64>,
     pub(crate) room: u64,
     pub(crate) held: u64,
     ghost summed: { held ≡ bytes_of (shares_in blank lengths.indexes) },
@@ -29,7 +27,7 @@ impl Index {
         ensures room { result.room + result.held ≡ room }
     {
         Index {
-            lengths: LengthMap::new(alloc),
+            lengths: ShareMap::new(alloc),
             room,
             held: 0,
         }
@@ -40,7 +38,7 @@ impl Index {
         ensures { option_map blank result
             ≡ map.get (shares_in blank self.now.lengths.indexes) (index.now, number) }
     {
-        self.lengths.get(index, number)
+        self.lengths.get(index, number).copied()
     }
 
     /// Puts the length of a share where none stands. Refused with `Full` where it is more than the room.

@@ -4,8 +4,6 @@
 //! honest where its shelf is, and it fails where its shelf does.
 #![tactic(auto)]
 
-// The lengths of shares, by storage index and number.
-mod length_map;
 // Which shares stand, how long each is, and how much room is left.
 mod index;
 // A change that a shelf may have done or not.
@@ -14,8 +12,5 @@ mod doubt;
 mod shelf_store;
 // Stores opened over shelves that hold shares.
 mod opened;
-// Why a store was not opened.
-mod fault;
 
-pub use fault::OpenFault;
 pub use shelf_store::ShelfStore;

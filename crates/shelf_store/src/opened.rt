@@ -6,12 +6,12 @@ ghost use Rattle.share_store.specs.Shares.{Shares, ShareKey, bytes_of};
 ghost use Rattle.share_shelf.specs.Left.{Keeps, IsQuiet};
 ghost use Rattle.shelf_store.specs.Doubt.{in_doubt};
 ghost use Rattle.shelf_store.specs.Known.{known};
-ghost use Rattle.shelf_store.specs.Sizes.{blank};
-ghost use Rattle.shelf_store.specs.declared.fault.OpenFault.TheVariants.{Store as StoreRefused};
+ghost use Rattle.share_store.specs.Stored.{blank};
+ghost use Rattle.share_shelf.specs.declared.open_fault.OpenFault.TheVariants.{Store as StoreRefused};
 
+use crate::ShelfStore;
 use crate::index::Index;
-use crate::{OpenFault, ShelfStore};
-use share_shelf::Shelf;
+use share_shelf::{OpenFault, Shelf};
 use share_store::{Store, StoreFault};
 use std::alloc::Global;
 

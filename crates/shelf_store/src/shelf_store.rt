@@ -8,11 +8,11 @@ ghost use Rattle.share_store.specs.Looked.{Looked};
 ghost use Rattle.share_store.specs.Numbers.{numbers_of};
 ghost use Rattle.share_store.specs.Put.{put_once};
 ghost use Rattle.share_store.specs.Stored.{entry_of};
-ghost use Rattle.share_store.specs.Toggle.{toggled, has_byte, with_toggle};
+ghost use Rattle.share_store.specs.Toggle.{has_byte, with_toggle};
 ghost use Rattle.share_shelf.specs.Left.{Keeps, IsQuiet, LeavesOnly};
 ghost use Rattle.shelf_store.specs.Doubt.{in_doubt, as_before};
 ghost use Rattle.shelf_store.specs.Known.{known, held_as};
-ghost use Rattle.shelf_store.specs.Sizes.{blank};
+ghost use Rattle.share_store.specs.Stored.{blank};
 ghost use Rattle.shelf_store.specs.SizeLaws.{some_as};
 ghost use Rattle.shelf_store.specs.Step.{IsInStep, IsInStep-prop, Crashes};
 
@@ -20,7 +20,7 @@ use crate::doubt::Doubt;
 use crate::index::Index;
 use share_shelf::{Shelf, ShelfFault};
 use share_store::laws::toggle_laws;
-use share_store::{Share, Store, StoreFault};
+use share_store::{Share, Store, StoreFault, with_bit_changed};
 use std::alloc::{AllocError, Global};
 use std::rc::RcSlice;
 
@@ -40,16 +40,6 @@ pub struct ShelfStore<H: Shelf> {
     ghost in_step: { IsInStep H.moment H.left_since H.honest H.shares (in_doubt doubt) shelf
         (known index) } by { IsInStep-prop H.moment H.left_since H.honest H.shares
             (in_doubt doubt) shelf (known index) },
-}
-
-/// A copy of the bytes with the lowest bit of one changed.
-fn with_bit_changed(alloc: Global, bytes: &[u8], place: usize) -> Result<RcSlice<u8>, AllocError>
-    requires { place < length bytes.now }
-    ensures { IfOk result (λ changed. rc_slice_items changed ≡ toggled bytes.now place) }
-{
-    let mut copy = bytes.to_vec(alloc)?;
-    copy[place] ^= 1;
-    RcSlice::from_vec(copy)
 }
 
 impl<H: Shelf> ShelfStore<H> {

@@ -1,7 +1,6 @@
 //! A shelf in a folder of a file system that fails and crashes, and names and texts of another program.
 use crate::shelf_calls::calls;
-use crate::texts::{debug, done, fixed};
-use case_lines::{Case, NoAnswer};
+use case_lines::{Case, NoAnswer, debug, done, fixed};
 use failures::{opens, puts};
 use folder_shelf::{
     FolderShelf, Settings, name_of, read_name, read_settings, seal_of, settings_text,

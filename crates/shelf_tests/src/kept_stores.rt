@@ -1,10 +1,9 @@
 //! Stores in memory with a shelf beside them: crashes at each moment, and shelves that fail.
 use crate::shelves::{INDEX, failure_at, left_at, left_now};
 use crate::store_calls::calls;
-use crate::texts::debug;
-use case_lines::{Case, NoAnswer};
-use kept_store::{Call, KeptStore, OpenFault};
-use share_shelf::{FailShelf, MemShelf};
+use case_lines::{Case, NoAnswer, debug};
+use kept_store::{Call, KeptStore};
+use share_shelf::{FailShelf, MemShelf, OpenFault};
 use std::alloc::Global;
 use std::rc::RcSlice;
 

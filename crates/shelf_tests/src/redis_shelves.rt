@@ -1,7 +1,6 @@
 //! Shelves on servers of the tests' own: one that answers what it was told to, and one that keeps what stands.
 use crate::shelf_calls::calls;
-use crate::texts::{debug, fixed};
-use case_lines::{Case, NoAnswer};
+use case_lines::{Case, NoAnswer, debug, fixed};
 use octets::Bytes;
 use redis_shelf::{Link, LinkFault, RedisShelf, Settings};
 use std::alloc::{AllocError, Global};

@@ -2,8 +2,8 @@
 ghost use Rattle.std.specs.Prelude.{◌<◌, IfOk, length as length_of};
 ghost use Rattle.std.specs.Rc.{rc_slice_items};
 
-use crate::texts::{add, debug, done, given};
-use case_lines::{Case, NoAnswer};
+use crate::texts::{add, given};
+use case_lines::{Case, NoAnswer, debug, done};
 use share_shelf::Shelf;
 use std::alloc::Global;
 use std::rc::RcSlice;

@@ -1,10 +1,9 @@
 //! Stores whose bytes are on a shelf: what each call answers, and what a shelf that fails or rots leaves.
 use crate::shelves::{failure_at, left_at, left_now};
 use crate::store_calls::calls;
-use crate::texts::debug;
-use case_lines::{Case, NoAnswer};
-use share_shelf::{FailShelf, MemShelf};
-use shelf_store::{OpenFault, ShelfStore};
+use case_lines::{Case, NoAnswer, debug};
+use share_shelf::{FailShelf, MemShelf, OpenFault};
+use shelf_store::ShelfStore;
 use std::alloc::Global;
 
 /// A shelf that rots.

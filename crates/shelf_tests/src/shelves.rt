@@ -1,7 +1,6 @@
 //! A shelf in memory that may fail: what each call gives, and what a call that fails or a crash leaves.
 use crate::shelf_calls::{calls, count};
-use crate::texts::{debug, fixed};
-use case_lines::{Case, NoAnswer};
+use case_lines::{Case, NoAnswer, debug, fixed};
 use share_shelf::{FailShelf, MemShelf};
 use std::alloc::Global;
 

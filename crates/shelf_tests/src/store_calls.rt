@@ -2,8 +2,8 @@
 //! `toggle NUMBER PLACE` and `failures`.
 use crate::shelf_calls::share_at;
 use crate::shelves::INDEX;
-use crate::texts::{add, debug, fixed, given, told};
-use case_lines::{Case, NoAnswer, shown};
+use crate::texts::{add, given};
+use case_lines::{Case, NoAnswer, debug, fixed, shown, told};
 use share_store::Store;
 use std::alloc::Global;
 

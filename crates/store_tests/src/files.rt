@@ -1,7 +1,7 @@
 //! Files on the grid, of which shares stand at server 0.
-use crate::texts::{compared, debug, fixed, told};
+use crate::texts::compared;
 use caps::{Cap, ReadFields, print, storage_index, weaken};
-use case_lines::{Case, NoAnswer};
+use case_lines::{Case, NoAnswer, debug, fixed, told};
 use chk_file::{Cache, Download, ReadFault, begin, check, read, upload};
 use grid::Grid;
 use share_store::Store;

@@ -4,8 +4,7 @@ ghost use Rattle.std.specs.Prelude.{length as length_of};
 ghost use Rattle.std.specs.Rc.{rc_slice_items};
 
 use crate::stores::{number_at, store_of};
-use crate::texts::{debug, done, fixed, told};
-use case_lines::{Case, NoAnswer};
+use case_lines::{Case, NoAnswer, debug, done, fixed, told};
 use grid::Grid;
 use share_store::{FailAt, Store};
 use std::alloc::Global;

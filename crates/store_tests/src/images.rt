@@ -5,8 +5,7 @@ ghost use Rattle.grid.specs.GridState.{states, maps_of, IsHonest};
 
 use crate::grids::{failure_at, gathered, servers_at, stores_of};
 use crate::stores::{index_at, number_at, store_of};
-use crate::texts::{debug, done, fixed};
-use case_lines::{Case, NoAnswer, shown};
+use case_lines::{Case, NoAnswer, debug, done, fixed, shown};
 use grid::laws::image_laws;
 use grid::{Grid, GridFault};
 use octets::fakes::{AtTheEnd, SlowReader, SlowWriter};

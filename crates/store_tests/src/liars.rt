@@ -1,7 +1,6 @@
 //! A store that lies.
-use crate::texts::debug;
 use caps::{Cap, weaken};
-use case_lines::{Case, NoAnswer};
+use case_lines::{Case, NoAnswer, debug};
 use chk_file::{Cache, begin, check, read, upload};
 use grid::Grid;
 use share_store::{Liar, Store};

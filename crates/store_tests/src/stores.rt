@@ -3,8 +3,7 @@ ghost use Rattle.std.specs.Prelude.{◌≡◌, IfOk};
 ghost use Rattle.std.specs.Prelude.{length as length_of};
 ghost use Rattle.std.specs.Rc.{rc_slice_items};
 
-use crate::texts::{debug, fixed, told};
-use case_lines::{Case, NoAnswer};
+use case_lines::{Case, NoAnswer, debug, fixed, told};
 use share_store::{FailAt, MemStore, Store};
 use std::alloc::Global;
 use std::rc::RcSlice;

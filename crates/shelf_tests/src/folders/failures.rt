@@ -1,8 +1,7 @@
 //! Places of failure, one after the other: what a put or an open leaves of which a call failed, and then the machine.
 use super::index_from;
 use super::mem_files::MemFiles;
-use crate::texts::fixed;
-use case_lines::{Case, NoAnswer};
+use case_lines::{Case, NoAnswer, fixed};
 use folder_shelf::{FolderFault, FolderShelf, Settings};
 use share_shelf::Shelf;
 use std::alloc::Global;

@@ -1,7 +1,6 @@
 //! A server in memory, of which a call fails: what stands after it.
 use super::{INDEX, settings};
-use crate::texts::fixed;
-use case_lines::NoAnswer;
+use case_lines::{NoAnswer, fixed};
 use octets::Bytes;
 use redis_shelf::{Link, LinkFault, RedisShelf};
 use resp::{Element, Item, Limits, Reply, read_reply};

@@ -4,10 +4,9 @@ ghost use Rattle.std.specs.FinMap as map;
 
 use crate::shelves::left_now;
 use crate::store_calls::calls;
-use crate::texts::debug;
-use case_lines::{Case, NoAnswer};
-use share_shelf::{FailShelf, MemShelf, Shelf, ShelfFault};
-use shelf_store::{OpenFault, ShelfStore};
+use case_lines::{Case, NoAnswer, debug};
+use share_shelf::{FailShelf, MemShelf, OpenFault, Shelf, ShelfFault};
+use shelf_store::ShelfStore;
 use std::alloc::Global;
 use std::rc::RcSlice;
 

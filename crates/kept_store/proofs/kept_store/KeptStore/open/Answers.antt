@@ -6,7 +6,7 @@ use Rattle.share_store.specs.Shares.{ShareKey}
 use Rattle.share_store.specs.Stored.{shares_in}
 use Rattle.share_shelf.specs.Left.{IsQuiet}
 use Rattle.share_store.specs.declared.fault.StoreFault.TheVariants.{Full}
-use Rattle.kept_store.specs.declared.fault.OpenFault.TheVariants.{Empty, Store as StoreRefused}
+use Rattle.share_shelf.specs.declared.open_fault.OpenFault.TheVariants.{Empty, Store as StoreRefused}
 use Rattle.kept_store.proofs.Steps.{quiet_trans, quiet_keeps}
 use Rattle.kept_store.proofs.Fills.{next_put, all_put, too_many}
 use Rattle.kept_store.proofs.kept_store.KeptStore.open.Goals as goal

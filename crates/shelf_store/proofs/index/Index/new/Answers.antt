@@ -3,7 +3,7 @@ use Rattle.share_store.specs.Shares.{bytes_of}
 use Rattle.share_store.specs.Stored.{shares_in}
 use Rattle.share_store.proofs.Sizes.{bytes-empty}
 use Rattle.share_store.proofs.Stands.{empty_has_none}
-use Rattle.shelf_store.specs.Sizes.{blank}
+use Rattle.share_store.specs.Stored.{blank}
 use Rattle.shelf_store.proofs.index.Index.new.Goals as goal
 
 pub invariant_of-result : goal.invariant_of-result

@@ -4,7 +4,7 @@ use Rattle.share_store.specs.Shares.{Shares, ShareKey, bytes_of}
 use Rattle.share_store.specs.Stored.{shares_in}
 use Rattle.share_store.proofs.Sizes.{inserted}
 use Rattle.share_store.proofs.Stands.{some_put}
-use Rattle.shelf_store.specs.Sizes.{blank}
+use Rattle.share_store.specs.Stored.{blank}
 use Rattle.shelf_store.proofs.index.Index.put.Goals as goal
 
 pub invariant_of-self-2 : goal.invariant_of-self-2

@@ -5,7 +5,7 @@ use Rattle.share_store.specs.Shares.{Shares, ShareKey}
 use Rattle.share_store.specs.Stored.{shares_in}
 use Rattle.share_store.proofs.Sizes.{left_after}
 use Rattle.share_store.proofs.Stands.{some_lost}
-use Rattle.shelf_store.specs.Sizes.{blank}
+use Rattle.share_store.specs.Stored.{blank}
 use Rattle.shelf_store.proofs.index.Index.remove.Goals as goal
 
 pub invariant_of-self : goal.invariant_of-self

@@ -8,7 +8,7 @@ use Rattle.share_store.specs.Toggle.{toggled, with_toggle}
 use Rattle.share_shelf.specs.Left.{LeavesOnly}
 use Rattle.shelf_store.specs.Doubt.{InDoubt, in_doubt, as_before}
 use Rattle.shelf_store.specs.Known.{known}
-use Rattle.shelf_store.specs.Sizes.{blank}
+use Rattle.share_store.specs.Stored.{blank}
 use Rattle.shelf_store.specs.Step.{Crashes}
 use Rattle.shelf_store.proofs.Sizes.{changed_as}
 use Rattle.shelf_store.proofs.Steps.{same_but_put, toggles_as, keeps_now, leaves_as, step_failed, still_stands, done_step, done_stands, quiet_step, quiet_stands, leaves_quiet, quiet_same, crash_quiet, crash_settled, crash_changed, no_failure, byte_there, no_byte, none_no_byte, toggles_none}

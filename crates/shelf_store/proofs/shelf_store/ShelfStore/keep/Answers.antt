@@ -7,7 +7,8 @@ use Rattle.share_store.specs.Put.{put_once}
 use Rattle.share_store.specs.Shares.{Shares, ShareKey}
 use Rattle.shelf_store.specs.Doubt.{InDoubt, in_doubt, as_before}
 use Rattle.shelf_store.specs.Known.{known}
-use Rattle.shelf_store.specs.Sizes.{blank, sizes_of}
+use Rattle.share_store.specs.Stored.{blank}
+use Rattle.shelf_store.specs.Sizes.{sizes_of}
 use Rattle.shelf_store.specs.Step.{IsInStep, Crashes}
 use Rattle.shelf_store.proofs.Sizes.{put_as}
 use Rattle.shelf_store.proofs.Steps.{same_but_put, put_stays, put_is, put_undone, none_there, keeps_now, step_failed, still_stands, done_step, done_stands, quiet_step, quiet_same, crash_quiet, crash_settled, crash_changed, is_in, not_in, absent}

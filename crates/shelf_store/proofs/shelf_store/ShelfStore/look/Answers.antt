@@ -3,7 +3,7 @@ use Rattle.std.specs.Option.{option_map}
 use Rattle.share_store.specs.Shares.{ShareKey}
 use Rattle.shelf_store.specs.Doubt.{in_doubt, as_before}
 use Rattle.shelf_store.specs.Known.{known}
-use Rattle.shelf_store.specs.Sizes.{blank}
+use Rattle.share_store.specs.Stored.{blank}
 use Rattle.shelf_store.proofs.Sizes.{none_as}
 use Rattle.shelf_store.proofs.shelf_store.ShelfStore.look.Goals as goal
 

@@ -6,9 +6,10 @@ use Rattle.std.specs.FinMap.{entries}
 use Rattle.share_store.specs.Shares.{ShareKey}
 use Rattle.share_shelf.specs.Left.{Keeps, IsQuiet}
 use Rattle.share_store.specs.declared.fault.StoreFault.TheVariants.{Full}
-use Rattle.shelf_store.specs.declared.fault.OpenFault.TheVariants.{Empty, Store as StoreRefused}
+use Rattle.share_shelf.specs.declared.open_fault.OpenFault.TheVariants.{Empty, Store as StoreRefused}
 use Rattle.shelf_store.specs.Known.{known}
-use Rattle.shelf_store.specs.Sizes.{blank, sizes_of}
+use Rattle.share_store.specs.Stored.{blank}
+use Rattle.shelf_store.specs.Sizes.{sizes_of}
 use Rattle.shelf_store.proofs.Steps.{quiet_trans, quiet_keeps}
 use Rattle.shelf_store.proofs.Opens.{begun_none, next_taken, all_taken, too_many}
 use Rattle.shelf_store.proofs.shelf_store.ShelfStore.open.Goals as goal

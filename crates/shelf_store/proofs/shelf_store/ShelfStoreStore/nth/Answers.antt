@@ -6,7 +6,7 @@ use Rattle.share_store.specs.Shares.{Shares, ShareKey, Entry}
 use Rattle.shelf_store.specs.Doubt.{in_doubt, as_before}
 use Rattle.shelf_store.specs.Known.{known}
 use Rattle.shelf_store.proofs.Sizes.{names_as}
-use Rattle.shelf_store.proofs.Opens.{nth_found, nth_none, nth_stands}
+use Rattle.share_store.proofs.Nth.{nth_found, nth_none, nth_stands}
 use Rattle.shelf_store.proofs.shelf_store.ShelfStoreStore.nth.Goals as goal
 
 pub returns-in_default-clause-found : goal.returns-in_default-clause-found

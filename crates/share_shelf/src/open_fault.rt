@@ -1,8 +1,8 @@
-//! Why a store was not opened.
+//! Why a store was not opened over a shelf.
 ghost use Rattle.std.specs.Prelude.{◌≡◌};
-ghost use Rattle.kept_store.specs.declared.fault.OpenFault.TheVariants.{Shelf as ShelfRefused, Store as StoreRefused};
+ghost use Rattle.share_shelf.specs.declared.open_fault.OpenFault.TheVariants.{Shelf as ShelfRefused, Store as StoreRefused};
 
-use share_shelf::ShelfFault;
+use crate::ShelfFault;
 use share_store::StoreFault;
 use thiserror::Error;
 

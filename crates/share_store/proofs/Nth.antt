@@ -1,0 +1,44 @@
+-- The share at a place, and what stands under its name.
+use Rattle.std.proofs.Common.{◌≡◌, ℕ, Bool, true, false, List, Option, Some, None, refl, sym, ap, ◌∙◌, T}
+use Rattle.std.specs.Prelude.{slice_get}
+use Rattle.std.specs.Option.{option_map}
+use Rattle.std.specs.FinMap.{get, entries, entries_sorted, get-entries}
+use Rattle.share_store.specs.Shares.{Shares, ShareKey, Entry}
+use Rattle.share_store.specs.MapLaws.{key_cmp_total}
+use Rattle.share_store.proofs.Sorted.{find_at}
+
+-- what is found at it
+pub found_at : (m : Shares) (i : ℕ) (key : ShareKey) (b : List ℕ) → slice_get (entries m) i ≡ Some (key, b) → get m key ≡ Some b
+found_at m i key b at = get-entries m key ∙ find_at key_cmp_total (entries m) key b i at (sorted_is _ (entries_sorted m))
+  where
+    sorted_is : (t : Bool) → T t → t ≡ true
+    sorted_is true h = refl
+    sorted_is false h = absurd h
+
+pub nth_found : (m : Shares) (at : ℕ) (key : ShareKey) (b : List ℕ) → option_map (λ (e : Entry). e.0) (slice_get (entries m) at) ≡ Some key → get m key ≡ Some b → slice_get (entries m) at ≡ Some (key, b)
+nth_found m at key b name found = by_case (slice_get (entries m) at) refl name
+  where
+    by_case : (o : Option Entry) → slice_get (entries m) at ≡ o → option_map (λ (e : Entry). e.0) o ≡ Some key → slice_get (entries m) at ≡ Some (key, b)
+    by_case None is n = cc
+    by_case (Some e) is n =
+        let same : e.0 ≡ key = cc in
+        let both : ◌≡◌ {A = Option (List ℕ)} (Some e.1) (Some b) = sym (found_at m at e.0 e.1 is) ∙ ap (get m) same ∙ found in
+        let bytes : e.1 ≡ b = cc in
+        is ∙ ap (λ (k : ShareKey). Some (k, e.1)) same ∙ ap (λ (v : List ℕ). Some (key, v)) bytes
+
+pub nth_none : (m : Shares) (at : ℕ) → option_map (λ (e : Entry). e.0) (slice_get (entries m) at) ≡ None → slice_get (entries m) at ≡ None
+nth_none m at name = by_case (slice_get (entries m) at) name
+  where
+    by_case : (o : Option Entry) → option_map (λ (e : Entry). e.0) o ≡ None → o ≡ None
+    by_case None n = refl
+    by_case (Some e) n = cc
+
+pub nth_stands : (m : Shares) (at : ℕ) (key : ShareKey) → option_map (λ (e : Entry). e.0) (slice_get (entries m) at) ≡ Some key → get m key ≡ None → ⊥
+nth_stands m at key name none = by_case (slice_get (entries m) at) refl name
+  where
+    by_case : (o : Option Entry) → slice_get (entries m) at ≡ o → option_map (λ (e : Entry). e.0) o ≡ Some key → ⊥
+    by_case None is n = cc
+    by_case (Some e) is n =
+        let same : e.0 ≡ key = cc in
+        let both : ◌≡◌ {A = Option (List ℕ)} (Some e.1) None = sym (found_at m at e.0 e.1 is) ∙ ap (get m) same ∙ none in
+        cc
