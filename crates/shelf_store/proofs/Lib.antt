@@ -2,3 +2,4 @@ pub mod Doubts
 pub mod Opens
 pub mod Sizes
 pub mod Steps
+pub mod Changes

@@ -1,6 +1,6 @@
--- From one state of a store and its shelf to the next.
+-- Shares, a shelf and the index from one state to the next.
 use Rattle.std.proofs.Common.{Result, Ok, ◌≡◌, ◌<◌, ◌≤◌, ℕ, Bool, true, false, cond, List, [], length, Option, Some, None, is_some, refl, sym, ap, subst, ◌∙◌, arith, inl, inr}
-use Rattle.std.specs.Prelude.{IsTrue, unwrap_or, nat_lt}
+use Rattle.std.specs.Prelude.{unwrap_or, nat_lt}
 use Rattle.std.proofs.lemmas.Bool.{cases_lt, lt-ltb, ltb-true}
 use Rattle.std.proofs.lemmas.List.{length-replicate}
 use Rattle.std.specs.Option.{option_map}
@@ -12,11 +12,10 @@ use Rattle.share_store.specs.Shares.{Shares, ShareKey, key_cmp}
 use Rattle.share_store.specs.MapLaws.{key_cmp_total, key_cmp_exact}
 use Rattle.share_store.specs.Put.{put_once}
 use Rattle.share_store.specs.Toggle.{toggled, bytes_at, has_byte, with_toggle}
-use Rattle.share_shelf.specs.Left.{Keeps, IsEither, LeavesOnly, IsQuiet, IsChanged, MayBeChanged}
+use Rattle.share_shelf.specs.Left.{Keeps, LeavesOnly, IsQuiet}
 use Rattle.shelf_store.specs.Doubt.{InDoubt, as_before}
 use Rattle.share_store.specs.Stored.{blank}
 use Rattle.shelf_store.specs.Sizes.{sizes_of}
-use Rattle.shelf_store.specs.Step.{IsInStep, Crashes}
 use Rattle.shelf_store.specs.SizeLaws.{as_long}
 use Rattle.shelf_store.proofs.Sizes.{is_some-map, contains_as, none_as}
 
@@ -108,13 +107,6 @@ module _ {H : Type 0} (moment : H → ℕ) (left_since : H → ℕ → Shares �
   pub quiet_same : (a : H) → IsQuiet moment left_since a a
   quiet_same a = record { same_moment = refl; nothing_else = λ t c left. left }
 
-  -- a look, and then a change
-  pub quiet_leaves : (a b d : H) (P : Shares → Type 0) → IsQuiet moment left_since a b → LeavesOnly moment left_since b d P → LeavesOnly moment left_since a d P
-  quiet_leaves a b d P quiet leaves = record {
-    later = subst (λ t. t ≤ moment d) quiet.same_moment leaves.later;
-    since = λ t c le left. elim (leaves.since t c (subst (λ u. t ≤ u) (sym quiet.same_moment) le) left) [ inl was ↦ inl (quiet.nothing_else t c was) | inr now ↦ inr now ];
-  }
-
   pub leaves_nothing : (a b : H) (P : Shares → Type 0) → IsQuiet moment left_since a b → LeavesOnly moment left_since a b P
   leaves_nothing a b P quiet = record {
     later = omega (arith, quiet.same_moment);
@@ -134,9 +126,6 @@ module _ {H : Type 0} (moment : H → ℕ) (left_since : H → ℕ → Shares �
     since = λ t c le left. elim (leaves.since t c le left) [ inl was ↦ inl was | inr p ↦ inr (more c p) ];
   }
 
-  pub leaves_as : (old new : H) (m n k : Shares) → n ≡ k → LeavesOnly moment left_since old new (IsEither m n) → LeavesOnly moment left_since old new (IsEither m k)
-  leaves_as old new m n k same leaves = subst (λ (s : Shares). LeavesOnly moment left_since old new (IsEither m s)) same leaves
-
   -- one call, and then another
   pub leaves_both : (a b d : H) (P Q : Shares → Type 0) → LeavesOnly moment left_since a b P → LeavesOnly moment left_since b d Q → ((c : Shares) → P c → Q c) → LeavesOnly moment left_since a d Q
   leaves_both a b d P Q one two more = record {
@@ -148,173 +137,11 @@ module _ {H : Type 0} (moment : H → ℕ) (left_since : H → ℕ → Shares �
         ];
   }
 
-module _ {H : Type 0} (moment : H → ℕ) (left_since : H → ℕ → Shares → Type 0) (honest : H → Bool) (shares : H → Shares) where
-  -- a call that looks
-  pub step_quiet : (doubt : InDoubt) (old new : H) (index : Shares) → IsInStep moment left_since honest shares doubt old index → IsQuiet moment left_since old new → honest new ≡ honest old
-      → (IsTrue (honest old) → shares new ≡ shares old) → IsInStep moment left_since honest shares doubt new index
-  step_quiet doubt old new index step quiet same_honest same = record {
-    sizes = λ h. let was : IsTrue (honest old) = subst IsTrue same_honest h in step.sizes was ∙ ap (λ (s : Shares). sizes_of (as_before doubt s)) (sym (same was));
-    left = λ h c left.
-        let was : IsTrue (honest old) = subst IsTrue same_honest h in
-        step.left was c (quiet.nothing_else (moment old) c (subst (λ t. left_since new t c) quiet.same_moment left)) ∙ ap (as_before doubt) (sym (same was));
-  }
-
-  -- a shelf that isn't in doubt keeps what stands
-  pub keeps_now : (doubt : InDoubt) (shelf : H) (index : Shares) → IsInStep moment left_since honest shares doubt shelf index → doubt ≡ None → IsTrue (honest shelf) → Keeps moment left_since shelf (as_before doubt (shares shelf))
-  keeps_now doubt shelf index step up h c left = sym (ap (λ (d : InDoubt). as_before d c) up) ∙ step.left h c left
-
-  -- what an honest shelf stands for once it keeps these shares
-  pub now_stands : (doubt : InDoubt) (shelf : H) (n : Shares) → doubt ≡ None → n ≡ shares shelf → as_before doubt (shares shelf) ≡ n
-  now_stands doubt shelf n up is = ap (λ (d : InDoubt). as_before d (shares shelf)) up ∙ sym is
-
-  -- a change that was done
-  pub step_done : (doubt : InDoubt) (new : H) (index n : Shares) → doubt ≡ None → (IsTrue (honest new) → Keeps moment left_since new n) → (IsTrue (honest new) → n ≡ shares new) → (IsTrue (honest new) → sizes_of index ≡ sizes_of n)
-      → IsInStep moment left_since honest shares doubt new index
-  step_done doubt new index n up keeps is sizes = record {
-    sizes = λ h. sizes h ∙ ap sizes_of (sym (now_stands doubt new n up (is h)));
-    left = λ h c left. ap (λ (d : InDoubt). as_before d c) up ∙ keeps h c left ∙ sym (now_stands doubt new n up (is h));
-  }
-
-  module _ (doubt : InDoubt) (old new : H) (index : Shares) (key : ShareKey) (before : Option (List ℕ)) (n : Shares)
-      (step : IsInStep moment left_since honest shares doubt old index) (up : doubt ≡ None) (found : IsTrue (honest old) → get (as_before doubt (shares old)) key ≡ before)
-      (same : IsSameBut key (as_before doubt (shares old)) n)
-      (narrows : (shelf : H) (t u : ℕ) (c : Shares) → t ≤ u → left_since shelf u c → left_since shelf t c)
-      (crash : IsTrue (honest old) → LeavesOnly moment left_since old new (IsEither (as_before doubt (shares old)) n))
-      (stands : IsTrue (honest old) → left_since new (moment new) (shares new)) where
-    -- whatever is left of a change in which the shelf failed, what stood before it is known
-    back : (c : Shares) → IsTrue (honest old) → left_since new (moment new) c → as_before (Some (key, before)) c ≡ as_before doubt (shares old)
-    back c h left =
-        let m : Shares = as_before doubt (shares old) in
-        let leaves = crash h in
-        let from_m : c ≡ m → as_before (Some (key, before)) c ≡ m = λ is. ap (as_before (Some (key, before))) is ∙ put_back key before m m (found h) (λ q other. refl) in
-        let from_n : c ≡ n → as_before (Some (key, before)) c ≡ m = λ is. ap (as_before (Some (key, before))) is ∙ put_back key before m n (found h) same in
-        elim (leaves.since (moment old) c (omega arith) (narrows new (moment old) (moment new) c leaves.later left)) [
-          | inl was ↦ from_m (keeps_now doubt old index step up h c was)
-          | inr either ↦ elim either [ inl is ↦ from_m is | inr is ↦ from_n is ]
-        ]
-
-    pub still_stands : IsTrue (honest old) → as_before (Some (key, before)) (shares new) ≡ as_before doubt (shares old)
-    still_stands h = back (shares new) h (stands h)
-
-    pub step_failed : honest new ≡ honest old → IsInStep moment left_since honest shares (Some (key, before)) new index
-    step_failed same_honest = record {
-      sizes = λ h. let was : IsTrue (honest old) = subst IsTrue same_honest h in step.sizes was ∙ ap sizes_of (sym (still_stands was));
-      left = λ h c left. let was : IsTrue (honest old) = subst IsTrue same_honest h in back c was left ∙ sym (still_stands was);
-    }
-
-  -- ---- a change in doubt, taken back
-
-  module _ (doubt : InDoubt) (old new : H) (index : Shares) (step : IsInStep moment left_since honest shares doubt old index) (same_honest : honest new ≡ honest old)
-      (narrows : (shelf : H) (t u : ℕ) (c : Shares) → t ≤ u → left_since shelf u c → left_since shelf t c)
-      (change : Shares → Shares) (is : (d : Shares) → change d ≡ as_before doubt d)
-      (crash : IsTrue (honest old) → LeavesOnly moment left_since old new (MayBeChanged moment left_since old change))
-      (stands : IsTrue (honest old) → left_since new (moment new) (shares new)) where
-    pub settle_leaves : IsTrue (honest old) → LeavesOnly moment left_since old new (λ c. c ≡ as_before doubt (shares old))
-    settle_leaves h = record {
-      later = (crash h).later;
-      since = λ t c le left. elim ((crash h).since t c le left) [
-        | inl was ↦ inl was
-        | inr each ↦ elim each.2 [
-          | inl same ↦ inl (narrows old t (moment old) c le (subst (λ (s : Shares). left_since old (moment old) s) (sym same) each.1))
-          | inr changed ↦ inr (changed ∙ is each.0 ∙ step.left h each.0 each.1)
-        ]
-      ];
-    }
-
-    -- done or not, what stood before it is known
-    settle_back : (c : Shares) → IsTrue (honest old) → left_since new (moment new) c → as_before doubt c ≡ as_before doubt (shares old)
-    settle_back c h left =
-        let leaves = settle_leaves h in
-        elim (leaves.since (moment old) c (omega arith) (narrows new (moment old) (moment new) c leaves.later left)) [
-          | inl was ↦ step.left h c was
-          | inr same ↦ ap (as_before doubt) same ∙ put_back_twice doubt (shares old)
-        ]
-
-    pub settle_stands : IsTrue (honest old) → as_before doubt (shares new) ≡ as_before doubt (shares old)
-    settle_stands h = settle_back (shares new) h (stands h)
-
-    pub settle_step : IsInStep moment left_since honest shares doubt new index
-    settle_step = record {
-      sizes = λ h. let was : IsTrue (honest old) = subst IsTrue same_honest h in step.sizes was ∙ ap sizes_of (sym (settle_stands was));
-      left = λ h c left. let was : IsTrue (honest old) = subst IsTrue same_honest h in settle_back c was left ∙ sym (settle_stands was);
-    }
-
-    pub settle_keeps : IsTrue (honest old) → ((c : Shares) → left_since new (moment new) c → IsChanged moment left_since old change c) → Keeps moment left_since new (as_before doubt (shares old))
-    settle_keeps h done c left = let each : IsChanged moment left_since old change c = done c left in each.2 ∙ is each.0 ∙ step.left h each.0 each.1
-
-  -- a shelf that keeps what stands, with no change in doubt
-  pub step_settled : (new : H) (index m : Shares) → (IsTrue (honest new) → Keeps moment left_since new m) → (IsTrue (honest new) → m ≡ shares new) → (IsTrue (honest new) → sizes_of index ≡ sizes_of m)
-      → IsInStep moment left_since honest shares None new index
-  step_settled new index m keeps is sizes = step_done None new index m refl keeps is sizes
-
-  -- ---- a crash
-
-  module _ (doubt : InDoubt) (old new : H) (index : Shares) (step : IsInStep moment left_since honest shares doubt old index) (same_honest : honest new ≡ honest old) (n : Shares) where
-    crash_in : (IsTrue (honest old) → LeavesOnly moment left_since old new (IsEither (as_before doubt (shares old)) n)) → Crashes moment left_since honest shares doubt old new (as_before doubt (shares old)) n
-    crash_in leaves = record {
-      leaves = leaves;
-      left = λ h c left. elim ((leaves h).since (moment old) c (omega arith) left) [
-        | inl was ↦ inl (step.left h c was)
-        | inr either ↦ elim either [
-          | inl is ↦ inl (ap (as_before doubt) is ∙ put_back_twice doubt (shares old))
-          | inr is ↦ inr is
-        ]
-      ];
-      same_honest = same_honest;
-    }
-
-    -- nothing was changed
-    pub crash_quiet : IsQuiet moment left_since old new → Crashes moment left_since honest shares doubt old new (as_before doubt (shares old)) n
-    crash_quiet quiet = crash_in (λ h. leaves_nothing moment left_since old new (IsEither (as_before doubt (shares old)) n) quiet)
-
-    -- the change in doubt was taken back, and no more
-    pub crash_settled : (IsTrue (honest old) → LeavesOnly moment left_since old new (λ c. c ≡ as_before doubt (shares old))) → Crashes moment left_since honest shares doubt old new (as_before doubt (shares old)) n
-    crash_settled settled = crash_in (λ h. leaves_more moment left_since old new (λ c. c ≡ as_before doubt (shares old)) (IsEither (as_before doubt (shares old)) n) (settled h) (λ c is. inl is))
-
-    -- and then the shelf was told to change
-    pub crash_changed : (mid : H) (now : Shares) (f : Shares → Shares) → (IsTrue (honest old) → LeavesOnly moment left_since old mid (λ c. c ≡ as_before doubt (shares old))) → honest mid ≡ honest old → (IsTrue (honest old) → now ≡ as_before doubt (shares old))
-        → (IsTrue (honest old) → f (as_before doubt (shares old)) ≡ n) → (IsTrue (honest mid) → LeavesOnly moment left_since mid new (IsEither now (f now))) → Crashes moment left_since honest shares doubt old new (as_before doubt (shares old)) n
-    crash_changed mid now f settled same_mid stands is changed = crash_in (λ h.
-        let m : Shares = as_before doubt (shares old) in
-        let told : LeavesOnly moment left_since mid new (IsEither now (f now)) = changed (subst IsTrue (sym same_mid) h) in
-        let told_m : LeavesOnly moment left_since mid new (IsEither m (f m)) = subst (λ (s : Shares). LeavesOnly moment left_since mid new (IsEither s (f s))) (stands h) told in
-        let told_n : LeavesOnly moment left_since mid new (IsEither m n) = subst (λ (s : Shares). LeavesOnly moment left_since mid new (IsEither m s)) (is h) told_m in
-        leaves_both moment left_since old mid new (λ c. c ≡ m) (IsEither m n) (settled h) told_n (λ c same. inl same))
-
-  -- ---- a shelf that isn't in doubt, and what comes of a change
-
-  module _ (keeps : (shelf : H) (m : Shares) → IsTrue (honest shelf) → Keeps moment left_since shelf m → m ≡ shares shelf)
-      (doubt : InDoubt) (old new : H) (index : Shares) (step : IsInStep moment left_since honest shares doubt old index) (up : doubt ≡ None) (same_honest : honest new ≡ honest old) where
-    -- it was done
-    module _ (n : Shares) (done : IsTrue (honest old) → Keeps moment left_since old (as_before doubt (shares old)) → Keeps moment left_since new n) where
-      kept_then : IsTrue (honest old) → Keeps moment left_since new n
-      kept_then h = done h (keeps_now doubt old index step up h)
-
-      pub done_stands : IsTrue (honest old) → as_before doubt (shares new) ≡ n
-      done_stands h = now_stands doubt new n up (keeps new n (subst IsTrue (sym same_honest) h) (kept_then h))
-
-      pub done_step : (after : Shares) → (IsTrue (honest old) → sizes_of index ≡ sizes_of (as_before doubt (shares old)) → sizes_of after ≡ sizes_of n) → IsInStep moment left_since honest shares doubt new after
-      done_step after sizes = step_done doubt new after n up
-          (λ h. kept_then (subst IsTrue same_honest h))
-          (λ h. keeps new n h (kept_then (subst IsTrue same_honest h)))
-          (λ h. let was : IsTrue (honest old) = subst IsTrue same_honest h in sizes was (step.sizes was))
-
-    -- there was no memory for it
-    module _ (quiet : IsQuiet moment left_since old new) where
-      pub quiet_stands : IsTrue (honest old) → as_before doubt (shares new) ≡ as_before doubt (shares old)
-      quiet_stands = done_stands (as_before doubt (shares old)) (λ h kept. quiet_keeps moment left_since old new (as_before doubt (shares old)) quiet kept)
-
-      pub quiet_step : (after : Shares) → after ≡ index → IsInStep moment left_since honest shares doubt new after
-      quiet_step after same = done_step (as_before doubt (shares old)) (λ h kept. quiet_keeps moment left_since old new (as_before doubt (shares old)) quiet kept) after (λ h is. ap sizes_of same ∙ is)
-
 -- ---- what the index says
 
 module _ (index m : Shares) (sizes : sizes_of index ≡ sizes_of m) (key : ShareKey) where
   pub is_in : (b : Bool) (o : Option ℕ) → b ≡ is_some o → option_map blank o ≡ get index key → contains_key m key ≡ b
   is_in b o is found = sym (contains_as index m sizes key) ∙ ap is_some (sym found) ∙ is_some-map blank o ∙ sym is
-
-  pub not_in : (b : Bool) (o : Option ℕ) → b ≡ is_some o → option_map blank o ≡ get index key → b ≡ false → contains_key m key ≡ false
-  not_in b o is found off = is_in b o is found ∙ off
 
 pub absent : (index : Shares) (key : ShareKey) (b : Bool) (o : Option ℕ) → b ≡ is_some o → option_map blank o ≡ get index key → b ≡ false → get index key ≡ None
 absent index key b o is found off = sym found ∙ by_case o (sym is ∙ off)

@@ -1,11 +1,11 @@
-use Rattle.std.proofs.Common.{sym, ap, subst, ◌∙◌}
+use Rattle.std.proofs.Common.{None, refl, sym, ap, subst, ◌∙◌}
 use Rattle.std.specs.Prelude.{IsTrue}
 use Rattle.share_store.specs.Shares.{Shares}
 use Rattle.share_shelf.specs.Left.{Keeps}
 use Rattle.shelf_store.specs.Doubt.{in_doubt, as_before}
 use Rattle.shelf_store.specs.Known.{known}
 use Rattle.shelf_store.specs.Sizes.{sizes_of}
-use Rattle.shelf_store.proofs.Steps.{step_settled}
+use Rattle.shelf_store.proofs.Changes.{kept_step}
 use Rattle.shelf_store.proofs.shelf_store.ShelfStore.settle.Goals as goal
 
 pub invariant_of-self : goal.invariant_of-self
@@ -16,7 +16,7 @@ invariant_of-self g c =
     let was : IsTrue (g.H.Shelf.honest mid.shelf) → IsTrue (g.H.Shelf.honest self.shelf) = λ h. subst IsTrue c.put_back.ensures.honest h in
     let kept : IsTrue (g.H.Shelf.honest mid.shelf) → Keeps g.H.Shelf.moment g.H.Shelf.left_since mid.shelf m = λ h. c.in-Ok.ensures.done (was h) in
     record {
-      in_step = step_settled g.H.Shelf.moment g.H.Shelf.left_since g.H.Shelf.honest g.H.Shelf.shares mid.shelf (known mid.index) m kept (λ h. g.met.H.Shelf.keeps mid.shelf m h (kept h)) (λ h. mid.in_step.sizes h ∙ ap sizes_of (c.put_back.ensures.stands (was h)));
+      in_step = kept_step g.H.Shelf None mid.shelf (known mid.index) m refl kept (λ h. g.met.H.Shelf.keeps mid.shelf m h (kept h)) (λ h. mid.in_step.sizes h ∙ ap sizes_of (c.put_back.ensures.stands (was h)));
     }
 
 pub returns-in-Ok-clause-stands : goal.returns-in-Ok-clause-stands
