@@ -10,6 +10,7 @@ pub mod ImageRuns
 pub mod ImageSteps
 pub mod ImageWrites
 pub mod Layouts
+pub mod Looks
 pub mod Missing
 pub mod Puts
 pub mod ReadBack

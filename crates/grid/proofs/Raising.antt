@@ -10,11 +10,11 @@ use Rattle.std.specs.FinMap as finite
 use Rattle.share_store.specs.Shares.{ShareKey}
 use Rattle.grid.specs.declared.fault.GridFault.{GridFault}
 use Rattle.grid.specs.Stamps.{Stamps, count_at, one_more, raised, last_count}
-use Rattle.grid.specs.GridState.{GridState, stood, raised_at, IsHonest}
+use Rattle.grid.specs.GridState.{GridState, StoreState, stood, raised_at, IsHonest}
 use Rattle.grid.specs.Standing.{Standing, standing}
 use Rattle.grid.specs.Changes.{changed_at}
 use Rattle.grid.specs.Placement.{server_of, placed}
-use Rattle.grid.specs.Leaves.{Leaves, HoldsAsBefore}
+use Rattle.grid.specs.Leaves.{HoldsAsBefore}
 use Rattle.grid.specs.Changed.{ArePut, StopsAt, IsLost, IsSpoiled}
 use Rattle.grid.specs.Stamped.{IsStamped}
 use Rattle.grid.specs.Histories.{TellsOfChange}
@@ -23,39 +23,36 @@ use Rattle.grid.specs.Histories.{TellsOfChange}
 abbrev pub stamped_so : GridState → Stamps → GridState
 stamped_so g stamps = record { stores = g.stores; stamps = stamps }
 
-module _ (old : GridState) (stamps : Stamps) where
-  pub leaves_so : (new : GridState) → Leaves (stamped_so old stamps) new → Leaves old new
-  leaves_so new l = record { servers = l.servers; rises = l.rises; honest = l.honest; was_honest = l.was_honest; sums = l.sums }
+-- a call between `mid` and `new`, where the stamp of an index was raised before it: what it left of `mid` it left of `old`
+module _ {old mid : GridState} (new : GridState) (index : List ℕ) (is : mid ≡ stamped_so old (raised index old.stamps)) where
+  pub held_raised : HoldsAsBefore mid new → HoldsAsBefore old new
+  held_raised held = let same = subst (λ g. HoldsAsBefore g new) is held in record { maps = same.maps; rooms = same.rooms }
 
-  pub leaves_to : (new : GridState) → Leaves new (stamped_so old stamps) → Leaves new old
-  leaves_to new l = record { servers = l.servers; rises = l.rises; honest = l.honest; was_honest = l.was_honest; sums = l.sums }
+  pub put_raised : (shares : List (List ℕ)) → ArePut index shares mid new → ArePut index shares old new
+  put_raised shares put = let p = subst (λ (g : GridState). ArePut index shares g new) is put in record { stands = p.stands; rooms = p.rooms }
 
-  pub held_so : (new : GridState) → HoldsAsBefore (stamped_so old stamps) new → HoldsAsBefore old new
-  held_so new u = record { maps = u.maps; rooms = u.rooms }
+  pub stops_raised : (shares : List (List ℕ)) (fault : GridFault) → StopsAt index shares mid new fault → StopsAt index shares old new fault
+  stops_raised shares fault stops =
+      let p = subst (λ (g : GridState). StopsAt index shares g new fault) is stops in
+      record {
+        n = p.n;
+        share = p.share;
+        at = p.at;
+        put = λ all. put_raised (take p.n shares) (stops.put (subst IsHonest (sym is) all));
+        refusal = p.refusal;
+        full = p.full;
+        none_stood = p.none_stood;
+        down = p.down;
+      }
 
-  pub tells_so : (asked : Standing) (new : GridState) → TellsOfChange asked (stamped_so old stamps) new → TellsOfChange asked old new
-  tells_so asked new told = told
+  pub lost_raised : (server : ℕ) (key : ShareKey) → IsLost server key mid new → IsLost server key old new
+  lost_raised server key lost = let p = subst (λ g. IsLost server key g new) is lost in record { stands = p.stands; rooms = p.rooms }
 
-  pub put_so : (index : List ℕ) (shares : List (List ℕ)) (new : GridState) → ArePut index shares (stamped_so old stamps) new → ArePut index shares old new
-  put_so index shares new p = record { stands = p.stands; rooms = p.rooms }
+  pub spoiled_raised : (server : ℕ) (key : ShareKey) (place : ℕ) → IsSpoiled server key place mid new → IsSpoiled server key place old new
+  spoiled_raised server key place spoiled = let p = subst (λ g. IsSpoiled server key place g new) is spoiled in record { stands = p.stands; rooms = p.rooms }
 
-  pub stops_so : (index : List ℕ) (shares : List (List ℕ)) (new : GridState) (fault : GridFault) → StopsAt index shares (stamped_so old stamps) new fault → StopsAt index shares old new fault
-  stops_so index shares new fault p = record {
-    n = p.n;
-    share = p.share;
-    at = p.at;
-    put = λ all. put_so index (take p.n shares) new (p.put all);
-    refusal = p.refusal;
-    full = p.full;
-    none_stood = p.none_stood;
-    down = p.down;
-  }
-
-  pub lost_so : (server : ℕ) (key : ShareKey) (new : GridState) → IsLost server key (stamped_so old stamps) new → IsLost server key old new
-  lost_so server key new p = record { stands = p.stands; rooms = p.rooms }
-
-  pub spoiled_so : (server : ℕ) (key : ShareKey) (place : ℕ) (new : GridState) → IsSpoiled server key place (stamped_so old stamps) new → IsSpoiled server key place old new
-  spoiled_so server key place new p = record { stands = p.stands; rooms = p.rooms }
+pub told_raised : (old mid new : GridState) (index : List ℕ) → mid ≡ stamped_so old (raised index old.stamps) → (asked : List StoreState → Standing) → (IsHonest mid → TellsOfChange (asked mid.stores) mid new) → IsHonest old → TellsOfChange (asked old.stores) old new
+told_raised old mid new index is asked told all = subst (λ (g : GridState). TellsOfChange (asked g.stores) g new) is (told (subst IsHonest (sym is) all))
 
 pub none_there : {A : Type 0} (xs : List A) → length xs ≡ 0 → xs ≡ []
 none_there [] e = refl
@@ -146,6 +143,16 @@ same_but_held index old new same si other s n = ap (λ maps. standing maps s (si
 pub by_answer : {A E : Type 0} (P X Y : Type 0) (r : Result A E) → OnOk r X → OnErr r Y → (X → P) → (Y → P) → P
 by_answer P X Y (Ok a) ok err f g = f ok
 by_answer P X Y (Err e) ok err f g = g err
+
+-- a change at one place under an index whose stamp was raised before it
+pub change_stamped : {old mid : GridState} (new : GridState) (index : List ℕ) → mid ≡ stamped_so old (raised index old.stamps) → {A E : Type 0} (number server : ℕ) (change : Option (List ℕ) → Option (List ℕ)) (result : Result A E) (P : Type 0)
+    → (P → stood new ≡ changed_at server (index, number) change (stood old)) → new.stamps ≡ mid.stamps → (IsHonest mid → OnOk result P) → (IsHonest mid → OnErr result (HoldsAsBefore mid new)) → IsStamped old new
+change_stamped {old} {mid} new index is number server change result P stands stamps ok err =
+    raise_stamped old new index (stamps ∙ ap (λ (g : GridState). g.stamps) is)
+    (λ all. (let honest : IsHonest mid = subst IsHonest (sym is) all in
+    by_answer (SameBut index (stood old) (stood new)) P (HoldsAsBefore mid new) result (ok honest) (err honest)
+    (λ p. same_but_changed index number server change (stood old) (stood new) (stands p))
+    (λ held. same_but_held index old new (held_raised new index is held))))
 
 pub by_fault : {A E : Type 0} (P X : Type 0) (Y : E → Type 0) (r : Result A E) → OnOk r X → IfErr r Y → (X → P) → ((e : E) → Y e → P) → P
 by_fault P X Y (Ok a) ok err f g = f ok

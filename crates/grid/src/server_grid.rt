@@ -1,9 +1,8 @@
 //! A grid of stores.
-ghost use Rattle.std.specs.Prelude.{◌≡◌, ◌<◌, ◌≤◌, ◌↔◌, ◌⊎◌, Err, ◌++◌, ℕ, [], length, map, filter, All, IfOk, IfErr, IsOkAnd, OnOk, OnErr, IsErrOf, None, Some, is_some, nat_lt, unwrap_or, vec_len, IsTrue, slice_get};
+ghost use Rattle.std.specs.Prelude.{◌≡◌, ◌<◌, ◌≤◌, ◌↔◌, ◌⊎◌, Err, ◌++◌, ℕ, [], length, map, filter, All, IfOk, IfErr, OnOk, OnErr, IsErrOf, None, Some, is_some, nat_lt, unwrap_or, vec_len, IsTrue, slice_get};
 ghost use Rattle.std.specs.Rc.{rc_slice_items};
-ghost use Rattle.std.specs.Option.{option_map, option_map_or};
 ghost use Rattle.std.specs.FinMap as finite;
-ghost use Rattle.share_store.specs.Numbers.{of_index};
+ghost use Rattle.share_store.specs.Looked.{Looked};
 ghost use Rattle.share_store.specs.Put.{put_once};
 ghost use Rattle.share_store.specs.Stored.{entry_of};
 ghost use Rattle.grid.specs.GridState.{states, stores_seen, maps_of, stood, room_at, held_at, size_at, failures_at, failures_in, raised_at, IsHonest, NoneFailed};
@@ -395,52 +394,7 @@ impl<S: Store> Grid<S> {
             (within (λ f. f.1) limit
             (found_in server index (entries_at (maps_of self.old) server))) given) }
     {
-        let stored = self.numbers_at(server, index)?;
-        let numbers = below(stored, limit);
-        for &number in &numbers {
-            match self.get_at(server, index, number)? {
-                Some(bytes) => found.push((server, number, bytes))?,
-                None => {}
-            }
-        }
-        Ok(())
-    }
-
-    /// The numbers under a storage index at one server.
-    fn numbers_at(&mut self, server: usize, index: [u8; 16]) -> Result<Vec<u16>, AllocError>
-        requires { server < length self.old.stores }
-        ensures leaves { Leaves self.old self.new }
-        ensures stamps { self.new.stamps ≡ self.old.stamps }
-        ensures unchanged { IsHonest self.old → IsUnchanged self.old self.new }
-        ensures failed { failures_at self.old server < failures_at self.new server →
-            IsOkAnd result (λ numbers. numbers.items ≡ []) }
-        ensures found { IsHonest self.old →
-            failures_at self.new server ≡ failures_at self.old server →
-            IfOk result (λ numbers. numbers.items
-            ≡ map (λ e. e.0.1) (of_index index (entries_at (maps_of self.old) server))) }
-    {
-        self.stores[server].numbers(index)
-    }
-
-    /// The bytes of a share at one server.
-    fn get_at(
-        &mut self,
-        server: usize,
-        index: [u8; 16],
-        number: u16,
-    ) -> Result<Option<RcSlice<u8>>, AllocError>
-        requires { server < length self.old.stores }
-        ensures leaves { Leaves self.old self.new }
-        ensures stamps { self.new.stamps ≡ self.old.stamps }
-        ensures unchanged { IsHonest self.old → IsUnchanged self.old self.new }
-        ensures failed { failures_at self.old server < failures_at self.new server →
-            result ≡ Ok None }
-        ensures found { IsHonest self.old →
-            failures_at self.new server ≡ failures_at self.old server →
-            IfOk result (λ bytes. option_map rc_slice_items bytes
-            ≡ stood self.old server (index, number)) }
-    {
-        self.stores[server].get(index, number)
+        gather_in(&mut self.stores[server], server, index, limit, found)
     }
 
     /// Puts one share at a server.
@@ -472,6 +426,35 @@ impl<S: Store> Grid<S> {
         size_laws();
         answer_of(server, self.stores[server].put(index, number, bytes))
     }
+}
+
+/// Adds what stands under a storage index in one store, below the limit if there is one, as a server's.
+fn gather_in<S: Store>(
+    store: &mut S,
+    server: usize,
+    index: [u8; 16],
+    limit: Option<u16>,
+    found: &mut Vec<(usize, u16, RcSlice<u8>)>,
+) -> Result<(), AllocError>
+    ensures looked { Looked S.honest S.shares S.room S.failures store.old store.new }
+    ensures same_history { IsTrue (S.honest store.old) →
+        S.history store.new ≡ S.history store.old }
+    ensures found { IsTrue (S.honest store.old) → OnOk result ((given : _)
+        × (map (seen rc_slice_items) found.new.items
+        ≡ map (seen rc_slice_items) found.old.items ++ given)
+        × AllBut (λ f. (f.0 ≡ server) × (S.failures store.old < S.failures store.new))
+        (within (λ f. f.1) limit
+        (found_in server index (finite.entries (S.shares store.old)))) given) }
+{
+    let stored = store.numbers(index)?;
+    let numbers = below(stored, limit);
+    for &number in &numbers {
+        match store.get(index, number)? {
+            Some(bytes) => found.push((server, number, bytes))?,
+            None => {}
+        }
+    }
+    Ok(())
 }
 
 /// Those of these numbers that are below the limit, if there is one.

@@ -6,7 +6,7 @@ use Rattle.grid.specs.GridState.{maps_of}
 use Rattle.grid.specs.Found.{entries_at}
 use Rattle.grid.proofs.Puts.{calm_after}
 use Rattle.grid.proofs.RowsWritten.{in_list}
-use Rattle.grid.proofs.Turns.{leaves_both, unchanged_both}
+use Rattle.grid.proofs.Turns.{leaves_both, unchanged_then}
 use Rattle.grid.proofs.server_grid.Grid.count_at.Goals as goal
 
 pub loop-at-preserved : goal.loop-at-preserved
@@ -18,7 +18,7 @@ loop-at-preserved g c =
       leaves = leaves_both c.args.self.now c.loop-at.self c.share_at.new.self inv.leaves one.leaves;
       stamps = one.stamps ∙ inv.stamps;
       calm = λ s. calm_after c.loop-at.self c.share_at.new.self _ one.leaves one.down s ∙ inv.calm s;
-      unchanged = λ all. unchanged_both c.args.self.now c.loop-at.self c.share_at.new.self (inv.unchanged all) (one.unchanged (inv.leaves.honest all));
+      unchanged = unchanged_then inv.leaves inv.unchanged one.unchanged;
       few = λ all some. subst (λ (maps : List Shares). length (entries_at maps server) < 2 ^ 64) (inv.unchanged all).maps (one.few (inv.leaves.honest all));
       stand = λ all.
           let es = entries_at (maps_of c.args.self.now) server in

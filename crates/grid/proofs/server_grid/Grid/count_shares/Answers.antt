@@ -6,7 +6,7 @@ use Rattle.grid.specs.Found.{entries_at}
 use Rattle.grid.specs.Rows.{rows_below}
 use Rattle.grid.proofs.Puts.{calm_after}
 use Rattle.grid.proofs.RowsWritten.{count_next, too_many}
-use Rattle.grid.proofs.Turns.{leaves_both, unchanged_both}
+use Rattle.grid.proofs.Turns.{leaves_both, unchanged_then}
 use Rattle.grid.proofs.server_grid.Grid.count_shares.Goals as goal
 
 pub loop-server-preserved : goal.loop-server-preserved
@@ -20,7 +20,7 @@ loop-server-preserved g c =
       leaves = leaves_both old mid new inv.leaves one.leaves;
       stamps = one.stamps ∙ inv.stamps;
       calm = λ s. calm_after mid new _ one.leaves one.down s ∙ inv.calm s;
-      unchanged = λ all. unchanged_both old mid new (inv.unchanged all) (one.unchanged (inv.leaves.honest all));
+      unchanged = unchanged_then inv.leaves inv.unchanged one.unchanged;
       counted = λ all.
           let here : c.in_ok-here.here ≡ length (entries_at (maps_of old) c.loop-server.server) =
           one.found (inv.leaves.honest all) ∙ ap (λ (maps : List Shares). length (entries_at maps c.loop-server.server)) (inv.unchanged all).maps in

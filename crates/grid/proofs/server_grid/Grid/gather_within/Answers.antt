@@ -5,7 +5,7 @@ use Rattle.grid.specs.GridState.{stood, maps_of, failures_at}
 use Rattle.grid.specs.Found.{AllBut, found_in, found_below, within, entries_at, seen}
 use Rattle.grid.proofs.Gather.{all_stand}
 use Rattle.grid.proofs.Missing.{more_may_miss, all_but_both, none_missing, given_too}
-use Rattle.grid.proofs.Turns.{leaves_none, leaves_both, unchanged_none, unchanged_both}
+use Rattle.grid.proofs.Turns.{leaves_none, leaves_both, unchanged_none, unchanged_then}
 use Rattle.grid.proofs.Within.{within_none, within_append, all_within}
 use Rattle.grid.proofs.server_grid.Grid.gather_within.Goals as goal
 
@@ -37,7 +37,7 @@ loop-server-preserved g c =
     record {
       leaves = leaves_both old mid new inv.leaves one.leaves;
       stamps = one.stamps ∙ inv.stamps;
-      unchanged = λ all. unchanged_both old mid new (inv.unchanged all) (one.unchanged (inv.leaves.honest all));
+      unchanged = unchanged_then inv.leaves inv.unchanged one.unchanged;
       found = λ all.
           let P : ℕ × ℕ × List ℕ → Type 0 = λ f. failures_at old f.0 < failures_at mid f.0 in
           let M : ℕ × ℕ × List ℕ → Type 0 = λ f. failures_at mid f.0 < failures_at new f.0 in
@@ -63,9 +63,7 @@ pub returns-in_err-gather_at-clause-leaves : goal.returns-in_err-gather_at-claus
 returns-in_err-gather_at-clause-leaves g c = leaves_both c.args.self.now c.loop-server.self c.gather_at.new.self c.loop-server.invariant.leaves c.in_err-gather_at.ensures.leaves
 
 pub returns-in_err-gather_at-clause-unchanged : goal.returns-in_err-gather_at-clause-unchanged
-returns-in_err-gather_at-clause-unchanged g c all =
-    let inv = c.loop-server.invariant in
-    unchanged_both c.args.self.now c.loop-server.self c.gather_at.new.self (inv.unchanged all) (c.in_err-gather_at.ensures.unchanged (inv.leaves.honest all))
+returns-in_err-gather_at-clause-unchanged g c = unchanged_then c.loop-server.invariant.leaves c.loop-server.invariant.unchanged c.in_err-gather_at.ensures.unchanged
 
 pub returns-clause-all : goal.returns-clause-all
 returns-clause-all g c all calm =

@@ -4,13 +4,12 @@ use Rattle.std.proofs.lemmas.Option.{slice_get-get_or}
 use Rattle.std.proofs.lemmas.Result.{on_ok_weaker}
 use Rattle.std.specs.Rc.{rc_slice_items}
 use Rattle.grid.specs.declared.fault.GridFault.TheVariants.{NoMemory}
-use Rattle.grid.specs.Stamps.{raised}
+use Rattle.grid.specs.Standing.{standing}
 use Rattle.grid.specs.GridState.{GridState, stood, IsHonest}
 use Rattle.grid.specs.Changed.{ArePut, StopsAt}
 use Rattle.grid.proofs.Puts.{put_none, passed_on}
 use Rattle.grid.specs.Placement.{placed}
-use Rattle.grid.specs.Histories.{TellsOfChange}
-use Rattle.grid.proofs.Raising.{tells_so, SameBut, none_there, put_so, stops_so, raise_stamped, same_but_placed, by_fault, if_err_weaker}
+use Rattle.grid.proofs.Raising.{SameBut, none_there, put_raised, stops_raised, told_raised, raise_stamped, same_but_placed, by_fault, if_err_weaker}
 use Rattle.grid.proofs.server_grid.Grid.put_all.Goals as goal
 
 pub returns-then-shares-eq0-clause-ok : goal.returns-then-shares-eq0-clause-ok
@@ -37,13 +36,7 @@ returns-in_err-raise-clause-err g c =
 
 pub returns-clause-err : goal.returns-clause-err
 returns-clause-err g c =
-    let is = c.in_ok-raise.ensures.ok in
-    let old = c.args.self.now in
-    let new = c.put_each.new.self in
-    let shares = map rc_slice_items c.args.shares.now in
-    if_err_weaker c.put_each.result (StopsAt c.args.index shares c.raise.new.self new) (StopsAt c.args.index shares old new)
-    (λ fault p. stops_so old (raised c.args.index old.stamps) c.args.index shares new fault (subst (λ (g : GridState). StopsAt c.args.index shares g new fault) is p))
-    c.put_each.ensures.err
+    if_err_weaker c.put_each.result _ _ (stops_raised c.put_each.new.self c.args.index c.in_ok-raise.ensures.ok (map rc_slice_items c.args.shares.now)) c.put_each.ensures.err
 
 pub returns-clause-stamped : goal.returns-clause-stamped
 returns-clause-stamped g c =
@@ -52,27 +45,19 @@ returns-clause-stamped g c =
     let mid = c.raise.new.self in
     let new = c.put_each.new.self in
     let shares = map rc_slice_items c.args.shares.now in
-    let stamps = raised c.args.index old.stamps in
     raise_stamped old new c.args.index (c.put_each.ensures.stamps ∙ ap (λ (g : GridState). g.stamps) is)
     (λ all. (let honest : IsHonest mid = subst IsHonest (sym is) all in
     by_fault (SameBut c.args.index (stood old) (stood new)) (ArePut c.args.index shares mid new) (StopsAt c.args.index shares mid new) c.put_each.result
     (c.put_each.ensures.ok honest) c.put_each.ensures.err
-    (λ p. same_but_placed (length old.stores) c.args.index shares (stood old) (stood new) (put_so old stamps c.args.index shares new (subst (λ g. ArePut c.args.index shares g new) is p)).stands)
-    (λ e p. same_but_placed (length old.stores) c.args.index (take p.n shares) (stood old) (stood new) (put_so old stamps c.args.index (take p.n shares) new (subst (λ g. ArePut c.args.index (take p.n shares) g new) is (p.put honest))).stands)))
+    (λ p. same_but_placed (length old.stores) c.args.index shares (stood old) (stood new) (put_raised new c.args.index is shares p).stands)
+    (λ e p. same_but_placed (length old.stores) c.args.index (take p.n shares) (stood old) (stood new) (put_raised new c.args.index is (take p.n shares) (p.put honest)).stands)))
 
 pub returns-clause-history : goal.returns-clause-history
-returns-clause-history g c all =
-    let is = c.in_ok-raise.ensures.ok in
-    let old = c.args.self.now in
-    let new = c.put_each.new.self in
-    let shares = map rc_slice_items c.args.shares.now in
-    tells_so old (raised c.args.index old.stamps) (placed (length old.stores) c.args.index shares (stood old)) new
-    (subst (λ (g : GridState). TellsOfChange (placed (length g.stores) c.args.index shares (stood g)) g new) is (c.put_each.ensures.history (subst IsHonest (sym is) all)))
+returns-clause-history g c =
+    told_raised c.args.self.now c.raise.new.self c.put_each.new.self c.args.index c.in_ok-raise.ensures.ok
+    (λ stores. placed (length stores) c.args.index (map rc_slice_items c.args.shares.now) (standing (map (λ t. t.shares) stores))) c.put_each.ensures.history
 
 pub returns-clause-ok : goal.returns-clause-ok
 returns-clause-ok g c all =
     let is = c.in_ok-raise.ensures.ok in
-    let old = c.args.self.now in
-    let new = c.put_each.new.self in
-    let shares = map rc_slice_items c.args.shares.now in
-    on_ok_weaker c.put_each.result (λ p. put_so old (raised c.args.index old.stamps) c.args.index shares new (subst (λ g. ArePut c.args.index shares g new) is p)) (c.put_each.ensures.ok (subst IsHonest (sym is) all))
+    on_ok_weaker c.put_each.result (put_raised c.put_each.new.self c.args.index is (map rc_slice_items c.args.shares.now)) (c.put_each.ensures.ok (subst IsHonest (sym is) all))

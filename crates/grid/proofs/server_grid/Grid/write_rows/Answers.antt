@@ -11,7 +11,7 @@ use Rattle.grid.specs.declared.image_layout.Layout.TheVariants.{VersionTwo}
 use Rattle.grid.proofs.ImageWrites.{on_err, passed_cause}
 use Rattle.grid.proofs.Puts.{calm_after}
 use Rattle.grid.proofs.RowsWritten.{rows_split, written_both, stopped_rows, refused_rows}
-use Rattle.grid.proofs.Turns.{leaves_both, unchanged_both}
+use Rattle.grid.proofs.Turns.{leaves_both, unchanged_then}
 use Rattle.grid.proofs.server_grid.Grid.write_rows.Goals as goal
 
 pub loop-server-preserved : goal.loop-server-preserved
@@ -25,7 +25,7 @@ loop-server-preserved g c =
       leaves = leaves_both old mid new inv.leaves one.leaves;
       stamps = one.stamps ∙ inv.stamps;
       calm = λ s. calm_after mid new _ one.leaves one.down s ∙ inv.calm s;
-      unchanged = λ all. unchanged_both old mid new (inv.unchanged all) (one.unchanged (inv.leaves.honest all));
+      unchanged = unchanged_then inv.leaves inv.unchanged one.unchanged;
       done = (
         inv.done.0 ++ one.ok.0,
         written_both _ _ _ _ inv.done.0 inv.done.1 _ _ one.ok.0 one.ok.1,
@@ -49,9 +49,7 @@ pub returns-in_err-write_server-clause-leaves : goal.returns-in_err-write_server
 returns-in_err-write_server-clause-leaves g c = leaves_both c.args.self.now c.loop-server.self c.write_server.new.self c.loop-server.invariant.leaves c.in_err-write_server.ensures.leaves
 
 pub returns-in_err-write_server-clause-unchanged : goal.returns-in_err-write_server-clause-unchanged
-returns-in_err-write_server-clause-unchanged g c all =
-    let inv = c.loop-server.invariant in
-    unchanged_both c.args.self.now c.loop-server.self c.write_server.new.self (inv.unchanged all) (c.in_err-write_server.ensures.unchanged (inv.leaves.honest all))
+returns-in_err-write_server-clause-unchanged g c = unchanged_then c.loop-server.invariant.leaves c.loop-server.invariant.unchanged c.in_err-write_server.ensures.unchanged
 
 pub returns-in_err-write_server-clause-err : goal.returns-in_err-write_server-clause-err
 returns-in_err-write_server-clause-err g c all =

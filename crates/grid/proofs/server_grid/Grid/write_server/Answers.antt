@@ -16,7 +16,7 @@ use Rattle.grid.proofs.ImageWrites.{on_err, passed_cause, stopped_before}
 use Rattle.grid.proofs.Puts.{calm_after}
 use Rattle.grid.proofs.RowLists.{map_take_more}
 use Rattle.grid.proofs.RowsWritten.{mapped_parts, mapped_split, written_both, stopped_rows, stopped_here, refused_rows}
-use Rattle.grid.proofs.Turns.{leaves_both, unchanged_both}
+use Rattle.grid.proofs.Turns.{leaves_both, unchanged_then}
 use Rattle.grid.proofs.server_grid.Grid.write_server.Goals as goal
 
 pub loop-at-preserved : goal.loop-at-preserved
@@ -30,7 +30,7 @@ loop-at-preserved g c =
       leaves = leaves_both c.args.self.now c.loop-at.self c.share_at.new.self inv.leaves one.leaves;
       stamps = one.stamps ∙ inv.stamps;
       calm = λ s. calm_after c.loop-at.self c.share_at.new.self _ one.leaves one.down s ∙ inv.calm s;
-      unchanged = λ all. unchanged_both c.args.self.now c.loop-at.self c.share_at.new.self (inv.unchanged all) (one.unchanged (inv.leaves.honest all));
+      unchanged = unchanged_then inv.leaves inv.unchanged one.unchanged;
       few = λ all some. subst (λ (maps : List Shares). length (entries_at maps server) < 2 ^ 64) (inv.unchanged all).maps (one.few (inv.leaves.honest all));
       done = (
         inv.done.0 ++ row (entry_of share) ∷ [],
@@ -115,22 +115,16 @@ pub returns-in_err-share_at-clause-leaves : goal.returns-in_err-share_at-clause-
 returns-in_err-share_at-clause-leaves g c = leaves_both c.args.self.now c.loop-at.self c.share_at.new.self c.loop-at.invariant.leaves c.in_err-share_at.ensures.leaves
 
 pub returns-in_err-share_at-clause-unchanged : goal.returns-in_err-share_at-clause-unchanged
-returns-in_err-share_at-clause-unchanged g c all =
-    let inv = c.loop-at.invariant in
-    unchanged_both c.args.self.now c.loop-at.self c.share_at.new.self (inv.unchanged all) (c.in_err-share_at.ensures.unchanged (inv.leaves.honest all))
+returns-in_err-share_at-clause-unchanged g c = unchanged_then c.loop-at.invariant.leaves c.loop-at.invariant.unchanged c.in_err-share_at.ensures.unchanged
 
 pub returns-in-None-clause-leaves : goal.returns-in-None-clause-leaves
 returns-in-None-clause-leaves g c = leaves_both c.args.self.now c.loop-at.self c.share_at.new.self c.loop-at.invariant.leaves c.in_ok-share_at.ensures.leaves
 
 pub returns-in-None-clause-unchanged : goal.returns-in-None-clause-unchanged
-returns-in-None-clause-unchanged g c all =
-    let inv = c.loop-at.invariant in
-    unchanged_both c.args.self.now c.loop-at.self c.share_at.new.self (inv.unchanged all) (c.in_ok-share_at.ensures.unchanged (inv.leaves.honest all))
+returns-in-None-clause-unchanged g c = unchanged_then c.loop-at.invariant.leaves c.loop-at.invariant.unchanged c.in_ok-share_at.ensures.unchanged
 
 pub returns-in_err-write_row-in-Some-clause-leaves : goal.returns-in_err-write_row-in-Some-clause-leaves
 returns-in_err-write_row-in-Some-clause-leaves g c = leaves_both c.args.self.now c.loop-at.self c.share_at.new.self c.loop-at.invariant.leaves c.in_ok-share_at.ensures.leaves
 
 pub returns-in_err-write_row-in-Some-clause-unchanged : goal.returns-in_err-write_row-in-Some-clause-unchanged
-returns-in_err-write_row-in-Some-clause-unchanged g c all =
-    let inv = c.loop-at.invariant in
-    unchanged_both c.args.self.now c.loop-at.self c.share_at.new.self (inv.unchanged all) (c.in_ok-share_at.ensures.unchanged (inv.leaves.honest all))
+returns-in_err-write_row-in-Some-clause-unchanged g c = unchanged_then c.loop-at.invariant.leaves c.loop-at.invariant.unchanged c.in_ok-share_at.ensures.unchanged
