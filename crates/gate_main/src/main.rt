@@ -3,16 +3,14 @@
 //! on an address and serves connections one after the other, over stores in memory.
 #![tactic(auto)]
 
-/// What is wrong with arguments that ask for nothing.
-mod wrong;
-
-ghost use Rattle.std.specs.Prelude.{◌≡◌, ◌≢◌, ◌⊎◌, Err};
+ghost use Rattle.std.specs.Prelude.{◌≡◌, ◌≢◌, Err};
 ghost use Rattle.std.specs.Process.{exit_status as status_at_exit};
-ghost use Rattle.gate_tasks.specs.Arguments.{Asks};
+ghost use Rattle.gate_tasks.specs.Arguments.{Asks, IsRefused};
 ghost use Rattle.gate_tasks.specs.Status.{status_of};
 
+use gate_tasks::laws::usage_laws;
 use gate_tasks::{
-    ProgramFault, Service, Task, exit_status, read_task, run_script, serve_on, set_up,
+    ProgramFault, Service, Task, UsageFault, exit_status, read_task, run_script, serve_on, set_up,
 };
 use octets::Bytes;
 use std::io::{BufReader, BufWriter, ErrorKind};
@@ -20,7 +18,6 @@ use std::net::{Net, TcpListener, TcpStream};
 use std::process::ExitCode;
 use std::rt::Env;
 use std::{env, io};
-use wrong::what_is_wrong;
 
 /// How many bytes are read and written at a time.
 const BUFFER: usize = 65_536;
@@ -53,34 +50,25 @@ fn run<
 fn carry_out<
     R: Input + Print + Eprint + AllocGlobal + Net<Listener = TcpListener, Stream = TcpStream>,
 >(rt: &R, words: &[Bytes]) -> Result<(), ProgramFault>
+    ensures asked { (task : Task) → Asks words.now task → (fault : UsageFault) →
+        result ≢ Err (ProgramFault.Usage fault) }
     ensures usage { ((task : Task) → ¬ (Asks words.now task)) →
-        (result ≡ Err ProgramFault.Usage) ⊎ (result ≡ Err ProgramFault.NoMemory) }
-    ensures asked { (task : Task) → Asks words.now task → result ≢ Err ProgramFault.Usage }
+        (fault : ProgramFault) × (result ≡ Err fault) × IsRefused words.now fault }
 {
-    let Ok(task) = read_task(rt.alloc(), words) else {
-        return Err(ProgramFault::NoMemory);
-    };
-    match task {
-        Some(Task::Replay) => replay(rt),
-        Some(Task::Serve(service)) => serve(rt, &service),
-        None => Err(refuse(rt, words)),
+    usage_laws();
+    match read_task(rt.alloc(), words) {
+        Ok(Task::Replay) => replay(rt),
+        Ok(Task::Serve(service)) => serve(rt, &service),
+        Err(fault) => Err(fault),
     }
 }
 
-/// Tells what is wrong with words that ask for nothing, and refuses them.
-fn refuse(rt: &impl Eprint, words: &[Bytes]) -> ProgramFault
-    ensures { result ≡ ProgramFault.Usage }
-{
-    let _ = eprintln!(rt; "gate_main: {}", what_is_wrong(words));
-    ProgramFault::Usage
-}
-
-/// The arguments after the program's name. One that is no text is a fault of usage.
+/// The arguments after the program's name.
 fn read_words(rt: &(impl Env + AllocGlobal)) -> Result<Vec<Bytes>, ProgramFault> {
     let arguments = match env::args(rt) {
         Ok(arguments) => arguments,
         Err(error) if error.kind() == ErrorKind::OutOfMemory => return Err(ProgramFault::NoMemory),
-        Err(_) => return Err(ProgramFault::Usage),
+        Err(_) => return Err(ProgramFault::Usage(UsageFault::NoText)),
     };
     let mut words = Vec::new(rt.alloc());
     for argument in arguments.skip(1) {
@@ -91,7 +79,7 @@ fn read_words(rt: &(impl Env + AllocGlobal)) -> Result<Vec<Bytes>, ProgramFault>
 
 /// Runs the script on standard input, and writes its answers to standard output.
 fn replay(rt: &(impl Input + Print + AllocGlobal)) -> Result<(), ProgramFault>
-    ensures { result ≢ Err ProgramFault.Usage }
+    ensures { (fault : UsageFault) → result ≢ Err (ProgramFault.Usage fault) }
 {
     let Ok(mut reader) = BufReader::with_capacity(rt.alloc(), BUFFER, rt.reader()) else {
         return Err(ProgramFault::NoMemory);
@@ -110,7 +98,7 @@ fn serve<R: Print + Eprint + AllocGlobal + Net<Listener = TcpListener, Stream = 
     rt: &R,
     service: &Service,
 ) -> Result<(), ProgramFault>
-    ensures { result ≢ Err ProgramFault.Usage }
+    ensures { (fault : UsageFault) → result ≢ Err (ProgramFault.Usage fault) }
 {
     let Ok(mut gateway) = set_up(rt.alloc(), service.secret.as_slice()) else {
         return Err(ProgramFault::NoMemory);

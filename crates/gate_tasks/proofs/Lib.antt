@@ -3,6 +3,7 @@ pub mod TextLaws
 pub mod Commands
 pub mod Parts
 pub mod Asks
+pub mod Usage
 pub mod LineLists
 pub mod StoreLists
 pub mod Begins

@@ -16,7 +16,7 @@ usage_status = 2
 -- the status of an outcome
 abbrev pub status_of : Result (Unit {0}) ProgramFault → ℕ
 status_of (Ok done) = done_status
-status_of (Err Usage) = usage_status
+status_of (Err (Usage fault)) = usage_status
 status_of (Err (Script fault)) = fault_status
 status_of (Err BindFailed) = fault_status
 status_of (Err (Serve fault)) = fault_status

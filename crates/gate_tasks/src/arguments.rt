@@ -1,14 +1,11 @@
 //! The program's arguments.
-ghost use Rattle.std.specs.Prelude.{◌≡◌, ◌≤◌, ℕ, List, Ok, Some, length, IfOk, MatchOption};
-ghost use Rattle.std.specs.Net.Grammar.{IsSocketText};
-ghost use Rattle.std.specs.declared.net.socket_addr.SocketAddr.{SocketAddr};
+ghost use Rattle.std.specs.Prelude.{◌≡◌, ◌≤◌, ℕ, List, Ok, Some, length, IfOk, IfErr, MatchOption};
 ghost use Rattle.base32_text.specs.Reading.{reading};
 ghost use Rattle.gate_tasks.specs.Command.{spelled};
 ghost use Rattle.octets.specs.Decimal.{number_to};
-ghost use Rattle.gate_tasks.specs.declared.arguments.Service.{Service};
-ghost use Rattle.gate_tasks.specs.declared.arguments.Task.{Task};
-ghost use Rattle.gate_tasks.specs.Arguments.{Asks, AsksToServe, AsksService, most_connections, most_secret};
+ghost use Rattle.gate_tasks.specs.Arguments.{Asks, AsksToServe, AsksService, IsWrongToServe, IsWrongService, IsRefused, IsRefusedFor, most_connections, most_secret};
 
+use crate::fault::{ProgramFault, UsageFault};
 use crate::spelling::read_spelled;
 use octets::{Bytes, read_number};
 use std::alloc::{AllocError, Global};
@@ -40,83 +37,71 @@ pub enum Task {
     Serve(Service),
 }
 
-/// What the arguments after the program's name ask for, or `None` where they ask for nothing that there is.
-pub fn read_task(alloc: Global, words: &[Bytes]) -> Result<Option<Task>, AllocError>
-    ensures { IfOk result (λ task.
-        MatchOption task ((t : Task) → ¬ (Asks words.now t)) (λ t. Asks words.now t)) }
+/// What the arguments after the program's name ask for, or the first of them that is wrong. `NoMemory` where memory to
+/// read them was refused.
+pub fn read_task(alloc: Global, words: &[Bytes]) -> Result<Task, ProgramFault>
+    ensures asks { IfOk result (λ task. Asks words.now task) }
+    ensures refused { IfErr result (λ fault. IsRefused words.now fault) }
 {
     let Some((verb, arguments)) = words.split_first() else {
-        return Ok(None);
+        return Err(ProgramFault::Usage(UsageFault::NoCommand));
     };
     if verb.as_slice() == b"replay".as_slice() {
         if !arguments.is_empty() {
-            return Ok(None);
+            return Err(ProgramFault::Usage(UsageFault::ReplayCount));
         }
-        return Ok(Some(Task::Replay));
+        return Ok(Task::Replay);
     }
     if verb.as_slice() != b"serve".as_slice() {
-        return Ok(None);
+        return Err(ProgramFault::Usage(UsageFault::OtherCommand));
     }
-    let Some(service) = read_arguments(alloc, arguments)? else {
-        return Ok(None);
-    };
-    Ok(Some(Task::Serve(service)))
+    let service = read_arguments(alloc, arguments)?;
+    Ok(Task::Serve(service))
 }
 
-/// The service that the arguments after `serve` ask for.
-fn read_arguments(alloc: Global, arguments: &[Bytes]) -> Result<Option<Service>, AllocError>
-    ensures { IfOk result (λ service. MatchOption service
-        ((s : Service) → ¬ (AsksToServe arguments.now s)) (λ s. AsksToServe arguments.now s)) }
+/// The service that the arguments after `serve` ask for, or what is wrong with them.
+fn read_arguments(alloc: Global, arguments: &[Bytes]) -> Result<Service, ProgramFault>
+    ensures asks { IfOk result (λ service. AsksToServe arguments.now service) }
+    ensures refused { IfErr result (λ fault. IsRefusedFor (IsWrongToServe arguments.now) fault) }
 {
     match arguments.len() {
-        2 => {
-            let service = read_service(
-                alloc,
-                arguments[0].as_slice(),
-                arguments[1].as_slice(),
-                b"",
-            )?;
-            Ok(service)
-        }
-        3 => {
-            let service = read_service(
-                alloc,
-                arguments[0].as_slice(),
-                arguments[1].as_slice(),
-                arguments[2].as_slice(),
-            )?;
-            Ok(service)
-        }
-        _ => Ok(None),
+        2 => read_service(alloc, arguments[0].as_slice(), arguments[1].as_slice(), b""),
+        3 => read_service(
+            alloc,
+            arguments[0].as_slice(),
+            arguments[1].as_slice(),
+            arguments[2].as_slice(),
+        ),
+        _ => Err(ProgramFault::Usage(UsageFault::ServeCount)),
     }
 }
 
-/// The service that ADDR, CONNS and SECRET ask for.
+/// The service that ADDR, CONNS and SECRET ask for, or the first of them that is wrong.
 fn read_service(
     alloc: Global,
     address: &[u8],
     connections: &[u8],
     secret: &[u8],
-) -> Result<Option<Service>, AllocError>
-    ensures { IfOk result (λ service.
-        MatchOption service
-        ((s : Service) → ¬ (AsksService address.now connections.now secret.now s))
-        (λ s. AsksService address.now connections.now secret.now s)) }
+) -> Result<Service, ProgramFault>
+    ensures asks { IfOk result (λ service.
+        AsksService address.now connections.now secret.now service) }
+    ensures refused { IfErr result (λ fault.
+        IsRefusedFor (IsWrongService address.now connections.now secret.now) fault) }
 {
     let Ok(address) = SocketAddr::parse_ascii(address) else {
-        return Ok(None);
+        return Err(ProgramFault::Usage(UsageFault::Address));
     };
     let Some(connections) = read_connections(connections) else {
-        return Ok(None);
+        return Err(ProgramFault::Usage(UsageFault::Connections));
     };
     let Some(secret) = read_secret(alloc, secret)? else {
-        return Ok(None);
+        return Err(ProgramFault::Usage(UsageFault::Secret));
     };
-    Ok(Some(Service {
+    Ok(Service {
         address,
         connections,
         secret,
-    }))
+    })
 }
 
 /// The number of connections that a text writes, 1 to 65,535.

@@ -53,12 +53,41 @@ pub enum ServeFault {
     AcceptFailed = 5,
 }
 
+/// Why arguments ask for nothing that there is: the first that is wrong, from left to right.
+#[derive(Clone, Copy, Debug, PartialEq, Eq, Error)]
+pub enum UsageFault {
+    /// One of them is no text.
+    #[error("an argument is no UTF-8")]
+    NoText,
+    /// There is none.
+    #[error("there is no command")]
+    NoCommand,
+    /// The first is neither `replay` nor `serve`.
+    #[error("the command is neither replay nor serve")]
+    OtherCommand,
+    /// Some stand behind `replay`.
+    #[error("replay takes no argument: the script is its standard input")]
+    ReplayCount,
+    /// Neither two nor three stand behind `serve`.
+    #[error("serve takes ADDR, CONNS and at most a SECRET")]
+    ServeCount,
+    /// The first behind `serve` is no socket address.
+    #[error("ADDR is no IP address in numbers with a port, as 127.0.0.1:3456")]
+    Address,
+    /// The second behind `serve` is no number of connections.
+    #[error("CONNS is no number from 1 to 65535")]
+    Connections,
+    /// The third behind `serve` spells no secret.
+    #[error("SECRET is no base32 text of at most 256 bytes")]
+    Secret,
+}
+
 /// Why the program ended before its end.
 #[derive(Clone, Copy, Debug, PartialEq, Eq, Error)]
 pub enum ProgramFault {
     /// The arguments ask for nothing that there is.
-    #[error("usage: gate_main replay < SCRIPT, or gate_main serve ADDR CONNS [SECRET]")]
-    Usage,
+    #[error("{0}; usage: gate_main replay < SCRIPT, or gate_main serve ADDR CONNS [SECRET]")]
+    Usage(UsageFault),
     /// The script's run ended before the script's end.
     #[error("{0}")]
     Script(ScriptFault),
@@ -77,6 +106,8 @@ pub enum ProgramFault {
 }
 
 impl From<AllocError> for ProgramFault {
+    ghost from_gives = { λ _ fault. fault ≡ program.NoMemory };
+
     fn from(_error: AllocError) -> ProgramFault {
         ProgramFault::NoMemory
     }

@@ -7,7 +7,10 @@ ghost use Rattle.gate_core.specs.Events.{Event};
 ghost use Rattle.gate_core.specs.Rooms.{Rooms};
 ghost use Rattle.gate_core.specs.Came.{Opening};
 ghost use Rattle.gate_core.specs.Uploaded.{IsLeftBy};
+ghost use Rattle.gate_tasks.specs.Arguments.{Asks, IsWrong};
+ghost use Rattle.gate_tasks.specs.declared.arguments.Task.{Task};
 ghost use Rattle.gate_tasks.specs.declared.command.Grid.{Grid};
+ghost use Rattle.gate_tasks.specs.declared.fault.UsageFault.{UsageFault};
 ghost use Rattle.gate_tasks.specs.Replies.{settings_by, opening_by, are_parameters, room_of, IsOpenedBy, world_by, IsImageAfter};
 ghost use Rattle.gate_tasks.specs.Lines.{lines_of, piece_of};
 ghost use Rattle.gate_tasks.specs.Text.{unescaped, escaped};
@@ -42,3 +45,11 @@ pub fn images_bring_what_stood()
 {
     grid::laws::image_laws();
 }
+
+/// Words of which one is wrong ask for nothing, and what is told of them is decided: it is the first that is wrong.
+pub fn usage_laws()
+    ensures nothing { (words : List (List ℕ)) (fault : UsageFault) (task : Task) →
+        IsWrong words fault → ¬ (Asks words task) }
+    ensures decided { (words : List (List ℕ)) (fault other : UsageFault) →
+        IsWrong words fault → IsWrong words other → fault ≡ other }
+{}

@@ -38,7 +38,7 @@ mod verb;
 pub use arguments::{Service, Task, read_task};
 pub use calls::MemGateway;
 pub use connection::turns;
-pub use fault::{ProgramFault, ScriptFault, ServeFault};
+pub use fault::{ProgramFault, ScriptFault, ServeFault, UsageFault};
 pub use script::run_script;
 pub use serving::serve_on;
 pub use setup::set_up;

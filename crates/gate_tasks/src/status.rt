@@ -11,7 +11,7 @@ pub fn exit_status(outcome: &Result<(), ProgramFault>) -> u8
 {
     match outcome {
         Ok(()) => 0,
-        Err(ProgramFault::Usage) => 2,
+        Err(ProgramFault::Usage(_)) => 2,
         Err(_) => 1,
     }
 }

@@ -1,6 +1,8 @@
 //! Arguments, statuses and words.
 use gate_flow::FlowFault;
-use gate_tasks::{ProgramFault, ScriptFault, ServeFault, Task, exit_status, read_task};
+use gate_tasks::{
+    ProgramFault, ScriptFault, ServeFault, Task, UsageFault, exit_status, read_task,
+};
 use octets::Bytes;
 use std::alloc::{AllocError, Global};
 
@@ -12,35 +14,57 @@ fn words(alloc: Global, texts: &[&str]) -> Result<Vec<Bytes>, AllocError> {
     Ok(words)
 }
 
-/// What arguments ask for: 0 for nothing, 1 for a script, 2 for a server.
-fn asked(alloc: Global, texts: &[&str]) -> Result<u8, AllocError> {
+/// What arguments ask for: 1 for a script, 2 for a server, or which of them is wrong.
+fn asked(alloc: Global, texts: &[&str]) -> Result<Result<u8, UsageFault>, AllocError> {
     let words = words(alloc, texts)?;
-    Ok(match read_task(alloc, &words)? {
-        None => 0,
-        Some(Task::Replay) => 1,
-        Some(Task::Serve(_)) => 2,
-    })
+    match read_task(alloc, &words) {
+        Ok(Task::Replay) => Ok(Ok(1)),
+        Ok(Task::Serve(_)) => Ok(Ok(2)),
+        Err(ProgramFault::Usage(fault)) => Ok(Err(fault)),
+        Err(_) => Err(AllocError),
+    }
 }
 
 /// Arguments, and what they ask for.
-const ASKED: &[(&[&str], u8)] = &[
-    (&["replay"], 1),
-    (&["serve", "127.0.0.1:80", "1"], 2),
-    (&["serve", "[::1]:0", "65535", "my"], 2),
-    (&["serve", "127.0.0.1:80", "1", ""], 2),
-    (&["replay", "x"], 0),
-    (&["Replay"], 0),
-    (&["serve"], 0),
-    (&["serve", "127.0.0.1:80"], 0),
-    (&["serve", "localhost:80", "1"], 0),
-    (&["serve", "127.0.0.1", "1"], 0),
-    (&["serve", "127.0.0.1:80", "0"], 0),
-    (&["serve", "127.0.0.1:80", "01"], 0),
-    (&["serve", "127.0.0.1:80", "65536"], 0),
-    (&["serve", "127.0.0.1:80", "1", "mz"], 0),
-    (&["serve", "127.0.0.1:80", "1", "MY"], 0),
-    (&["serve", "127.0.0.1:80", "1", "my", "x"], 0),
-    (&[], 0),
+const ASKED: &[(&[&str], Result<u8, UsageFault>)] = &[
+    (&["replay"], Ok(1)),
+    (&["serve", "127.0.0.1:80", "1"], Ok(2)),
+    (&["serve", "[::1]:0", "65535", "my"], Ok(2)),
+    (&["serve", "127.0.0.1:80", "1", ""], Ok(2)),
+    (&["replay", "x"], Err(UsageFault::ReplayCount)),
+    (&["Replay"], Err(UsageFault::OtherCommand)),
+    (&["serve"], Err(UsageFault::ServeCount)),
+    (&["serve", "127.0.0.1:80"], Err(UsageFault::ServeCount)),
+    (
+        &["serve", "localhost:80", "0"],
+        Err(UsageFault::Address),
+    ),
+    (&["serve", "127.0.0.1", "1"], Err(UsageFault::Address)),
+    (
+        &["serve", "127.0.0.1:80", "0", "mz"],
+        Err(UsageFault::Connections),
+    ),
+    (
+        &["serve", "127.0.0.1:80", "01"],
+        Err(UsageFault::Connections),
+    ),
+    (
+        &["serve", "127.0.0.1:80", "65536"],
+        Err(UsageFault::Connections),
+    ),
+    (
+        &["serve", "127.0.0.1:80", "1", "mz"],
+        Err(UsageFault::Secret),
+    ),
+    (
+        &["serve", "127.0.0.1:80", "1", "MY"],
+        Err(UsageFault::Secret),
+    ),
+    (
+        &["serve", "127.0.0.1:80", "1", "my", "x"],
+        Err(UsageFault::ServeCount),
+    ),
+    (&[], Err(UsageFault::NoCommand)),
 ];
 
 #[test]
@@ -55,9 +79,9 @@ fn arguments_are_read(rt: HostRuntime) -> Result<(), AllocError> {
 /// Faults that end the program, with its status and what is told.
 const PROGRAM_FAULTS: &[(ProgramFault, u8, &str)] = &[
     (
-        ProgramFault::Usage,
+        ProgramFault::Usage(UsageFault::NoCommand),
         2,
-        "usage: gate_main replay < SCRIPT, or gate_main serve ADDR CONNS [SECRET]",
+        "there is no command; usage: gate_main replay < SCRIPT, or gate_main serve ADDR CONNS [SECRET]",
     ),
     (
         ProgramFault::Script(ScriptFault::BadLine(7)),
