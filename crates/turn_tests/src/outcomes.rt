@@ -1,8 +1,6 @@
 //! Arguments, statuses and words.
 use gate_flow::FlowFault;
-use gate_tasks::{
-    ProgramFault, ScriptFault, ServeFault, Task, UsageFault, exit_status, read_task,
-};
+use gate_tasks::{ProgramFault, ScriptFault, ServeFault, Task, UsageFault, exit_status, read_task};
 use octets::Bytes;
 use std::alloc::{AllocError, Global};
 
@@ -35,10 +33,7 @@ const ASKED: &[(&[&str], Result<u8, UsageFault>)] = &[
     (&["Replay"], Err(UsageFault::OtherCommand)),
     (&["serve"], Err(UsageFault::ServeCount)),
     (&["serve", "127.0.0.1:80"], Err(UsageFault::ServeCount)),
-    (
-        &["serve", "localhost:80", "0"],
-        Err(UsageFault::Address),
-    ),
+    (&["serve", "localhost:80", "0"], Err(UsageFault::Address)),
     (&["serve", "127.0.0.1", "1"], Err(UsageFault::Address)),
     (
         &["serve", "127.0.0.1:80", "0", "mz"],
@@ -126,6 +121,36 @@ const PROGRAM_FAULTS: &[(ProgramFault, u8, &str)] = &[
     (ProgramFault::NoMemory, 1, "out of memory"),
 ];
 
+/// What is wrong with arguments, with what is told.
+const USAGE_FAULTS: &[(UsageFault, &str)] = &[
+    (UsageFault::NoText, "an argument is no UTF-8"),
+    (UsageFault::NoCommand, "there is no command"),
+    (
+        UsageFault::OtherCommand,
+        "the command is neither replay nor serve",
+    ),
+    (
+        UsageFault::ReplayCount,
+        "replay takes no argument: the script is its standard input",
+    ),
+    (
+        UsageFault::ServeCount,
+        "serve takes ADDR, CONNS and at most a SECRET",
+    ),
+    (
+        UsageFault::Address,
+        "ADDR is no IP address in numbers with a port, as 127.0.0.1:3456",
+    ),
+    (
+        UsageFault::Connections,
+        "CONNS is no number from 1 to 65535",
+    ),
+    (
+        UsageFault::Secret,
+        "SECRET is no base32 text of at most 256 bytes",
+    ),
+];
+
 /// Faults that end a connection's turns, with what is told.
 const TURN_FAULTS: &[(FlowFault, &str)] = &[
     (FlowFault::Refused, "the gateway refused it"),
@@ -141,6 +166,10 @@ fn outcomes_have_their_words_and_statuses(rt: HostRuntime) -> Result<(), AllocEr
         let told = format!(in rt.alloc(); "{fault}")?;
         assert!(rt; told.as_str() == *words);
         assert!(rt; exit_status(&Err(*fault)) == *status);
+    }
+    for (fault, words) in USAGE_FAULTS {
+        let told = format!(in rt.alloc(); "{fault}")?;
+        assert!(rt; told.as_str() == *words);
     }
     for (fault, words) in TURN_FAULTS {
         let told = format!(in rt.alloc(); "{fault}")?;
