@@ -1,40 +1,21 @@
 -- Shares put one after the other.
-use Rattle.std.proofs.Common.{◌≡◌, ◌<◌, ◌≤◌, ℕ, zero, suc, ◌+◌, Bool, true, false, cond, List, [], ◌∷◌, ◌++◌, map, length, drop, Option, Some, None, is_some, refl, sym, ap, ◌∙◌, arith, add-one, T}
+use Rattle.std.proofs.Common.{◌≡◌, ◌<◌, ◌≤◌, ℕ, zero, suc, ◌+◌, Bool, true, false, cond, List, [], ◌∷◌, ◌++◌, map, length, drop, Option, Some, None, is_some, refl, sym, ap, ◌∙◌, arith, add-one}
 use Rattle.std.proofs.lemmas.List.{take_all, length-map}
 use Rattle.std.specs.Prelude.{take, slice_get, unwrap_or}
 use Rattle.std.specs.Option.{option_or}
 use Rattle.std.specs.Ordering.{eq_by_cmp}
-use Rattle.std.specs.FinMap.{find, get, contains_key, entries, entries_sorted, empty, insert, get-entries, get-empty, get-insert, same_map}
-use Rattle.std.proofs.lemmas.Map.Views.{tells_apart}
+use Rattle.std.specs.FinMap.{find, get, contains_key, entries, empty, get-entries, get-empty, same_map}
 use Rattle.share_store.specs.Shares.{Shares, ShareKey, Entry, bytes_of, key_cmp}
 use Rattle.share_store.specs.SizeLaws.{SizeLaws}
 use Rattle.share_store.specs.MapLaws.{key_cmp_total, key_cmp_exact}
 use Rattle.share_store.specs.Put.{put_once}
-use Rattle.share_store.proofs.Sorted.{find_at}
+use Rattle.share_store.proofs.Nth.{more, entry_at, found_at}
+use Rattle.share_store.proofs.Puts.{get-put}
 use Rattle.kept_store.specs.Filled.{filled, IsTooLong}
 
 filled-push : (es : List Entry) (e : Entry) (m : Shares) → filled (es ++ e ∷ []) m ≡ put_once (filled es m) e.0 e.1
 filled-push [] e m = refl
 filled-push (x ∷ es) e m = filled-push es e (put_once m x.0 x.1)
-
-more : (es : List Entry) (i : ℕ) (e : Entry) → slice_get es i ≡ Some e → take (suc i) es ≡ take i es ++ e ∷ []
-more [] i e is = cc
-more (x ∷ es) zero e is = let same : x ≡ e = cc in ap (λ (f : Entry). f ∷ []) same
-more (x ∷ es) (suc i) e is = ap (λ (l : List Entry). x ∷ l) (more es i e is)
-
--- the entry of a key
-pub entry_at : (es : List Entry) (i : ℕ) (key : ShareKey) → slice_get (map (λ (e : Entry). e.0) es) i ≡ Some key → (b : List ℕ) × (slice_get es i ≡ Some (key, b))
-entry_at [] i key is = cc
-entry_at (x ∷ es) zero key is = let same : x.0 ≡ key = cc in (x.1, ap (λ (k : ShareKey). Some (k, x.1)) same)
-entry_at (x ∷ es) (suc i) key is = entry_at es i key is
-
--- what is found at it
-pub found_at : (m : Shares) (i : ℕ) (key : ShareKey) (b : List ℕ) → slice_get (entries m) i ≡ Some (key, b) → get m key ≡ Some b
-found_at m i key b at = get-entries m key ∙ find_at key_cmp_total (entries m) key b i at (sorted_is _ (entries_sorted m))
-  where
-    sorted_is : (t : Bool) → T t → t ≡ true
-    sorted_is true h = refl
-    sorted_is false h = absurd h
 
 pub one_more : (m : Shares) (i : ℕ) (key : ShareKey) (b : List ℕ) (s : Shares) → slice_get (entries m) i ≡ Some (key, b) → s ≡ filled (take i (entries m)) empty
     → put_once s key b ≡ filled (take (i + 1) (entries m)) empty
@@ -45,24 +26,6 @@ one_more m i key b s at is =
     ap (λ (n : Shares). put_once n key b) is ∙ sym (filled-push (take i (entries m)) e empty) ∙ ap fill (sym step)
 
 -- ---- all of them
-
-get-put : (m : Shares) (key : ShareKey) (b : List ℕ) (q : ShareKey) → get (put_once m key b) q ≡ cond (eq_by_cmp key_cmp q key) (Some (unwrap_or (get m q) b)) (get m q)
-get-put m key b q = by_case (get m key) refl
-  where
-    tied : eq_by_cmp key_cmp q key ≡ true → get m q ≡ get m key
-    tied t = ap (get m) (tells_apart key_cmp_exact q key t)
-
-    there : (t : Bool) (x : List ℕ) → eq_by_cmp key_cmp q key ≡ t → get m key ≡ Some x → get m q ≡ cond t (Some (unwrap_or (get m q) b)) (get m q)
-    there true x t is = let at : get m q ≡ Some x = tied t ∙ is in at ∙ ap (λ (o : Option (List ℕ)). Some (unwrap_or o b)) (sym at)
-    there false x t is = refl
-
-    fresh : (t : Bool) → eq_by_cmp key_cmp q key ≡ t → get m key ≡ None → cond t (Some b) (get m q) ≡ cond t (Some (unwrap_or (get m q) b)) (get m q)
-    fresh true t is = let at : get m q ≡ None = tied t ∙ is in ap (λ (o : Option (List ℕ)). Some (unwrap_or o b)) (sym at)
-    fresh false t is = refl
-
-    by_case : (o : Option (List ℕ)) → get m key ≡ o → get (cond (is_some (get m key)) m (insert m key b)) q ≡ cond (eq_by_cmp key_cmp q key) (Some (unwrap_or (get m q) b)) (get m q)
-    by_case (Some x) is = ap (λ (o : Option (List ℕ)). get (cond (is_some o) m (insert m key b)) q) is ∙ there (eq_by_cmp key_cmp q key) x refl is
-    by_case None is = ap (λ (o : Option (List ℕ)). get (cond (is_some o) m (insert m key b)) q) is ∙ get-insert key_cmp_total m key b q ∙ fresh (eq_by_cmp key_cmp q key) refl is
 
 get-filled : (es : List Entry) (s : Shares) (q : ShareKey) → get (filled es s) q ≡ option_or (get s q) (find key_cmp q es)
 get-filled [] s q = by_case (get s q)

@@ -3,6 +3,7 @@ pub mod Levels
 pub mod Nth
 pub mod Parts
 pub mod Places
+pub mod Puts
 pub mod Sizes
 pub mod Sorted
 pub mod Stands

@@ -1,11 +1,23 @@
 -- The share at a place, and what stands under its name.
-use Rattle.std.proofs.Common.{◌≡◌, ℕ, Bool, true, false, List, Option, Some, None, refl, sym, ap, ◌∙◌, T}
-use Rattle.std.specs.Prelude.{slice_get}
+use Rattle.std.proofs.Common.{◌≡◌, ℕ, zero, suc, Bool, true, false, List, [], ◌∷◌, ◌++◌, map, Option, Some, None, refl, sym, ap, ◌∙◌, T}
+use Rattle.std.specs.Prelude.{take, slice_get}
 use Rattle.std.specs.Option.{option_map}
 use Rattle.std.specs.FinMap.{get, entries, entries_sorted, get-entries}
 use Rattle.share_store.specs.Shares.{Shares, ShareKey, Entry}
 use Rattle.share_store.specs.MapLaws.{key_cmp_total}
 use Rattle.share_store.proofs.Sorted.{find_at}
+
+-- one more of them
+pub more : (es : List Entry) (i : ℕ) (e : Entry) → slice_get es i ≡ Some e → take (suc i) es ≡ take i es ++ e ∷ []
+more [] i e is = cc
+more (x ∷ es) zero e is = let same : x ≡ e = cc in ap (λ (f : Entry). f ∷ []) same
+more (x ∷ es) (suc i) e is = ap (λ (l : List Entry). x ∷ l) (more es i e is)
+
+-- the entry of a key
+pub entry_at : (es : List Entry) (i : ℕ) (key : ShareKey) → slice_get (map (λ (e : Entry). e.0) es) i ≡ Some key → (b : List ℕ) × (slice_get es i ≡ Some (key, b))
+entry_at [] i key is = cc
+entry_at (x ∷ es) zero key is = let same : x.0 ≡ key = cc in (x.1, ap (λ (k : ShareKey). Some (k, x.1)) same)
+entry_at (x ∷ es) (suc i) key is = entry_at es i key is
 
 -- what is found at it
 pub found_at : (m : Shares) (i : ℕ) (key : ShareKey) (b : List ℕ) → slice_get (entries m) i ≡ Some (key, b) → get m key ≡ Some b

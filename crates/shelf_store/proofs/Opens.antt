@@ -1,17 +1,16 @@
 -- Shares taken one after the other, by their lengths.
-use Rattle.std.proofs.Common.{◌≡◌, ◌<◌, ◌≤◌, ℕ, zero, suc, ◌+◌, Bool, true, false, cond, ◌&&◌, List, [], ◌∷◌, ◌++◌, map, length, Option, Some, None, is_some, refl, sym, ap, ◌∙◌, arith, add-one, T}
+use Rattle.std.proofs.Common.{◌≡◌, ◌<◌, ◌≤◌, ℕ, zero, suc, ◌+◌, Bool, true, false, cond, ◌&&◌, List, [], ◌∷◌, ◌++◌, map, length, Option, Some, None, refl, sym, ap, ◌∙◌, arith, add-one, T}
 use Rattle.std.proofs.lemmas.List.{take_all, length-map}
 use Rattle.std.specs.List.{fold}
 use Rattle.std.specs.Prelude.{take, slice_get, unwrap_or}
 use Rattle.std.specs.Option.{option_or, option_map}
 use Rattle.std.specs.Ordering.{eq_by_cmp, is_lt}
-use Rattle.std.specs.FinMap.{find, get, entries, entries_sorted, empty, from_sorted, is_sorted, insert, get-entries, get-empty, get-insert, get-from_sorted, entries-from_sorted}
+use Rattle.std.specs.FinMap.{find, get, entries, entries_sorted, empty, from_sorted, is_sorted, get-entries, get-empty, get-from_sorted, entries-from_sorted}
 use Rattle.std.specs.FinMap.Entries.{below_all}
-use Rattle.std.proofs.lemmas.Map.Views.{tells_apart}
 use Rattle.share_store.specs.Shares.{Shares, ShareKey, Entry, bytes_in, bytes_of, key_cmp}
-use Rattle.share_store.specs.MapLaws.{key_cmp_total, key_cmp_exact}
 use Rattle.share_store.specs.Put.{put_once}
-use Rattle.share_store.proofs.Nth.{found_at}
+use Rattle.share_store.proofs.Nth.{more, entry_at, found_at}
+use Rattle.share_store.proofs.Puts.{get-put}
 use Rattle.shelf_store.specs.Sizes.{sizes_of}
 use Rattle.shelf_store.specs.SizeLaws.{sizes_as, bytes_as}
 
@@ -31,24 +30,6 @@ find-push q (x ∷ es) e = by_case (eq_by_cmp key_cmp q x.0) (find-push q es e)
     by_case true rest = refl
     by_case false rest = rest
 
-get-put : (m : Shares) (key : ShareKey) (b : List ℕ) (q : ShareKey) → get (put_once m key b) q ≡ cond (eq_by_cmp key_cmp q key) (Some (unwrap_or (get m q) b)) (get m q)
-get-put m key b q = by_case (get m key) refl
-  where
-    tied : eq_by_cmp key_cmp q key ≡ true → get m q ≡ get m key
-    tied t = ap (get m) (tells_apart key_cmp_exact q key t)
-
-    there : (t : Bool) (x : List ℕ) → eq_by_cmp key_cmp q key ≡ t → get m key ≡ Some x → get m q ≡ cond t (Some (unwrap_or (get m q) b)) (get m q)
-    there true x t is = let at : get m q ≡ Some x = tied t ∙ is in at ∙ ap (λ (o : Option (List ℕ)). Some (unwrap_or o b)) (sym at)
-    there false x t is = refl
-
-    fresh : (t : Bool) → eq_by_cmp key_cmp q key ≡ t → get m key ≡ None → cond t (Some b) (get m q) ≡ cond t (Some (unwrap_or (get m q) b)) (get m q)
-    fresh true t is = let at : get m q ≡ None = tied t ∙ is in ap (λ (o : Option (List ℕ)). Some (unwrap_or o b)) (sym at)
-    fresh false t is = refl
-
-    by_case : (o : Option (List ℕ)) → get m key ≡ o → get (cond (is_some (get m key)) m (insert m key b)) q ≡ cond (eq_by_cmp key_cmp q key) (Some (unwrap_or (get m q) b)) (get m q)
-    by_case (Some x) is = ap (λ (o : Option (List ℕ)). get (cond (is_some o) m (insert m key b)) q) is ∙ there (eq_by_cmp key_cmp q key) x refl is
-    by_case None is = ap (λ (o : Option (List ℕ)). get (cond (is_some o) m (insert m key b)) q) is ∙ get-insert key_cmp_total m key b q ∙ fresh (eq_by_cmp key_cmp q key) refl is
-
 -- one more, by its length
 begun_push : (s : Shares) (es : List Entry) (e : Entry) (b : List ℕ) → IsBegun s es → length b ≡ length e.1 → IsBegun (put_once s e.0 b) (es ++ e ∷ [])
 begun_push s es e b begun long q =
@@ -63,17 +44,6 @@ begun_push s es e b begun long q =
     by_case false None (Some y) is = cc
     by_case false (Some x) None is = cc
     by_case false (Some x) (Some y) is = is
-
-more : (es : List Entry) (i : ℕ) (e : Entry) → slice_get es i ≡ Some e → take (suc i) es ≡ take i es ++ e ∷ []
-more [] i e is = cc
-more (x ∷ es) zero e is = let same : x ≡ e = cc in ap (λ (f : Entry). f ∷ []) same
-more (x ∷ es) (suc i) e is = ap (λ (l : List Entry). x ∷ l) (more es i e is)
-
--- the entry of a key
-entry_at : (es : List Entry) (i : ℕ) (key : ShareKey) → slice_get (map (λ (e : Entry). e.0) es) i ≡ Some key → (b : List ℕ) × (slice_get es i ≡ Some (key, b))
-entry_at [] i key is = cc
-entry_at (x ∷ es) zero key is = let same : x.0 ≡ key = cc in (x.1, ap (λ (k : ShareKey). Some (k, x.1)) same)
-entry_at (x ∷ es) (suc i) key is = entry_at es i key is
 
 -- what a name of the list stands for
 pub named : (m : Shares) (names : List ShareKey) (i : ℕ) (key : ShareKey) → names ≡ map (λ (e : Entry). e.0) (entries m) → slice_get names i ≡ Some key → (b : List ℕ) × (slice_get (entries m) i ≡ Some (key, b)) × (get m key ≡ Some b)
