@@ -1,6 +1,6 @@
 -- A queue that is taken from its front.
-use Rattle.std.proofs.Common.{◌≡◌, ℕ, ◌≤◌, ◌+◌, ◌-◌, List, [], ◌∷◌, ◌++◌, length, take, drop, min, sym, ap, ◌∙◌, ⊎_elim, ◌⊎◌, inl, inr, length-append, arith, ◌↔◌, Bool, false, IsTrue, refl, append-nil, append_assoc}
-use Rattle.std.specs.Prelude.{nat_eq}
+use Rattle.std.proofs.Common.{◌≡◌, ℕ, ◌≤◌, ◌+◌, ◌-◌, List, [], ◌∷◌, ◌++◌, length, take, drop, min, sym, ap, ◌∙◌, ⊎_elim, ◌⊎◌, inl, inr, length-append, arith, ◌↔◌, Bool, true, false, not, IsTrue, refl, append-nil, append_assoc, ◌≢◌, Option, Some, None}
+use Rattle.std.specs.Prelude.{nat_eq, is_some, unwrap_or}
 use Rattle.std.proofs.Math.Seq.{take-append-add, drop-append-add}
 use Rattle.std.proofs.lemmas.List.{length-take, length-drop, take_all, drop_all, take-append-le, drop-append-le}
 use Rattle.std.proofs.lemmas.Bool.{cases_lt}
@@ -85,3 +85,19 @@ left_behind n f r b (inl within) = sym (drop-append-le n (f ++ r) b (omega (arit
 left_behind n f r b (inr none) =
     ap (λ (x : List ℕ). drop n (f ++ r) ++ x) none ∙ append-nil (drop n (f ++ r))
     ∙ ap (λ (x : List ℕ). drop n (f ++ x)) (sym (append-nil r) ∙ ap (λ (x : List ℕ). r ++ x) (sym none))
+
+-- ---- a body that is kept while bytes of it are left
+
+pub none_left : (body : Option (List ℕ)) → body ≢ Some [] → unwrap_or body [] ≡ [] → body ≡ None
+none_left None some none = refl
+none_left (Some x) some none = absurd (some (ap Some none))
+
+pub none_kept : {P : Type 0} (body : Option (List ℕ)) → P ⊎ (body ≡ None) → P ⊎ (unwrap_or body [] ≡ [])
+none_kept body (inl within) = inl within
+none_kept body (inr none) = inr (ap (λ (kept : Option (List ℕ)). unwrap_or kept []) none)
+
+pub none_waits : (a b : List ℕ) (body : Option (List ℕ)) (none : Bool) → a ≡ [] → b ≡ [] → body ≢ Some [] → is_some body ≡ not none → IsTrue none ↔ (a ++ (b ++ unwrap_or body []) ≡ [])
+none_waits a b None true first second some is = rw (first, second) (λ yes. refl, λ none. refl)
+none_waits a b None false first second some is = cc
+none_waits a b (Some x) true first second some is = cc
+none_waits a b (Some x) false first second some is = rw (first, second) (λ yes. cc, λ none. absurd (some (ap Some none)))

@@ -1,6 +1,6 @@
 -- Pieces that are brought and portions that are taken, one after the other.
 use Rattle.std.proofs.Common.{◌≡◌, ◌≢◌, ℕ, ◌≤◌, ◌<◌, ◌^◌, ◌-◌, ◌⊎◌, List, [], ◌∷◌, ◌++◌, length, take, drop, Bool, true, false, cond, eqb, refl, sym, ap, subst, ◌∙◌, append_assoc, arith, length-append, take-append-drop, Option, Some, None, inl, inr}
-use Rattle.std.specs.Prelude.{All, IsTrue, ◌↔◌, ◌||◌, Result, Ok, Err, OnOk, OnErr, IfOk}
+use Rattle.std.specs.Prelude.{All, IsTrue, ◌↔◌, ◌||◌, Result, Ok, Err, OnOk, OnErr}
 use Rattle.gate_flow.specs.declared.fault.FlowFault.{FlowFault}
 use Rattle.std.proofs.lemmas.List.{append-nil}
 use Rattle.std.proofs.lemmas.List.Elements.{All-append, All-nil, All-cons}
@@ -217,80 +217,35 @@ module _ (id : ℕ) (g m : State) (piece left portion : List ℕ) where
 -- ---- a connection is given up
 
 -- its end came, or was refused
-pub record IsEnding (id : ℕ) (g h : State) : Type 0 where
-  pub calls : List Event
-  pub own : AreOf id calls
-  pub timely : (events : List Event) → AreTimely id events calls
-  pub led : IsLed id calls g h
-  pub calm : IsLedCalmly calls g h
-  pub brings : bytes_of_calls id calls ≡ []
-  pub dropped : waiting g id ≡ handed id calls ++ waiting h id
-  pub ends : TakesBytes (connection_at g id) → has_ended id calls ≡ true
-
-nothing_called : (id : ℕ) (g h : State) → h ≡ g → bytes_refusal (connection_at g id) ≢ None → IsEnding id g h
-nothing_called id g h same over = record {
+nothing_called : (id : ℕ) (g h : State) → h ≡ g → bytes_refusal (connection_at g id) ≢ None → bytes_refusal (connection_at h id) ≢ None → IsGivenUp id g h
+nothing_called id g h same was over = record {
   calls = [];
   own = own_none id;
   timely = λ events. tt;
   led = subst (IsLed id [] g) (sym same) (led_none id g);
   calm = subst (IsLedCalmly [] g) (sym same) (calm_none g);
   brings = refl;
-  dropped = ap (λ (s : State). waiting s id) (sym same);
-  ends = λ takes. absurd (over takes);
+  gives = refl;
+  waits = ap (λ (s : State). waiting s id) same;
+  ends = λ takes. absurd (was takes);
+  over = over;
 }
 
-end_called : (id : ℕ) (g h : State) → waiting h id ≡ waiting g id → IsLed id (End id ∷ []) g h → IsLedCalmly (End id ∷ []) g h → IsEnding id g h
-end_called id g h same led calm = record {
+end_called : (id : ℕ) (g h : State) → waiting h id ≡ waiting g id → IsLed id (End id ∷ []) g h → IsLedCalmly (End id ∷ []) g h → bytes_refusal (connection_at h id) ≢ None → IsGivenUp id g h
+end_called id g h same led calm over = record {
   calls = End id ∷ [];
   own = own_one id (End id) refl;
   timely = λ events. (tt, tt);
   led = led;
   calm = calm;
   brings = joined_one id (End id) refl;
-  dropped = sym same ∙ ap (λ r. r ++ waiting h id) (sym (handed_one id (End id) refl));
+  gives = handed_one id (End id) refl;
+  waits = same;
   ends = λ takes. ap (list_any is_end) (calls_of_one id (End id) refl);
-}
-
-pub end_gives : (id : ℕ) (g m : State) (r : Result (Unit {0}) FlowFault) → OnOk r (IsLed id (End id ∷ []) g m) → OnOk r (IsLedCalmly (End id ∷ []) g m) → OnErr r (m ≡ g) → waiting m id ≡ waiting g id
-    → OnErr r (bytes_refusal (connection_at g id) ≢ None) → IsEnding id g m
-end_gives id g m (Ok u) led calm same waits over = end_called id g m waits led calm
-end_gives id g m (Err e) led calm same waits over = nothing_called id g m same over
-
-given_up_here : (id : ℕ) (g m h : State) → IsEnding id g m → bytes_refusal (connection_at m id) ≢ None → h ≡ m → IsGivenUp id g h
-given_up_here id g m h ending over same = subst (IsGivenUp id g) (sym same) record {
-  calls = ending.calls;
-  own = ending.own;
-  timely = ending.timely;
-  led = ending.led;
-  calm = ending.calm;
-  brings = ending.brings;
-  dropped = ending.dropped;
-  ends = ending.ends;
   over = over;
 }
 
-ended_more : (id : ℕ) (a b : List Event) → has_ended id a ≡ true → has_ended id (a ++ b) ≡ true
-ended_more id a b ended =
-    ap (list_any is_end) (filter-append (is_of id) a b) ∙ list_any-append is_end (calls_of id a) (calls_of id b) ∙ ap (λ r. r || has_ended id b) ended
-
-given_up_then : Beginnings → (id : ℕ) (g m h : State) (given : List ℕ) → IsEnding id g m → bytes_refusal (connection_at m id) ≢ None → IsLed id (Take id given ∷ []) m h → GoesOn m h (Take id given)
-    → waiting m id ≡ given ++ waiting h id → bytes_refusal (connection_at h id) ≡ bytes_refusal (connection_at m id) → IsGivenUp id g h
-given_up_then begins id g m h given ending over led on splits stays = record {
-  calls = ending.calls ++ Take id given ∷ [];
-  own = own_more id ending.calls (Take id given ∷ []) ending.own (own_one id (Take id given) refl);
-  timely = λ events. timely_more id events ending.calls (Take id given ∷ []) (ending.timely events) (tt, tt);
-  led = led_more id ending.calls (Take id given ∷ []) g m h ending.led led;
-  calm = calm_more begins id ending.calls (Take id given ∷ []) g m h ending.led led ending.calm (calm_on m h (Take id given) on);
-  brings = joined_more id ending.calls (Take id given ∷ []) ∙ ap (λ r. r ++ bytes_of_calls id (Take id given ∷ [])) ending.brings ∙ joined_one id (Take id given) refl;
-  dropped = ending.dropped ∙ ap (λ r. handed id ending.calls ++ r) splits ∙ sym (append_assoc (handed id ending.calls) given (waiting h id))
-      ∙ ap (λ r. r ++ waiting h id) (ap (λ r. handed id ending.calls ++ r) (sym (handed_one id (Take id given) refl)) ∙ sym (handed_more id ending.calls (Take id given ∷ [])));
-  ends = λ takes. ended_more id ending.calls (Take id given ∷ []) (ending.ends takes);
-  over = λ takes. over (sym stays ∙ takes);
-}
-
--- bytes that waited were taken, or not
-pub take_gives : Beginnings → {V : Type 0} (id : ℕ) (g m h : State) (t : Result V FlowFault) (items : V → List ℕ) → IsEnding id g m → bytes_refusal (connection_at m id) ≢ None
-    → IfOk t (λ v. IsLed id (Take id (items v) ∷ []) m h) → IfOk t (λ v. GoesOn m h (Take id (items v))) → IfOk t (λ v. waiting m id ≡ items v ++ waiting h id)
-    → OnOk t (bytes_refusal (connection_at h id) ≡ bytes_refusal (connection_at m id)) → OnErr t (h ≡ m) → IsGivenUp id g h
-take_gives begins id g m h (Ok v) items ending over led on splits stays same = given_up_then begins id g m h (items v) ending over led on splits stays
-take_gives begins id g m h (Err e) items ending over led on splits stays same = given_up_here id g m h ending over same
+pub end_gives : (id : ℕ) (g m : State) (r : Result (Unit {0}) FlowFault) → OnOk r (IsLed id (End id ∷ []) g m) → OnOk r (IsLedCalmly (End id ∷ []) g m) → OnErr r (m ≡ g) → waiting m id ≡ waiting g id
+    → OnErr r (bytes_refusal (connection_at g id) ≢ None) → bytes_refusal (connection_at m id) ≢ None → IsGivenUp id g m
+end_gives id g m (Ok u) led calm same waits was over = end_called id g m waits led calm over
+end_gives id g m (Err e) led calm same waits was over = nothing_called id g m same was over

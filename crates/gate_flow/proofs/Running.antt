@@ -1,5 +1,5 @@
 -- A flow that runs, call by call, and what serving a connection comes to.
-use Rattle.std.proofs.Common.{◌≡◌, ◌≢◌, ℕ, List, [], ◌∷◌, ◌++◌, Bool, true, false, ◌⊎◌, ⊎_elim, inl, inr, refl, sym, ap, subst, ◌∙◌, append_assoc, Option, Some, None}
+use Rattle.std.proofs.Common.{◌≡◌, ◌≢◌, ℕ, List, [], ◌∷◌, ◌++◌, Bool, true, false, ◌⊎◌, ⊎_elim, inl, inr, refl, sym, ap, subst, ◌∙◌, Option, Some, None}
 use Rattle.std.specs.Prelude.{IsTrue, ◌||◌}
 use Rattle.std.specs.Io.KnownBytes.{Consumes, Appends}
 use Rattle.std.specs.List.{list_any}
@@ -124,10 +124,6 @@ module _ (id : ℕ) (secret : List ℕ) (g h : State) (old new : FlowState) (rea
 
 -- ---- it is closed
 
-none_more : (a b : List ℕ) → [] ≡ a ++ b → (a ≡ []) × (b ≡ [])
-none_more [] b none = (refl, sym none)
-none_more (x ∷ a) b none = cc
-
 or_true : (a : Bool) → (a || true) ≡ true
 or_true true = refl
 or_true false = refl
@@ -136,7 +132,7 @@ module _ (id : ℕ) (secret : List ℕ) (g h k : State) (f : FlowState) (read le
   brings_all : bytes_of_calls id (run.calls ++ given.calls) ≡ bytes_of_calls id run.calls
   brings_all = joined_more id run.calls given.calls ∙ ap (λ r. bytes_of_calls id run.calls ++ r) given.brings ∙ append-nil (bytes_of_calls id run.calls)
 
-  pub stopped : (unwritten : List ℕ) → f.portion ++ handed id given.calls ≡ unwritten → HasStopped id secret g k read left before after f.piece unwritten
+  pub stopped : (unwritten : List ℕ) → f.portion ≡ unwritten → HasStopped id secret g k read left before after f.piece unwritten
   stopped unwritten rest_is = record {
     calls = run.calls ++ given.calls;
     opens = (run.opens.0 ++ given.calls, ap (λ cs. cs ++ given.calls) run.opens.1);
@@ -147,7 +143,7 @@ module _ (id : ℕ) (secret : List ℕ) (g h k : State) (f : FlowState) (read le
     out = run.out;
     put = run.put;
     handed_out = handed_more id run.calls given.calls ∙ ap (λ r. r ++ handed id given.calls) (ap (λ (i : ℕ). handed i run.calls) (sym run.same) ∙ run.flowed.all_written)
-        ∙ append_assoc run.out f.portion (handed id given.calls) ∙ ap (λ r. run.out ++ r) rest_is;
+        ∙ ap (λ r. (run.out ++ f.portion) ++ r) given.gives ∙ append-nil (run.out ++ f.portion) ∙ ap (λ r. run.out ++ r) rest_is;
     over = given.over;
   }
 
@@ -191,10 +187,9 @@ module _ (id : ℕ) (secret : List ℕ) (g h k : State) (f : FlowState) (read le
       let run = was.run in
       let given : IsGivenUp id h k = subst (λ (i : ℕ). IsGivenUp i h k) run.same gave in
       let still = quiet f.want f (connection_at h f.id) sound.stands rests other in
-      let none = none_more (handed id given.calls) (waiting k id) (sym (ap (λ (i : ℕ). waiting h i) (sym run.same) ∙ still.1) ∙ given.dropped) in
       record {
         unbrought = f.piece;
-        stopped = stopped id secret g h k f read left before after run given [] (ap (λ r. r ++ handed id given.calls) still.0 ∙ none.0);
+        stopped = stopped id secret g h k f read left before after run given [] still.0;
         calm = calm_more begins id run.calls given.calls g h k run.led given.led was.calm given.calm;
         ended = ap (list_any is_end) (filter-append (is_of id) run.calls given.calls) ∙ list_any-append is_end (calls_of id run.calls) (calls_of id given.calls)
             ∙ ap (λ r. has_ended id run.calls || r) (given.ends was.takes) ∙ or_true (has_ended id run.calls);
@@ -203,7 +198,7 @@ module _ (id : ℕ) (secret : List ℕ) (g h k : State) (f : FlowState) (read le
             ap (λ bytes. is_left_closed (rest bytes)) (joined_more id events (run.calls ++ given.calls) ∙ ap (λ r. bytes_of_calls id events ++ r) (brings_all id secret g h k f read left before after run given) ∙ sym (joined_more id events run.calls))
             ∙ closed_by h id (events ++ run.calls) was.takes (subst (λ (i : ℕ). IsTrue (is_closed_in (connection_at h i))) run.same closed) (run.led.told events told)))
             still.2;
-        all = none.1;
+        all = given.waits ∙ ap (λ (i : ℕ). waiting h i) (sym run.same) ∙ still.1;
       }
 
   pub stops : (fault : FlowFault) → HasRun id secret g h f read left before after → IsSound f → StopsAt fault f h → IsGivenUp f.id h k → IsStopped fault id secret g k read left before after
@@ -211,13 +206,11 @@ module _ (id : ℕ) (secret : List ℕ) (g h k : State) (f : FlowState) (read le
   stops ReadFailed run sound at gave =
       let given : IsGivenUp id h k = subst (λ (i : ℕ). IsGivenUp i h k) run.same gave in
       let stands : Stands want.Read f = subst (λ w. Stands w f) at.0 sound.stands in
-      let rests : RestsAt want.Read f (connection_at h f.id) = subst (λ w. RestsAt w f (connection_at h f.id)) at.0 at.1 in
-      let none = none_more (handed id given.calls) (waiting k id) (sym (ap (λ (i : ℕ). waiting h i) (sym run.same) ∙ rests.0) ∙ given.dropped) in
       subst (λ piece. HasStopped id secret g k read left before after piece []) stands.0
-      (stopped id secret g h k f read left before after run given [] (ap (λ r. r ++ handed id given.calls) stands.1 ∙ none.0))
+      (stopped id secret g h k f read left before after run given [] stands.1)
   stops WriteFailed run sound at gave =
       let given : IsGivenUp id h k = subst (λ (i : ℕ). IsGivenUp i h k) run.same gave in
-      (f.piece, f.portion ++ handed id given.calls, (λ none. at (none_more f.portion (handed id given.calls) (sym none)).0), stopped id secret g h k f read left before after run given (f.portion ++ handed id given.calls) refl)
+      (f.piece, f.portion, at, stopped id secret g h k f read left before after run given f.portion refl)
   stops NoMemory run sound at gave =
       let given : IsGivenUp id h k = subst (λ (i : ℕ). IsGivenUp i h k) run.same gave in
-      inr (f.piece, f.portion ++ handed id given.calls, stopped id secret g h k f read left before after run given (f.portion ++ handed id given.calls) refl)
+      inr (f.piece, f.portion, stopped id secret g h k f read left before after run given f.portion refl)

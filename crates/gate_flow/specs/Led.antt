@@ -64,8 +64,8 @@ pub record IsMovedCalmly (id : ℕ) (old new : State) (piece left portion more :
   pub calm : IsLedCalmly moved.calls old new
   pub takes : TakesBytes (connection_at old id) → TakesBytes (connection_at new id)
 
--- A connection was given up: no more bytes are taken of it. Its end came, if it was still to come. The first of what waited
--- was handed out to nobody, and the rest waits still.
+-- A connection was given up: no more bytes are taken of it. Its end came, if it was still to come. Nothing was handed out,
+-- and what waited waits still.
 pub record IsGivenUp (id : ℕ) (old new : State) : Type 0 where
   pub calls : List Event
   pub own : AreOf id calls
@@ -73,6 +73,7 @@ pub record IsGivenUp (id : ℕ) (old new : State) : Type 0 where
   pub led : IsLed id calls old new
   pub calm : IsLedCalmly calls old new
   pub brings : bytes_of_calls id calls ≡ []
-  pub dropped : waiting old id ≡ handed id calls ++ waiting new id
+  pub gives : handed id calls ≡ []
+  pub waits : waiting new id ≡ waiting old id
   pub ends : TakesBytes (connection_at old id) → has_ended id calls ≡ true
   pub over : bytes_refusal (connection_at new id) ≢ None

@@ -161,11 +161,9 @@ pub fn bring_parts<S: Store>(
     Ok(())
 }
 
-/// Brings an end, if one is still to come, and drops what waits, if memory lasts.
+/// Brings an end, if one is still to come. What waits is left, of which nothing is decoded.
 pub fn give_up<S: Store>(gateway: &mut Gateway<S>, id: u64)
     ensures { IsGivenUp id gateway.old gateway.new }
 {
-    gate_core::laws::beginnings_have_room();
     let _ = bring_end(gateway, id);
-    let _ = take_first(gateway, id, usize::MAX);
 }

@@ -181,7 +181,8 @@ impl Flow {
         }
     }
 
-    /// Closes a connection, whose flow wants nothing more or which is given up: its end is brought, if one is still to come, and what waits for it is dropped.
+    /// Closes a connection, whose flow wants nothing more or which is given up: its end is brought, if one is still to come.
+    /// What waits for it is left, and nothing of it is decoded: `Gateway::forget` gives it up.
     pub fn close<S: Store>(self, gateway: &mut Gateway<S>)
         ensures given_up { IsGivenUp self.id gateway.old gateway.new }
         ensures sound { IsSound self }

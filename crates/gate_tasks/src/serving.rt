@@ -38,5 +38,10 @@ fn serve_one<S: Store>(
     let Ok((stream, _)) = listener.accept() else {
         return Err(ServeFault::AcceptFailed);
     };
-    Ok(turns(alloc, gateway, id, &mut &stream, &mut &stream))
+    let outcome = turns(alloc, gateway, id, &mut &stream, &mut &stream);
+    if outcome != Err(FlowFault::Refused) {
+        // What waited for it takes no memory from now on; where memory was refused its entry stays.
+        let _ = gateway.forget(id);
+    }
+    Ok(outcome)
 }

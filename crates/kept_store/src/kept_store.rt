@@ -1,11 +1,14 @@
 //! A store in memory with a shelf beside it.
-ghost use Rattle.std.specs.Prelude.{◌≡◌, ◌<◌, ◌≤◌, ◌+◌, ◌-◌, ◌^◌, ◌==◌, ◌↔◌, true, false, not, length, IsTrue, IfOk, OnOk, OnErr, IsErrOf, if◌then◌else◌, None};
+ghost use Rattle.std.specs.Prelude.{◌≡◌, ◌<◌, ◌≤◌, ◌+◌, ◌-◌, ◌^◌, ◌==◌, ◌↔◌, ◌⊎◌, [], true, false, not, length, IsTrue, IfOk, IsOkAnd, OnOk, OnErr, IsErrOf, if◌then◌else◌, None, slice_get};
+ghost use Rattle.std.specs.Option.{option_map};
 ghost use Rattle.std.specs.FinMap as map;
 ghost use Rattle.std.specs.Rc.{rc_slice_items};
 ghost use Rattle.share_store.specs.History.{IsEither, GoesOnBy};
+ghost use Rattle.share_store.specs.Looked.{Looked};
 ghost use Rattle.share_store.specs.MapLaws.{held_fits};
+ghost use Rattle.share_store.specs.Numbers.{numbers_of};
 ghost use Rattle.share_store.specs.Put.{put_once};
-ghost use Rattle.share_store.specs.Stored.{shares_in};
+ghost use Rattle.share_store.specs.Stored.{entry_of, shares_in};
 ghost use Rattle.share_store.specs.Toggle.{has_byte, with_toggle};
 ghost use Rattle.kept_store.specs.Step.{IsInStep, IsInStep-prop, Crashes};
 
@@ -109,6 +112,10 @@ impl<H: Shelf> KeptStore<H> {
         ensures stays_up { self.old.down ≡ false →
             H.failures self.new.shelf ≡ H.failures self.old.shelf →
             (self.new.down ≡ false) × (IsErrOf result StoreFault.Down → ⊥) }
+        ensures refused { H.failures self.old.shelf < H.failures self.new.shelf → OnOk result ⊥ }
+        ensures granted { OnOk result ((self.new.down ≡ false)
+            ⊎ (⟦<MemStore as Store>⟧.shares self.new.memory
+            ≡ ⟦<MemStore as Store>⟧.shares self.old.memory)) }
     {
         if self.memory.has(index, number)? {
             return Ok(false);
@@ -161,6 +168,10 @@ impl<H: Shelf> KeptStore<H> {
         ensures stays_up { self.old.down ≡ false →
             H.failures self.new.shelf ≡ H.failures self.old.shelf →
             (self.new.down ≡ false) × (IsErrOf result StoreFault.Down → ⊥) }
+        ensures refused { H.failures self.old.shelf < H.failures self.new.shelf → OnOk result ⊥ }
+        ensures granted { OnOk result ((self.new.down ≡ false)
+            ⊎ (⟦<MemStore as Store>⟧.shares self.new.memory
+            ≡ ⟦<MemStore as Store>⟧.shares self.old.memory)) }
     {
         if !self.memory.has(index, number)? {
             return Ok(false);
@@ -207,6 +218,10 @@ impl<H: Shelf> KeptStore<H> {
         ensures stays_up { self.old.down ≡ false →
             H.failures self.new.shelf ≡ H.failures self.old.shelf →
             (self.new.down ≡ false) × (IsErrOf result StoreFault.Down → ⊥) }
+        ensures refused { H.failures self.old.shelf < H.failures self.new.shelf → OnOk result ⊥ }
+        ensures granted { OnOk result ((self.new.down ≡ false)
+            ⊎ (⟦<MemStore as Store>⟧.shares self.new.memory
+            ≡ ⟦<MemStore as Store>⟧.shares self.old.memory)) }
     {
         toggle_laws();
         let Some(bytes) = self.memory.get(index, number)? else {
@@ -248,36 +263,194 @@ impl<H: Shelf> Store for KeptStore<H> {
 
     ghost failures = { λ store. store.failures };
 
-    fn has(&mut self, index: [u8; 16], number: u16) -> Result<bool, AllocError> {
+    fn has(&mut self, index: [u8; 16], number: u16) -> Result<bool, AllocError>
+        ensures looked { Looked ⟦<KeptStore<H> as Store>⟧.honest ⟦<KeptStore<H> as Store>⟧.shares
+            ⟦<KeptStore<H> as Store>⟧.room ⟦<KeptStore<H> as Store>⟧.failures
+            self.old self.new }
+        ensures same_history { IsTrue (⟦<KeptStore<H> as Store>⟧.honest self.old) →
+            ⟦<KeptStore<H> as Store>⟧.history self.new
+            ≡ ⟦<KeptStore<H> as Store>⟧.history self.old }
+        ensures failed { ⟦<KeptStore<H> as Store>⟧.failures self.old < ⟦<KeptStore<H> as Store>⟧.failures self.new → result ≡ Ok false }
+        ensures found { IsTrue (⟦<KeptStore<H> as Store>⟧.honest self.old) →
+            ⟦<KeptStore<H> as Store>⟧.failures self.new
+            ≡ ⟦<KeptStore<H> as Store>⟧.failures self.old →
+            IfOk result (λ found. found
+            ≡ map.contains_key (⟦<KeptStore<H> as Store>⟧.shares self.old) (index, number)) }
+        ensures same_down { self.new.down ≡ self.old.down }
+        ensures same_shelf { self.new.shelf ≡ self.old.shelf }
+    {
         self.memory.has(index, number)
     }
 
-    fn numbers(&mut self, index: [u8; 16]) -> Result<Vec<u16>, AllocError> {
+    fn numbers(&mut self, index: [u8; 16]) -> Result<Vec<u16>, AllocError>
+        ensures looked { Looked ⟦<KeptStore<H> as Store>⟧.honest ⟦<KeptStore<H> as Store>⟧.shares
+            ⟦<KeptStore<H> as Store>⟧.room ⟦<KeptStore<H> as Store>⟧.failures
+            self.old self.new }
+        ensures same_history { IsTrue (⟦<KeptStore<H> as Store>⟧.honest self.old) →
+            ⟦<KeptStore<H> as Store>⟧.history self.new
+            ≡ ⟦<KeptStore<H> as Store>⟧.history self.old }
+        ensures failed { ⟦<KeptStore<H> as Store>⟧.failures self.old < ⟦<KeptStore<H> as Store>⟧.failures self.new →
+            IsOkAnd result (λ numbers. numbers.items ≡ []) }
+        ensures found { IsTrue (⟦<KeptStore<H> as Store>⟧.honest self.old) →
+            ⟦<KeptStore<H> as Store>⟧.failures self.new
+            ≡ ⟦<KeptStore<H> as Store>⟧.failures self.old →
+            IfOk result (λ numbers. numbers.items
+            ≡ numbers_of (⟦<KeptStore<H> as Store>⟧.shares self.old) index) }
+        ensures same_down { self.new.down ≡ self.old.down }
+        ensures same_shelf { self.new.shelf ≡ self.old.shelf }
+    {
         self.memory.numbers(index)
     }
 
-    fn get(&mut self, index: [u8; 16], number: u16) -> Result<Option<RcSlice<u8>>, AllocError> {
+    fn get(&mut self, index: [u8; 16], number: u16) -> Result<Option<RcSlice<u8>>, AllocError>
+        ensures looked { Looked ⟦<KeptStore<H> as Store>⟧.honest ⟦<KeptStore<H> as Store>⟧.shares
+            ⟦<KeptStore<H> as Store>⟧.room ⟦<KeptStore<H> as Store>⟧.failures
+            self.old self.new }
+        ensures same_history { IsTrue (⟦<KeptStore<H> as Store>⟧.honest self.old) →
+            ⟦<KeptStore<H> as Store>⟧.history self.new
+            ≡ ⟦<KeptStore<H> as Store>⟧.history self.old }
+        ensures failed { ⟦<KeptStore<H> as Store>⟧.failures self.old < ⟦<KeptStore<H> as Store>⟧.failures self.new → result ≡ Ok None }
+        ensures found { IsTrue (⟦<KeptStore<H> as Store>⟧.honest self.old) →
+            ⟦<KeptStore<H> as Store>⟧.failures self.new
+            ≡ ⟦<KeptStore<H> as Store>⟧.failures self.old →
+            IfOk result (λ bytes. option_map rc_slice_items bytes
+            ≡ map.get (⟦<KeptStore<H> as Store>⟧.shares self.old) (index, number)) }
+        ensures same_down { self.new.down ≡ self.old.down }
+        ensures same_shelf { self.new.shelf ≡ self.old.shelf }
+    {
         self.memory.get(index, number)
     }
 
-    fn nth(&mut self, at: u64) -> Result<Option<Share>, AllocError> {
+    fn nth(&mut self, at: u64) -> Result<Option<Share>, AllocError>
+        ensures looked { Looked ⟦<KeptStore<H> as Store>⟧.honest ⟦<KeptStore<H> as Store>⟧.shares
+            ⟦<KeptStore<H> as Store>⟧.room ⟦<KeptStore<H> as Store>⟧.failures
+            self.old self.new }
+        ensures same_history { IsTrue (⟦<KeptStore<H> as Store>⟧.honest self.old) →
+            ⟦<KeptStore<H> as Store>⟧.history self.new
+            ≡ ⟦<KeptStore<H> as Store>⟧.history self.old }
+        ensures failed { ⟦<KeptStore<H> as Store>⟧.failures self.old < ⟦<KeptStore<H> as Store>⟧.failures self.new → result ≡ Ok None }
+        ensures found { IsTrue (⟦<KeptStore<H> as Store>⟧.honest self.old) →
+            ⟦<KeptStore<H> as Store>⟧.failures self.new
+            ≡ ⟦<KeptStore<H> as Store>⟧.failures self.old →
+            IfOk result (λ share. option_map entry_of share
+            ≡ slice_get (map.entries (⟦<KeptStore<H> as Store>⟧.shares self.old)) at) }
+        ensures same_down { self.new.down ≡ self.old.down }
+        ensures same_shelf { self.new.shelf ≡ self.old.shelf }
+    {
         self.memory.nth(at)
     }
 
-    fn put(
-        &mut self,
-        index: [u8; 16],
-        number: u16,
-        bytes: RcSlice<u8>,
-    ) -> Result<bool, StoreFault> {
+    fn put(&mut self, index: [u8; 16], number: u16, bytes: RcSlice<u8>) -> Result<bool, StoreFault>
+        requires { 0 < length (rc_slice_items bytes) }
+        ensures rises { ⟦<KeptStore<H> as Store>⟧.failures self.old ≤ ⟦<KeptStore<H> as Store>⟧.failures self.new }
+        ensures down { IsErrOf result StoreFault.Down ↔
+            (⟦<KeptStore<H> as Store>⟧.failures self.old < ⟦<KeptStore<H> as Store>⟧.failures
+            self.new) }
+        ensures full { IsErrOf result StoreFault.Full →
+            ⟦<KeptStore<H> as Store>⟧.room self.old < length (rc_slice_items bytes) }
+        ensures full_room { IsErrOf result StoreFault.Full →
+            ⟦<KeptStore<H> as Store>⟧.room self.new ≡ ⟦<KeptStore<H> as Store>⟧.room self.old }
+        ensures honest { IsTrue (⟦<KeptStore<H> as Store>⟧.honest self.old) →
+            IsTrue (⟦<KeptStore<H> as Store>⟧.honest self.new) }
+        ensures was_honest { IsTrue (⟦<KeptStore<H> as Store>⟧.honest self.new) →
+            IsTrue (⟦<KeptStore<H> as Store>⟧.honest self.old) }
+        ensures full_only { IsTrue (⟦<KeptStore<H> as Store>⟧.honest self.old) →
+            IsErrOf result StoreFault.Full →
+            map.get (⟦<KeptStore<H> as Store>⟧.shares self.old) (index, number) ≡ None }
+        ensures put { IsTrue (⟦<KeptStore<H> as Store>⟧.honest self.old) →
+            IfOk result (λ put. put
+            ≡ not (map.contains_key (⟦<KeptStore<H> as Store>⟧.shares self.old) (index, number))) }
+        ensures shares { IsTrue (⟦<KeptStore<H> as Store>⟧.honest self.old) →
+            OnOk result (⟦<KeptStore<H> as Store>⟧.shares self.new
+            ≡ put_once (⟦<KeptStore<H> as Store>⟧.shares self.old) (index, number)
+            (rc_slice_items bytes)) }
+        ensures err { IsTrue (⟦<KeptStore<H> as Store>⟧.honest self.old) →
+            OnErr result (⟦<KeptStore<H> as Store>⟧.shares self.new
+            ≡ ⟦<KeptStore<H> as Store>⟧.shares self.old) }
+        ensures room { IsTrue (⟦<KeptStore<H> as Store>⟧.honest self.old) →
+            ⟦<KeptStore<H> as Store>⟧.room self.new + ⟦<KeptStore<H> as Store>⟧.held self.new
+            ≡ ⟦<KeptStore<H> as Store>⟧.room self.old + ⟦<KeptStore<H> as Store>⟧.held self.old }
+        ensures history { IsTrue (⟦<KeptStore<H> as Store>⟧.honest self.old) →
+            GoesOnBy (IsEither (⟦<KeptStore<H> as Store>⟧.shares self.old)
+            (put_once (⟦<KeptStore<H> as Store>⟧.shares self.old) (index, number)
+            (rc_slice_items bytes)))
+            (⟦<KeptStore<H> as Store>⟧.history self.old)
+            (⟦<KeptStore<H> as Store>⟧.history self.new) }
+        ensures refused { H.failures self.old.shelf < H.failures self.new.shelf → OnOk result ⊥ }
+        ensures granted { OnOk result ((self.new.down ≡ false)
+            ⊎ (⟦<KeptStore<H> as Store>⟧.shares self.new
+            ≡ ⟦<KeptStore<H> as Store>⟧.shares self.old)) }
+    {
         self.keep(index, number, bytes)
     }
 
-    fn lose(&mut self, index: [u8; 16], number: u16) -> Result<bool, StoreFault> {
+    fn lose(&mut self, index: [u8; 16], number: u16) -> Result<bool, StoreFault>
+        ensures rises { ⟦<KeptStore<H> as Store>⟧.failures self.old ≤ ⟦<KeptStore<H> as Store>⟧.failures self.new }
+        ensures down { IsErrOf result StoreFault.Down ↔
+            (⟦<KeptStore<H> as Store>⟧.failures self.old < ⟦<KeptStore<H> as Store>⟧.failures
+            self.new) }
+        ensures not_full { IsErrOf result StoreFault.Full → ⊥ }
+        ensures honest { IsTrue (⟦<KeptStore<H> as Store>⟧.honest self.old) →
+            IsTrue (⟦<KeptStore<H> as Store>⟧.honest self.new) }
+        ensures was_honest { IsTrue (⟦<KeptStore<H> as Store>⟧.honest self.new) →
+            IsTrue (⟦<KeptStore<H> as Store>⟧.honest self.old) }
+        ensures lost { IsTrue (⟦<KeptStore<H> as Store>⟧.honest self.old) →
+            IfOk result (λ lost. lost
+            ≡ map.contains_key (⟦<KeptStore<H> as Store>⟧.shares self.old) (index, number)) }
+        ensures shares { IsTrue (⟦<KeptStore<H> as Store>⟧.honest self.old) →
+            OnOk result (⟦<KeptStore<H> as Store>⟧.shares self.new
+            ≡ map.remove (⟦<KeptStore<H> as Store>⟧.shares self.old) (index, number)) }
+        ensures err { IsTrue (⟦<KeptStore<H> as Store>⟧.honest self.old) →
+            OnErr result (⟦<KeptStore<H> as Store>⟧.shares self.new
+            ≡ ⟦<KeptStore<H> as Store>⟧.shares self.old) }
+        ensures room { IsTrue (⟦<KeptStore<H> as Store>⟧.honest self.old) →
+            ⟦<KeptStore<H> as Store>⟧.room self.new + ⟦<KeptStore<H> as Store>⟧.held self.new
+            ≡ ⟦<KeptStore<H> as Store>⟧.room self.old + ⟦<KeptStore<H> as Store>⟧.held self.old }
+        ensures history { IsTrue (⟦<KeptStore<H> as Store>⟧.honest self.old) →
+            GoesOnBy (IsEither (⟦<KeptStore<H> as Store>⟧.shares self.old)
+            (map.remove (⟦<KeptStore<H> as Store>⟧.shares self.old) (index, number)))
+            (⟦<KeptStore<H> as Store>⟧.history self.old)
+            (⟦<KeptStore<H> as Store>⟧.history self.new) }
+        ensures refused { H.failures self.old.shelf < H.failures self.new.shelf → OnOk result ⊥ }
+        ensures granted { OnOk result ((self.new.down ≡ false)
+            ⊎ (⟦<KeptStore<H> as Store>⟧.shares self.new
+            ≡ ⟦<KeptStore<H> as Store>⟧.shares self.old)) }
+    {
         self.give_up(index, number)
     }
 
-    fn toggle(&mut self, index: [u8; 16], number: u16, place: u64) -> Result<bool, StoreFault> {
+    fn toggle(&mut self, index: [u8; 16], number: u16, place: u64) -> Result<bool, StoreFault>
+        ensures rises { ⟦<KeptStore<H> as Store>⟧.failures self.old ≤ ⟦<KeptStore<H> as Store>⟧.failures self.new }
+        ensures down { IsErrOf result StoreFault.Down ↔
+            (⟦<KeptStore<H> as Store>⟧.failures self.old < ⟦<KeptStore<H> as Store>⟧.failures
+            self.new) }
+        ensures not_full { IsErrOf result StoreFault.Full → ⊥ }
+        ensures honest { IsTrue (⟦<KeptStore<H> as Store>⟧.honest self.old) →
+            IsTrue (⟦<KeptStore<H> as Store>⟧.honest self.new) }
+        ensures was_honest { IsTrue (⟦<KeptStore<H> as Store>⟧.honest self.new) →
+            IsTrue (⟦<KeptStore<H> as Store>⟧.honest self.old) }
+        ensures toggled { IsTrue (⟦<KeptStore<H> as Store>⟧.honest self.old) →
+            IfOk result (λ toggled. toggled
+            ≡ has_byte (⟦<KeptStore<H> as Store>⟧.shares self.old) (index, number) place) }
+        ensures shares { IsTrue (⟦<KeptStore<H> as Store>⟧.honest self.old) →
+            OnOk result (⟦<KeptStore<H> as Store>⟧.shares self.new
+            ≡ with_toggle (⟦<KeptStore<H> as Store>⟧.shares self.old) (index, number) place) }
+        ensures err { IsTrue (⟦<KeptStore<H> as Store>⟧.honest self.old) →
+            OnErr result (⟦<KeptStore<H> as Store>⟧.shares self.new
+            ≡ ⟦<KeptStore<H> as Store>⟧.shares self.old) }
+        ensures room { IsTrue (⟦<KeptStore<H> as Store>⟧.honest self.old) →
+            ⟦<KeptStore<H> as Store>⟧.room self.new + ⟦<KeptStore<H> as Store>⟧.held self.new
+            ≡ ⟦<KeptStore<H> as Store>⟧.room self.old + ⟦<KeptStore<H> as Store>⟧.held self.old }
+        ensures history { IsTrue (⟦<KeptStore<H> as Store>⟧.honest self.old) →
+            GoesOnBy (IsEither (⟦<KeptStore<H> as Store>⟧.shares self.old)
+            (with_toggle (⟦<KeptStore<H> as Store>⟧.shares self.old) (index, number) place))
+            (⟦<KeptStore<H> as Store>⟧.history self.old)
+            (⟦<KeptStore<H> as Store>⟧.history self.new) }
+        ensures refused { H.failures self.old.shelf < H.failures self.new.shelf → OnOk result ⊥ }
+        ensures granted { OnOk result ((self.new.down ≡ false)
+            ⊎ (⟦<KeptStore<H> as Store>⟧.shares self.new
+            ≡ ⟦<KeptStore<H> as Store>⟧.shares self.old)) }
+    {
         self.alter(index, number, place)
     }
 

@@ -1,5 +1,6 @@
-use Rattle.std.proofs.Common.{◌++◌, List, ℕ, drop, take, ap, sym, ◌∙◌, append_assoc}
-use Rattle.gate_core.proofs.Queues.{take_both, drop_both, at_hand, left_behind}
+use Rattle.std.proofs.Common.{◌++◌, List, ℕ, [], drop, take, ap, sym, ◌∙◌, append_assoc}
+use Rattle.std.specs.Prelude.{unwrap_or}
+use Rattle.gate_core.proofs.Queues.{take_both, drop_both, at_hand, left_behind, none_kept}
 use Rattle.gate_core.proofs.output.Output.take.Goals as goal
 
 pub returns-clause-given : goal.returns-clause-given
@@ -7,7 +8,7 @@ returns-clause-given c =
     let front = rw c.as_slice.ensures at c.first-front.ensures in
     let ready = rw c.as_slice-2.ensures at c.first-ready.ensures in
     c.in_ok-given.ensures.text ∙ take_both c.args.max c.fill.new.front c.fill.new.ready _ _ front ready
-    ∙ at_hand c.args.max c.fill.new.front c.fill.new.ready c.fill.new.body c.in_ok-fill.ensures.enough
+    ∙ at_hand c.args.max c.fill.new.front c.fill.new.ready (unwrap_or c.fill.new.body []) (none_kept c.fill.new.body c.in_ok-fill.ensures.enough)
     ∙ ap (take c.args.max) (c.fill.ensures.same ∙ c.self.view_is)
 
 pub returns-clause-rest : goal.returns-clause-rest
@@ -15,6 +16,6 @@ returns-clause-rest c =
     let front = rw c.as_slice.ensures at c.first-front.ensures in
     let ready = rw c.as_slice-2.ensures at c.first-ready.ensures in
     let both = drop_both c.args.max c.fill.new.front c.fill.new.ready _ _ front ready in
-    rw (c.skip.ensures, c.skip-2.ensures) (sym (append_assoc _ _ c.fill.new.body) ∙ ap (λ (l : List ℕ). l ++ c.fill.new.body) both
-    ∙ left_behind c.args.max c.fill.new.front c.fill.new.ready c.fill.new.body c.in_ok-fill.ensures.enough
+    rw (c.skip.ensures, c.skip-2.ensures) (sym (append_assoc _ _ (unwrap_or c.fill.new.body [])) ∙ ap (λ (l : List ℕ). l ++ (unwrap_or c.fill.new.body [])) both
+    ∙ left_behind c.args.max c.fill.new.front c.fill.new.ready (unwrap_or c.fill.new.body []) (none_kept c.fill.new.body c.in_ok-fill.ensures.enough)
     ∙ ap (drop c.args.max) (c.fill.ensures.same ∙ c.self.view_is))
