@@ -8,3 +8,4 @@ pub mod Mends
 pub mod Steps
 pub mod MidCalls
 pub mod Histories
+pub mod Tagged

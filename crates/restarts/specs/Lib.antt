@@ -5,3 +5,4 @@ pub mod Reopened
 pub mod Mended
 pub mod Stores
 pub mod Lives
+pub mod Callers

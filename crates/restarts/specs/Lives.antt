@@ -4,7 +4,7 @@ use Rattle.std.specs.List.{AllByRecursion}
 use Rattle.chk_file.specs.World.{World}
 use Rattle.chk_file.specs.Look.{by_fit}
 use Rattle.gate_core.specs.Settings.{Settings, under}
-use Rattle.gate_core.specs.Events.{Event, handed}
+use Rattle.gate_core.specs.Events.{Event}
 use Rattle.gate_core.specs.Items.{Entry, items}
 use Rattle.gate_core.specs.Runs.{world_after, said_by}
 use Rattle.gate_core.specs.Uploaded.{IsProper}
@@ -47,26 +47,12 @@ AreLived settings w (life ∷ lives) = IsLived settings w life × AreLived setti
 abbrev pub unheard : Settings → ℕ → World → Life → List ℕ
 unheard settings caller w life = waiting life.gateway caller ++ said_by by_fit settings caller (world_after settings w (items life.events)) life.ends
 
--- what a caller was handed in each run, and what it didn't get there
-abbrev pub told_in : Settings → ℕ → World → List Life → List ℕ
-told_in settings caller w [] = []
-told_in settings caller w (life ∷ lives) =
-    (handed caller life.events ++ unheard settings caller w life) ++ told_in settings caller (world_after settings w (items_in life)) lives
-
 -- After these runs there is a gateway of which these calls were made, and which began where the last of them left off.
 pub record IsHistory (settings : Settings) (w : World) (lives : List Life) (g : State) (events : List Event) : Type 0 where
   pub lived : AreLived settings w lives
   pub same : g.settings ≡ under settings g.settings.secret
   pub rooms : Rooms
   pub came : Came (record { world = world_after settings w (items_of lives); rooms = rooms }) g events
-
--- the items of all of them
-abbrev pub all_items : List Life → List Event → List Entry
-all_items lives events = items_of lives ++ items events
-
--- what a caller was handed and what waits for it, in all of them
-abbrev pub told_over : Settings → ℕ → World → List Life → State → List Event → List ℕ
-told_over settings caller w lives g events = told_in settings caller w lives ++ (handed caller events ++ waiting g caller)
 
 -- a crash in a call that these items were asked for in ended a run, and the next one begins with this gateway
 pub record Restarted (settings : Settings) (w : World) (lives : List Life) (g : State) (events : List Event) (asked : List Entry) (h : State) : Type 0 where

@@ -32,7 +32,8 @@ ghost use Rattle.restarts.specs.Reopened.{Reopened};
 ghost use Rattle.restarts.specs.Mended.{AreCutOff, Mended};
 ghost use Rattle.restarts.specs.Stores.{AreLeft};
 ghost use Rattle.restarts.specs.LeftIn.{AreLeftIn};
-ghost use Rattle.restarts.specs.Lives.{Life, AreLived, IsHistory, Restarted, items_of, all_items, told_over};
+ghost use Rattle.restarts.specs.Lives.{Life, AreLived, IsHistory, Restarted, items_of};
+ghost use Rattle.restarts.specs.Callers.{caller_of, all_items, told_over};
 
 use share_shelf::Shelf;
 
@@ -175,30 +176,35 @@ pub fn histories_go_on()
 }
 
 /// What callers are told over restarts is what they are told in one run of all items: those that were carried out, and of
-/// each item at which a crash came its end, with the losses that stand for the crash.
+/// each item at which a crash came its end, with the losses that stand for the crash. A caller is one connection of one
+/// run: `run` of them came before its own.
 pub fn callers_are_told_over_restarts()
+    // connections of two runs are two callers, whatever their ids
+    ensures callers { (run id other_run other_id : ℕ) →
+        caller_of run id ≡ caller_of other_run other_id → (run ≡ other_run) × (id ≡ other_id) }
     // all runs together left what one run leaves, and so did each of them
     ensures left { (settings : Settings) (past : List Entry) (w : World) (lives : List Life) →
         IsLeftBy settings past w → AreLived settings w lives →
         IsLeftBy settings (past ++ items_of lives) (world_after settings w (items_of lives)) }
     // by verification, with nothing dropped and no premise on hashes
     ensures verified_whole { (settings : Settings) (w : World) (lives : List Life) (g : State)
-        (events : List Event) (caller : ℕ) → IsHistory settings w lives g events →
-        told_over settings caller w lives g events
-        ≡ said_by by_fit settings caller w (all_items lives events) }
+        (events : List Event) (run id : ℕ) → IsHistory settings w lives g events →
+        told_over settings run id w lives g events
+        ≡ said_by by_fit settings (caller_of run id) w (all_items lives events) }
     // with the items of others dropped, save uploads under a storage index that the caller met
     ensures verified { (settings : Settings) (w : World) (lives : List Life) (g : State)
-        (events : List Event) (caller : ℕ) → IsHistory settings w lives g events →
-        told_over settings caller w lives g events
-        ≡ said_by by_fit settings caller w
-        (kept_by by_fit settings (only caller) w (all_items lives events)) }
+        (events : List Event) (run id : ℕ) → IsHistory settings w lives g events →
+        told_over settings run id w lives g events
+        ≡ said_by by_fit settings (caller_of run id) w
+        (kept_by by_fit settings (only (caller_of run id)) w (all_items lives events)) }
     // by the written answers, where no two of this caller's strings collide
     ensures apart { (settings : Settings) (past : List Entry) (w : World) (lives : List Life)
-        (g : State) (events : List Event) (caller : ℕ) → IsHistory settings w lives g events →
+        (g : State) (events : List Event) (run id : ℕ) → IsHistory settings w lives g events →
         IsLeftBy settings past w →
-        Apart settings (only caller) past w (all_items lives events) →
-        told_over settings caller w lives g events
-        ≡ said settings caller w (kept settings (only caller) w (all_items lives events)) }
+        Apart settings (only (caller_of run id)) past w (all_items lives events) →
+        told_over settings run id w lives g events
+        ≡ said settings (caller_of run id) w
+        (kept settings (only (caller_of run id)) w (all_items lives events)) }
     // the last run alone: the runs before it are a past like any other
     ensures last { (settings : Settings) (past : List Entry) (w : World) (lives : List Life)
         (g : State) (events : List Event) (caller : ℕ) → IsHistory settings w lives g events →

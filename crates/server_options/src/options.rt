@@ -1,12 +1,15 @@
 //! What the program is asked for.
-ghost use Rattle.std.specs.Prelude.{IfOk, IfSome};
+ghost use Rattle.std.specs.Prelude.{◌≡◌, ◌≢◌, ℕ, [], List, None, IfOk, IfSome, codes, length, map, not, option_map, replicate, unwrap_or};
 ghost use Rattle.octets.specs.Sharing.{IsSharing};
+ghost use Rattle.server_options.specs.Given.{given_text, given_texts, IsFlagGiven, IsNumberGiven};
+ghost use Rattle.server_options.specs.declared.store_names.StoreWanted.TheVariants.{Memory};
 
 use crate::arguments::program;
 use crate::store_names::{StoreWanted, read_store};
 use clap::{ArgMatches, Error};
 use octets::is_sharing;
 use std::alloc::{AllocError, AllocFailed, Global};
+use std::str::FromStr;
 
 /// How many stores there may be.
 const MOST_STORES: usize = 256;
@@ -127,37 +130,92 @@ pub fn read_words<'a>(alloc: Global, words: &'a [String]) -> Result<Task<'a>, Re
 /// Reads what was given with `serve`.
 fn read_options<'a>(alloc: Global, given: &ArgMatches<'a>) -> Result<Options<'a>, Refusal>
     ensures shares { IfOk result (λ o. IsSharing o.shares.needed o.shares.made) }
+    ensures listen { IfOk result (λ o.
+        o.listen.now ≡ unwrap_or (given_text given.now (codes "listen")) []) }
+    ensures control { IfOk result (λ o. option_map (λ s. s.now) o.control
+        ≡ given_text given.now (codes "control")) }
+    ensures synced { IfOk result (λ o.
+        IsFlagGiven given.now (codes "no-sync") (not o.synced)) }
+    ensures secret_file { IfOk result (λ o. option_map (λ s. s.now) o.secret_file
+        ≡ given_text given.now (codes "secret-file")) }
+    ensures redis_password_file { IfOk result (λ o. option_map (λ s. s.now) o.redis_password_file
+        ≡ given_text given.now (codes "redis-password-file")) }
+    ensures connections { IfOk result (λ o. IsNumberGiven ⟦<usize as FromStr>⟧.from_str_gives
+        given.now (codes "connections") 1 o.connections) }
+    ensures idle { IfOk result (λ o. IsNumberGiven ⟦<u64 as FromStr>⟧.from_str_gives
+        given.now (codes "idle") 60 o.idle) }
 {
-    let Some(shares) = read_shares(given.get_str("shares").unwrap_or("")) else {
+    let Some(shares) = read_shares(text_of(given, "shares")) else {
         return Err(Refusal::Shares);
     };
+    let stores = read_stores(alloc, given)?;
+    let secret_file = given.get_str("secret-file");
     Ok(Options {
-        listen: given.get_str("listen").unwrap_or(""),
+        listen: text_of(given, "listen"),
         control: given.get_str("control"),
         shares,
-        stores: read_stores(alloc, given)?,
-        synced: !given.get_flag("no-sync"),
-        secret_file: given.get_str("secret-file"),
+        stores,
+        synced: !has_flag(given, "no-sync"),
+        secret_file,
         redis_password_file: given.get_str("redis-password-file"),
-        connections: given.get_one::<usize>("connections").unwrap_or(1),
-        idle: given.get_one::<u64>("idle").unwrap_or(60),
+        connections: connections_of(given),
+        idle: idle_of(given),
     })
 }
 
 /// Reads what was given with `restore`.
 fn read_restoring<'a>(alloc: Global, given: &ArgMatches<'a>) -> Result<Restoring<'a>, Refusal>
     ensures shares { IfOk result (λ o. IsSharing o.shares.needed o.shares.made) }
+    ensures file { IfOk result (λ o.
+        o.file.now ≡ unwrap_or (given_text given.now (codes "file")) []) }
+    ensures synced { IfOk result (λ o.
+        IsFlagGiven given.now (codes "no-sync") (not o.synced)) }
+    ensures secret_file { IfOk result (λ o. option_map (λ s. s.now) o.secret_file
+        ≡ given_text given.now (codes "secret-file")) }
 {
-    let Some(shares) = read_shares(given.get_str("shares").unwrap_or("")) else {
+    let Some(shares) = read_shares(text_of(given, "shares")) else {
         return Err(Refusal::Shares);
     };
+    let folders = texts_of(alloc, given, "paths")?;
     Ok(Restoring {
-        file: given.get_str("file").unwrap_or(""),
-        folders: texts_of(alloc, given, "paths")?,
+        file: text_of(given, "file"),
+        folders,
         shares,
-        synced: !given.get_flag("no-sync"),
+        synced: !has_flag(given, "no-sync"),
         secret_file: given.get_str("secret-file"),
     })
+}
+
+/// The text that was given under a name, and an empty one where none was.
+fn text_of<'a>(given: &ArgMatches<'a>, name: &str) -> &'a str
+    ensures { result.now ≡ unwrap_or (given_text given.now name.now) [] }
+{
+    match given.get_str(name) {
+        Some(text) => text,
+        None => "",
+    }
+}
+
+/// Whether a flag was given.
+fn has_flag(given: &ArgMatches<'_>, name: &str) -> bool
+    ensures { IsFlagGiven given.now name.now result }
+{
+    given.get_flag(name)
+}
+
+/// How many connections may be open at once.
+fn connections_of(given: &ArgMatches<'_>) -> usize
+    ensures { IsNumberGiven ⟦<usize as FromStr>⟧.from_str_gives given.now (codes "connections") 1
+        result }
+{
+    given.get_one::<usize>("connections").unwrap_or(1)
+}
+
+/// For how many seconds a connection may be silent.
+fn idle_of(given: &ArgMatches<'_>) -> u64
+    ensures { IsNumberGiven ⟦<u64 as FromStr>⟧.from_str_gives given.now (codes "idle") 60 result }
+{
+    given.get_one::<u64>("idle").unwrap_or(60)
 }
 
 /// The values of an argument.
@@ -165,28 +223,53 @@ fn texts_of<'a>(
     alloc: Global,
     given: &ArgMatches<'a>,
     name: &str,
-) -> Result<Vec<&'a str>, AllocError> {
+) -> Result<Vec<&'a str>, AllocError>
+    ensures { IfOk result (λ texts. map (λ s. s.now) texts.items
+        ≡ unwrap_or (given_texts given.now name.now) []) }
+{
     let mut texts = Vec::new(alloc);
     if let Some(values) = given.get_strs(name) {
-        for value in values {
-            texts.push(*value)?;
-        }
+        texts.extend_from_slice(values)?;
     }
     Ok(texts)
 }
 
 /// The stores that are wanted: those that are named, and else so many in memory.
-fn read_stores<'a>(alloc: Global, given: &ArgMatches<'a>) -> Result<Vec<StoreWanted<'a>>, Refusal> {
-    let room = given.get_one::<u64>("room").unwrap_or(0);
+fn read_stores<'a>(alloc: Global, given: &ArgMatches<'a>) -> Result<Vec<StoreWanted<'a>>, Refusal>
+    ensures named { given_texts given.now (codes "store") ≢ None →
+        unwrap_or (given_texts given.now (codes "store")) [] ≢ [] → IfOk result (λ stores.
+        length stores.items ≡ length (unwrap_or (given_texts given.now (codes "store")) [])) }
+    ensures in_memory { unwrap_or (given_texts given.now (codes "store")) [] ≡ [] →
+        IfOk result (λ stores. (servers room : ℕ)
+        × (IsNumberGiven ⟦<u16 as FromStr>⟧.from_str_gives given.now (codes "servers") 5 servers
+        × (IsNumberGiven ⟦<u64 as FromStr>⟧.from_str_gives given.now (codes "room") 0 room
+        × (stores.items ≡ replicate servers (Memory room))))) }
+{
+    let room = room_of(given);
     let stores = read_named(alloc, given, room)?;
     if stores.len() > MOST_STORES || !are_apart(&stores) {
         return Err(Refusal::Stores);
     }
     if stores.is_empty() {
-        let servers = given.get_one::<u16>("servers").unwrap_or(5);
+        let servers = servers_of(given);
         return Ok(vec![in alloc; StoreWanted::Memory(room); usize::from(servers)]?);
     }
     Ok(stores)
+}
+
+/// How many bytes each store takes that doesn't say it.
+fn room_of(given: &ArgMatches<'_>) -> u64
+    ensures { IsNumberGiven ⟦<u64 as FromStr>⟧.from_str_gives given.now (codes "room") 0 result }
+{
+    given.get_one::<u64>("room").unwrap_or(0)
+}
+
+/// How many stores there are in memory, where none is named.
+fn servers_of(given: &ArgMatches<'_>) -> u16
+    ensures { IsNumberGiven ⟦<u16 as FromStr>⟧.from_str_gives given.now (codes "servers") 5
+        result }
+{
+    given.get_one::<u16>("servers").unwrap_or(5)
 }
 
 /// The stores that are named.
@@ -194,15 +277,17 @@ fn read_named<'a>(
     alloc: Global,
     given: &ArgMatches<'a>,
     room: u64,
-) -> Result<Vec<StoreWanted<'a>>, Refusal> {
+) -> Result<Vec<StoreWanted<'a>>, Refusal>
+    ensures { IfOk result (λ stores. length stores.items
+        ≡ length (unwrap_or (given_texts given.now (codes "store")) [])) }
+{
     let mut stores = Vec::new(alloc);
-    if let Some(names) = given.get_strs("store") {
-        for name in names {
-            let Some(store) = read_store(*name, room) else {
-                return Err(Refusal::Stores);
-            };
-            stores.push(store)?;
-        }
+    let names = texts_of(alloc, given, "store")?;
+    for name in &names {
+        let Some(store) = read_store(*name, room) else {
+            return Err(Refusal::Stores);
+        };
+        stores.push(store)?;
     }
     Ok(stores)
 }

@@ -1,4 +1,4 @@
-use Rattle.std.proofs.Common.{length, vec_len, ◌∙◌, ap, sym}
+use Rattle.std.proofs.Common.{length, vec_len, ◌∙◌, ap, sym, Err}
 use Rattle.grid.specs.ImageReading.{image_said}
 use Rattle.gate_core.specs.Held.{State}
 use Rattle.gate_core.proofs.Arrivals.{inner_fault, fault_told}
@@ -27,4 +27,13 @@ returns-in-Err-clause-full g c server e =
       leaves = refused.leaves;
       rooms = refused.rooms;
       full = refused.full server (inner_fault c.in-Err.fault _ e);
+    }
+
+pub returns-in-Err-clause-down : goal.returns-in-Err-clause-down
+returns-in-Err-clause-down g c server e =
+    let refused = c.in-Err.ensures in
+    record {
+      after = states g.S.Store.shares g.S.Store.room g.S.Store.held g.S.Store.failures g.S.Store.honest g.S.Store.history c.in-Err.field-0-1.items;
+      leaves = refused.leaves;
+      rose = (refused.down server).0 (ap Err (inner_fault c.in-Err.fault _ e));
     }
