@@ -126,7 +126,7 @@ restored log grid (Some old) image g at told set sound came =
     let was : CameBy (record { command = command.Grid grid; reply = Done } ∷ []) old = subst (λ l. CameBy l old) at.0 at.1 in
     subst (λ l. IsAnswer l step None (Some g)) (sym at.0) record {
       stands = refl;
-      told = record { made = first.made; restored = record { done = λ _. sound; bad = λ place is. absurd cc }; replies = λ opening opened. tt };
+      told = record { made = first.made; restored = record { answer = tt; done = λ _. sound; bad = λ place is. absurd cc; full = λ server is. absurd cc }; replies = λ opening opened. tt };
       ends = refl;
       at = λ _. (omega arith, record { settings = set; sharing = was.sharing; calm = λ opening opened calm. came opening opened });
     }

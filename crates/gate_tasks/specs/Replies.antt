@@ -1,6 +1,9 @@
 -- Which replies commands get, by what was called before.
-use Rattle.std.specs.Prelude.{◌≡◌, ℕ, ◌+◌, ◌&&◌, not, nat_le, nat_lt, ◌⊎◌, List, [], ◌∷◌, ◌++◌, length, take, drop, ⊤, Bool, is_some, unwrap_or, if◌then◌else◌, Option, Some, None}
-use Rattle.grid.specs.declared.fault.GridFault.TheVariants.{NoServer, BadImage}
+use Rattle.std.specs.Prelude.{◌≡◌, ℕ, ◌+◌, ◌&&◌, not, nat_le, nat_lt, ◌⊎◌, List, [], ◌∷◌, ◌++◌, length, take, drop, replicate, ⊤, Bool, is_some, unwrap_or, if◌then◌else◌, Option, Some, None}
+use Rattle.grid.specs.declared.fault.GridFault.TheVariants.{NoServer, BadImage, Full}
+use Rattle.grid.specs.GridState.{GridState}
+use Rattle.grid.specs.Stamps.{never_raised}
+use Rattle.grid.specs.Refusals.{IsReadRefusal}
 use Rattle.share_store.specs.Shares.{Shares, bytes_of as size_of}
 use Rattle.grid.specs.Standing.{standing, at_server as in_store}
 use Rattle.grid.specs.Rows.{rows_of}
@@ -19,6 +22,8 @@ use Rattle.gate_core.specs.Reach.{only, kept}
 use Rattle.gate_core.specs.Uploaded.{IsLeftBy}
 use Rattle.gate_core.specs.Apart.{Apart}
 use Rattle.gate_core.specs.Came.{Opening, IsRoomy}
+use Rattle.gate_core.specs.Restored.{IsFilledAt}
+use Rattle.gate_tasks.specs.Stores.{fresh}
 use Rattle.gate_core.specs.declared.fault.GatewayFault.TheVariants.{Known, NotOpen, BadParameters}
 use Rattle.gate_tasks.specs.declared.command.Command.{Command}
 use Rattle.gate_tasks.specs.declared.command.Command.TheVariants as command
@@ -180,11 +185,26 @@ AreReplies grid opening events (step ∷ calls) =
 
 -- ---- all steps
 
+-- the reply to `restore` is that it was done, or that the image or the parameters were refused
+abbrev pub IsRestoreAnswer : Reply → Type 0
+IsRestoreAnswer Done = ⊤
+IsRestoreAnswer (Refused fault) = fault ≡ BadParameters
+IsRestoreAnswer (GridRefused fault) = IsReadRefusal fault
+IsRestoreAnswer (Given bytes) = ⊥
+IsRestoreAnswer (Imaged bytes) = ⊥
+IsRestoreAnswer (Answered answer) = ⊥
+
+-- the stores that an image is restored into: each has ROOM, and nothing stands
+abbrev pub empty_stores : Grid → GridState
+empty_stores grid = record { stores = replicate grid.servers (fresh grid.room); stamps = never_raised }
+
 -- An image is restored only where it is one of stores for so many servers, and called bad only where it is not: at the place of
--- its first fault.
+-- its first fault. A server is called full only where the next share was longer than the room that it had left.
 pub record IsRestoreReply (grid : Grid) (bytes : List ℕ) (reply : Reply) : Type 0 where
+  pub answer : IsRestoreAnswer reply
   pub done : reply ≡ Done → (image_said grid.servers bytes).fault ≡ None
   pub bad : (place : ℕ) → reply ≡ GridRefused (BadImage place) → (image_said grid.servers bytes).fault ≡ Some place
+  pub full : (server : ℕ) → reply ≡ GridRefused (Full server) → IsFilledAt (empty_stores grid) grid.servers (Some bytes) server
 
 -- the reply to the command after `grid`, where it restores an image
 abbrev pub IsFirstReply : Grid → Command → Reply → Type 0

@@ -1,7 +1,11 @@
-use Rattle.std.proofs.Common.{◌≡◌, None, Some, Err, subst, sym, ap, ◌∙◌, rules}
+use Rattle.std.proofs.Common.{◌≡◌, ℕ, Option, None, Some, Err, List, subst, sym, ap, ◌∙◌, rules}
 use Rattle.grid.specs.ImageReading.{image_said}
 use Rattle.grid.specs.declared.fault.GridFault.{GridFault}
-use Rattle.grid.specs.declared.fault.GridFault.TheVariants.{BadImage}
+use Rattle.grid.specs.declared.fault.GridFault.TheVariants.{BadImage, Full}
+use Rattle.grid.specs.GridState.{StoreState}
+use Rattle.grid.specs.Stamps.{never_raised}
+use Rattle.gate_core.specs.Restored.{IsFilledAt}
+use Rattle.gate_tasks.specs.Replies.{IsRestoreAnswer}
 use Rattle.gate_core.specs.declared.fault.RestoreFault.TheVariants as restore_fault
 use Rattle.gate_tasks.specs.Running.{IsProgress, IsAnswer}
 use Rattle.gate_tasks.specs.Script.{Step, is_refusal}
@@ -27,6 +31,13 @@ returns-in-Ok c log at told =
 same_fault : (a b : GridFault) → GridRefused a ≡ GridRefused b → a ≡ b
 same_fault a b is = cc
 
+-- the same stores, as many
+filled : (seen stores : List StoreState) (n m : ℕ) (bytes : Option (List ℕ)) (server : ℕ) → seen ≡ stores → n ≡ m
+    → IsFilledAt (record { stores = seen; stamps = never_raised }) n bytes server → IsFilledAt (record { stores = stores; stamps = never_raised }) m bytes server
+filled seen stores n m bytes server same many full =
+    subst (λ s. IsFilledAt (record { stores = s; stamps = never_raised }) m bytes server) same
+    (subst (λ x. IsFilledAt (record { stores = seen; stamps = never_raised }) x bytes server) many full)
+
 pub returns : goal.returns
 returns c log at told =
     let grid = c.in-Some.grid in
@@ -38,6 +49,10 @@ returns c log at told =
     subst (λ was. IsAnswer log step was None) (sym none)
     (restore_refused log grid c.args.progress.now.gateway c.args.image.now reply (subst (λ was. IsProgress log was c.args.progress.now.gateway) some at) told (ap is_refusal is)
     record {
+      answer = subst IsRestoreAnswer (sym is) (c.in-Err-Grid.ensures.refusals c.in-Err-Grid.fault (ap Err c.in-Err-Grid.field-0-is));
       done = λ other. absurd cc;
       bad = λ place other. subst (λ servers. (image_said servers c.args.image.now).fault ≡ Some place) c.in_ok-stores.ensures.count (c.in-Err-Grid.ensures.bad_image place (ap Err (c.in-Err-Grid.field-0-is ∙ ap restore_fault.Grid (same_fault c.in-Err-Grid.fault (BadImage place) (sym is ∙ other)))));
+      full = λ server other.
+          filled _ _ _ _ (Some c.args.image.now) server c.in_ok-stores.ensures.fresh c.in_ok-stores.ensures.count
+          (c.in-Err-Grid.ensures.full server (ap Err (c.in-Err-Grid.field-0-is ∙ ap restore_fault.Grid (same_fault c.in-Err-Grid.fault (Full server) (sym is ∙ other)))));
     })
