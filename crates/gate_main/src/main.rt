@@ -3,16 +3,20 @@
 //! on an address and serves connections one after the other, over stores in memory.
 #![tactic(auto)]
 
-ghost use Rattle.std.specs.Prelude.{◌≡◌, ◌≢◌, Err};
+ghost use Rattle.std.specs.Prelude.{◌≡◌, ◌≢◌, Err, IfOk};
 ghost use Rattle.std.specs.Process.{exit_status as status_at_exit};
 ghost use Rattle.gate_tasks.specs.Arguments.{Asks, IsRefused};
+ghost use Rattle.gate_tasks.specs.Serving.{set_up_with};
 ghost use Rattle.gate_tasks.specs.Status.{status_of};
 
 use gate_tasks::laws::usage_laws;
 use gate_tasks::{
     ProgramFault, Service, Task, UsageFault, exit_status, read_task, run_script, serve_on, set_up,
 };
+use gate_core::Gateway;
 use octets::Bytes;
+use share_store::MemStore;
+use std::alloc::Global;
 use std::io::{BufReader, BufWriter, ErrorKind};
 use std::net::{Net, TcpListener, TcpStream};
 use std::process::ExitCode;
@@ -100,9 +104,7 @@ fn serve<R: Print + Eprint + AllocGlobal + Net<Listener = TcpListener, Stream = 
 ) -> Result<(), ProgramFault>
     ensures { (fault : UsageFault) → result ≢ Err (ProgramFault.Usage fault) }
 {
-    let Ok(mut gateway) = set_up(rt.alloc(), service.secret.as_slice()) else {
-        return Err(ProgramFault::NoMemory);
-    };
+    let mut gateway = gateway_for(rt.alloc(), service)?;
     let Ok(listener) = TcpListener::bind(rt, service.address) else {
         return Err(ProgramFault::BindFailed);
     };
@@ -113,5 +115,16 @@ fn serve<R: Print + Eprint + AllocGlobal + Net<Listener = TcpListener, Stream = 
         Ok(0) => Ok(()),
         Ok(faults) => Err(ProgramFault::Connections(faults)),
         Err(fault) => Err(ProgramFault::Serve(fault)),
+    }
+}
+
+/// The gateway of a server, under the secret that its arguments gave.
+fn gateway_for(alloc: Global, service: &Service) -> Result<Gateway<MemStore>, ProgramFault>
+    ensures made { IfOk result (λ gateway. gateway ≡ set_up_with service.now.secret) }
+    ensures refused { (fault : UsageFault) → result ≢ Err (ProgramFault.Usage fault) }
+{
+    match set_up(alloc, service.secret.as_slice()) {
+        Ok(gateway) => Ok(gateway),
+        Err(_) => Err(ProgramFault::NoMemory),
     }
 }

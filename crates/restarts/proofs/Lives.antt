@@ -1,5 +1,5 @@
 -- Runs one after the other.
-use Rattle.std.proofs.Common.{◌≡◌, ◌<◌, ℕ, zero, suc, ◌+◌, List, [], ◌∷◌, ◌++◌, map, Bool, true, refl, sym, ap, subst, ◌∙◌, eq-eqb, add-zero, zero-add, append-nil, arith}
+use Rattle.std.proofs.Common.{◌≡◌, ℕ, zero, suc, ◌+◌, List, [], ◌∷◌, ◌++◌, map, Bool, true, refl, sym, ap, subst, ◌∙◌, eq-eqb, add-zero, zero-add, append-nil, arith}
 use Rattle.std.specs.Prelude.{All}
 use Rattle.std.proofs.lemmas.List.{append_assoc}
 use Rattle.octets.specs.Sharing.{IsSharing}
@@ -18,7 +18,7 @@ use Rattle.gate_core.specs.Rooms.{Rooms}
 use Rattle.gate_core.specs.Held.{State, waiting}
 use Rattle.gate_core.specs.Came.{Opening, Came}
 use Rattle.restarts.specs.Lives.{Life, IsLived, AreLived, IsHistory, items_in, items_of, unheard}
-use Rattle.restarts.specs.Callers.{caller_of, in_run, items_from, all_items, told_over}
+use Rattle.restarts.specs.Callers.{caller_number, in_run, items_from, all_items, told_over}
 use Rattle.restarts.proofs.Mends.{proper_none, proper_ends}
 use Rattle.restarts.proofs.Runs.{world-append, said-append, proper-append, left-append}
 use Rattle.restarts.proofs.Tagged.{same_world, same_said as same_said_in, none_said, none_later, proper_in_run}
@@ -114,44 +114,44 @@ module _ (whole : Whole) (settings : Settings) (caller : ℕ) where
   -- those of a run that others came before, over the runs from there on
   pub told_from : (run base : ℕ) (w : World) (lives : List Life) (g : State) (events : List Event) (rooms : Rooms) → AreLived settings w lives → g.settings ≡ under settings g.settings.secret
       → Came (record { world = world_after settings w (items_of lives); rooms = rooms }) g events
-      → told_over settings run caller w lives g events ≡ said_by by_fit settings (caller_of (base + run) caller) w (items_from base lives events)
+      → told_over settings run caller w lives g events ≡ said_by by_fit settings (caller_number (base + run) caller) w (items_from base lives events)
   told_from zero base w [] g events rooms lived same came =
       told_calls w rooms g events same came ∙ sym (same_said_in by_fit settings base caller w (items events))
-      ∙ ap (λ (r : ℕ). said_by by_fit settings (caller_of r caller) w (map (in_run base) (items events))) (sym (add-zero base))
+      ∙ ap (λ (r : ℕ). said_by by_fit settings (caller_number r caller) w (map (in_run base) (items events))) (sym (add-zero base))
   told_from (suc run) base w [] g events rooms lived same came =
       sym (none_said by_fit settings base (base + suc run) caller w (items events) (λ e. absurd (omega (arith, e))))
   told_from zero base w (life ∷ lives) g events rooms lived same came =
       let mine : List Entry = map (in_run base) (items_in life) in
       let v : World = world_after settings w mine in
-      let said_here : List ℕ = said_by by_fit settings (caller_of base caller) w mine in
+      let said_here : List ℕ = said_by by_fit settings (caller_number base caller) w mine in
       told_life w life lived.0
       ∙ sym (same_said_in by_fit settings base caller w (items_in life))
       ∙ sym (append-nil said_here)
       ∙ ap (λ (l : List ℕ). said_here ++ l) (sym (none_later by_fit settings (suc base) base caller v lives events (omega arith)))
-      ∙ sym (said-append by_fit settings (caller_of base caller) w mine (items_from (suc base) lives events))
-      ∙ ap (λ (r : ℕ). said_by by_fit settings (caller_of r caller) w (items_from base (life ∷ lives) events)) (sym (add-zero base))
+      ∙ sym (said-append by_fit settings (caller_number base caller) w mine (items_from (suc base) lives events))
+      ∙ ap (λ (r : ℕ). said_by by_fit settings (caller_number r caller) w (items_from base (life ∷ lives) events)) (sym (add-zero base))
   told_from (suc run) base w (life ∷ lives) g events rooms lived same came =
       let mine : List Entry = map (in_run base) (items_in life) in
-      let who : ℕ = caller_of (base + suc run) caller in
+      let who : ℕ = caller_number (base + suc run) caller in
       let next : World = world_after settings w (items_in life) in
       let v : World = world_after settings w mine in
       told_from run (suc base) next lives g events rooms lived.1 same
       (subst (λ (u : World). Came (record { world = u; rooms = rooms }) g events) (world-append settings w (items_in life) (items_of lives)) came)
-      ∙ ap (λ (r : ℕ). said_by by_fit settings (caller_of r caller) next (items_from (suc base) lives events)) (omega arith)
+      ∙ ap (λ (r : ℕ). said_by by_fit settings (caller_number r caller) next (items_from (suc base) lives events)) (omega arith)
       ∙ ap (λ (u : World). said_by by_fit settings who u (items_from (suc base) lives events)) (sym (same_world settings base w (items_in life)))
       ∙ ap (λ (l : List ℕ). l ++ said_by by_fit settings who v (items_from (suc base) lives events)) (sym (none_said by_fit settings base (base + suc run) caller w (items_in life) (λ e. absurd (omega (arith, e)))))
       ∙ sym (said-append by_fit settings who w mine (items_from (suc base) lives events))
 
   pub told_all : (run : ℕ) (w : World) (lives : List Life) (g : State) (events : List Event) → IsHistory settings w lives g events
-      → told_over settings run caller w lives g events ≡ said_by by_fit settings (caller_of run caller) w (all_items lives events)
+      → told_over settings run caller w lives g events ≡ said_by by_fit settings (caller_number run caller) w (all_items lives events)
   told_all run w lives g events history =
       told_from run 0 w lives g events history.rooms history.lived history.same history.came
-      ∙ ap (λ (r : ℕ). said_by by_fit settings (caller_of r caller) w (all_items lives events)) (zero-add run)
+      ∙ ap (λ (r : ℕ). said_by by_fit settings (caller_number r caller) w (all_items lives events)) (zero-add run)
 
   pub told_verified : LocalAnswers → (run : ℕ) (w : World) (lives : List Life) (g : State) (events : List Event) → IsHistory settings w lives g events
-      → told_over settings run caller w lives g events ≡ said_by by_fit settings (caller_of run caller) w (kept_by by_fit settings (only (caller_of run caller)) w (all_items lives events))
+      → told_over settings run caller w lives g events ≡ said_by by_fit settings (caller_number run caller) w (kept_by by_fit settings (only (caller_number run caller)) w (all_items lives events))
   told_verified local run w lives g events history =
-      let who : ℕ = caller_of run caller in
+      let who : ℕ = caller_number run caller in
       told_all run w lives g events history ∙ sym (local settings (only who) who w (all_items lives events) (eq-eqb who who refl))
 
   module _ (answers : KeptAnswers) (past : List Entry) (w : World) (lives : List Life) (g : State) (events : List Event) (history : IsHistory settings w lives g events) (left : IsLeftBy settings past w) where
@@ -161,10 +161,10 @@ module _ (whole : Whole) (settings : Settings) (caller : ℕ) where
     calls : IsProper settings (items events)
     calls = proper_calls settings v history.rooms g events left.proper.sharing history.same history.came
 
-    pub told_apart : (run : ℕ) → Apart settings (only (caller_of run caller)) past w (all_items lives events)
-        → told_over settings run caller w lives g events ≡ said settings (caller_of run caller) w (kept settings (only (caller_of run caller)) w (all_items lives events))
+    pub told_apart : (run : ℕ) → Apart settings (only (caller_number run caller)) past w (all_items lives events)
+        → told_over settings run caller w lives g events ≡ said settings (caller_number run caller) w (kept settings (only (caller_number run caller)) w (all_items lives events))
     told_apart run apart =
-        let who : ℕ = caller_of run caller in
+        let who : ℕ = caller_number run caller in
         told_all run w lives g events history
         ∙ sym (answers settings (only who) who past w (all_items lives events) (eq-eqb who who refl) (proper_from settings left.proper.sharing 0 w lives events history.lived calls) left apart)
 

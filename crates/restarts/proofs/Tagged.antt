@@ -1,7 +1,6 @@
 -- Callers of different runs are different callers, and their items are told apart by them alone.
-use Rattle.std.proofs.Common.{◌≡◌, ◌≢◌, ◌<◌, ◌≤◌, ℕ, zero, suc, ◌+◌, ◌*◌, List, [], ◌∷◌, ◌++◌, map, Bool, true, false, refl, sym, ap, subst, ◌∙◌, eqb, eq-eqb, arith, if◌then◌else◌, ⊎_elim, ◌⊎◌, inl, inr}
+use Rattle.std.proofs.Common.{◌≡◌, ◌<◌, ℕ, zero, suc, List, [], ◌∷◌, ◌++◌, map, Bool, false, refl, sym, ap, subst, ◌∙◌, arith, if◌then◌else◌}
 use Rattle.std.specs.Prelude.{All, nat_eq}
-use Rattle.std.proofs.lemmas.List.{append_assoc}
 use Rattle.erasure.specs.Code.{AreBytes}
 use Rattle.chk_file.specs.Upload.{Upload}
 use Rattle.chk_file.specs.World.{World}
@@ -14,25 +13,25 @@ use Rattle.gate_core.specs.Settings.{under}
 use Rattle.gate_core.specs.Runs.{after_entry, world_after, told, said_by}
 use Rattle.gate_core.specs.Uploaded.{IsProper, uploads_by, uploads_of}
 use Rattle.restarts.specs.Lives.{Life, items_in}
-use Rattle.restarts.specs.Callers.{caller_of, in_run, items_from}
-use Rattle.restarts.proofs.Runs.{said-append, world-append}
+use Rattle.restarts.specs.Callers.{caller_number, in_run, items_from}
+use Rattle.restarts.proofs.Runs.{said-append}
 
 -- ---- each connection of each run has a number of its own
 
-pub caller_of_one : (r s a b : ℕ) → caller_of r a ≡ caller_of s b → (r ≡ s) × (a ≡ b)
-caller_of_one zero zero a b e = (refl, omega (arith, e))
-caller_of_one zero (suc s) a b e = absurd (omega (arith, e))
-caller_of_one (suc r) zero a b e = absurd (omega (arith, e))
-caller_of_one (suc r) (suc s) a b e =
-    let half : caller_of r a ≡ caller_of s b = omega (arith, e) in
-    let one = caller_of_one r s a b half in
+pub caller_number_one : (r s a b : ℕ) → caller_number r a ≡ caller_number s b → (r ≡ s) × (a ≡ b)
+caller_number_one zero zero a b e = (refl, omega (arith, e))
+caller_number_one zero (suc s) a b e = absurd (omega (arith, e))
+caller_number_one (suc r) zero a b e = absurd (omega (arith, e))
+caller_number_one (suc r) (suc s) a b e =
+    let half : caller_number r a ≡ caller_number s b = omega (arith, e) in
+    let one = caller_number_one r s a b half in
     (ap suc one.0, one.1)
 
-same_test : (r a b : ℕ) → nat_eq (caller_of r a) (caller_of r b) ≡ nat_eq a b
-same_test r a b = grind (arith, caller_of_one r r a b)
+same_test : (r a b : ℕ) → nat_eq (caller_number r a) (caller_number r b) ≡ nat_eq a b
+same_test r a b = grind (arith, caller_number_one r r a b)
 
-other_test : (r s a b : ℕ) → (r ≡ s → ⊥) → nat_eq (caller_of r a) (caller_of s b) ≡ false
-other_test r s a b other = grind (arith, λ (e : caller_of r a ≡ caller_of s b). other (caller_of_one r s a b e).0)
+other_test : (r s a b : ℕ) → (r ≡ s → ⊥) → nat_eq (caller_number r a) (caller_number s b) ≡ false
+other_test r s a b other = grind (arith, λ (e : caller_number r a ≡ caller_number s b). other (caller_number_one r s a b e).0)
 
 -- ---- what stands and what is uploaded don't look at callers
 
@@ -65,36 +64,36 @@ proper_in_run settings r xs proper = record {
 
 -- ---- what is told of them
 
-same_told : (settings : Settings) (look : Look) (r id : ℕ) (x : Entry) → told settings look (caller_of r id) (in_run r x) ≡ told settings look id x
+same_told : (settings : Settings) (look : Look) (r id : ℕ) (x : Entry) → told settings look (caller_number r id) (in_run r x) ≡ told settings look id x
 same_told settings look r id (Asked other secret item) =
     ap (λ (b : Bool). if b then answer (under settings secret) look item else []) (same_test r other id)
 same_told settings look r id (Lost server key) = refl
 same_told settings look r id (Spoiled server key place) = refl
 
-not_told : (settings : Settings) (look : Look) (r s id : ℕ) (x : Entry) → (r ≡ s → ⊥) → told settings look (caller_of s id) (in_run r x) ≡ []
+not_told : (settings : Settings) (look : Look) (r s id : ℕ) (x : Entry) → (r ≡ s → ⊥) → told settings look (caller_number s id) (in_run r x) ≡ []
 not_told settings look r s id (Asked other secret item) apart =
     ap (λ (b : Bool). if b then answer (under settings secret) look item else []) (other_test r s other id apart)
 not_told settings look r s id (Lost server key) apart = refl
 not_told settings look r s id (Spoiled server key place) apart = refl
 
-pub same_said : (look : World → Look) (settings : Settings) (r id : ℕ) (w : World) (xs : List Entry) → said_by look settings (caller_of r id) w (map (in_run r) xs) ≡ said_by look settings id w xs
+pub same_said : (look : World → Look) (settings : Settings) (r id : ℕ) (w : World) (xs : List Entry) → said_by look settings (caller_number r id) w (map (in_run r) xs) ≡ said_by look settings id w xs
 same_said look settings r id w [] = refl
 same_said look settings r id w (x ∷ xs) =
-    ap (λ (t : List ℕ). t ++ said_by look settings (caller_of r id) (after_entry settings (in_run r x) w) (map (in_run r) xs)) (same_told settings (look w) r id x)
-    ∙ ap (λ (v : World). told settings (look w) id x ++ said_by look settings (caller_of r id) v (map (in_run r) xs)) (same_entry settings r x w)
+    ap (λ (t : List ℕ). t ++ said_by look settings (caller_number r id) (after_entry settings (in_run r x) w) (map (in_run r) xs)) (same_told settings (look w) r id x)
+    ∙ ap (λ (v : World). told settings (look w) id x ++ said_by look settings (caller_number r id) v (map (in_run r) xs)) (same_entry settings r x w)
     ∙ ap (λ (t : List ℕ). told settings (look w) id x ++ t) (same_said look settings r id (after_entry settings x w) xs)
 
-pub none_said : (look : World → Look) (settings : Settings) (r s id : ℕ) (w : World) (xs : List Entry) → (r ≡ s → ⊥) → said_by look settings (caller_of s id) w (map (in_run r) xs) ≡ []
+pub none_said : (look : World → Look) (settings : Settings) (r s id : ℕ) (w : World) (xs : List Entry) → (r ≡ s → ⊥) → said_by look settings (caller_number s id) w (map (in_run r) xs) ≡ []
 none_said look settings r s id w [] apart = refl
 none_said look settings r s id w (x ∷ xs) apart =
-    ap (λ (t : List ℕ). t ++ said_by look settings (caller_of s id) (after_entry settings (in_run r x) w) (map (in_run r) xs)) (not_told settings (look w) r s id x apart)
+    ap (λ (t : List ℕ). t ++ said_by look settings (caller_number s id) (after_entry settings (in_run r x) w) (map (in_run r) xs)) (not_told settings (look w) r s id x apart)
     ∙ none_said look settings r s id (after_entry settings (in_run r x) w) xs apart
 
 -- later runs have no item of an earlier one's caller
-pub none_later : (look : World → Look) (settings : Settings) (r s id : ℕ) (w : World) (lives : List Life) (events : List Event) → s < r → said_by look settings (caller_of s id) w (items_from r lives events) ≡ []
+pub none_later : (look : World → Look) (settings : Settings) (r s id : ℕ) (w : World) (lives : List Life) (events : List Event) → s < r → said_by look settings (caller_number s id) w (items_from r lives events) ≡ []
 none_later look settings r s id w [] events later = none_said look settings r s id w (items events) (λ e. absurd (omega (arith, later, e)))
 none_later look settings r s id w (life ∷ lives) events later =
-    said-append look settings (caller_of s id) w (map (in_run r) (items_in life)) (items_from (suc r) lives events)
-    ∙ ap (λ (t : List ℕ). t ++ said_by look settings (caller_of s id) (world_after settings w (map (in_run r) (items_in life))) (items_from (suc r) lives events))
+    said-append look settings (caller_number s id) w (map (in_run r) (items_in life)) (items_from (suc r) lives events)
+    ∙ ap (λ (t : List ℕ). t ++ said_by look settings (caller_number s id) (world_after settings w (map (in_run r) (items_in life))) (items_from (suc r) lives events))
     (none_said look settings r s id w (items_in life) (λ e. absurd (omega (arith, later, e))))
     ∙ none_later look settings (suc r) s id (world_after settings w (map (in_run r) (items_in life))) lives events (omega (arith, later))

@@ -10,13 +10,13 @@ use Rattle.gate_core.specs.Held.{State, waiting}
 use Rattle.restarts.specs.Lives.{Life, items_in, unheard}
 
 -- A number for the connection `id` of the run before which there were `run` others. No two of them have the same.
-abbrev pub caller_of : ℕ → ℕ → ℕ
-caller_of zero id = 2 * id + 1
-caller_of (suc run) id = 2 * caller_of run id
+abbrev pub caller_number : ℕ → ℕ → ℕ
+caller_number zero id = 2 * id + 1
+caller_number (suc run) id = 2 * caller_number run id
 
 -- an item of that run, as its caller's
 abbrev pub in_run : ℕ → Entry → Entry
-in_run run (Asked id secret item) = Asked (caller_of run id) secret item
+in_run run (Asked id secret item) = Asked (caller_number run id) secret item
 in_run run (Lost server key) = Lost server key
 in_run run (Spoiled server key place) = Spoiled server key place
 

@@ -33,7 +33,7 @@ ghost use Rattle.restarts.specs.Mended.{AreCutOff, Mended};
 ghost use Rattle.restarts.specs.Stores.{AreLeft};
 ghost use Rattle.restarts.specs.LeftIn.{AreLeftIn};
 ghost use Rattle.restarts.specs.Lives.{Life, AreLived, IsHistory, Restarted, items_of};
-ghost use Rattle.restarts.specs.Callers.{caller_of, all_items, told_over};
+ghost use Rattle.restarts.specs.Callers.{caller_number, all_items, told_over};
 
 use share_shelf::Shelf;
 
@@ -181,7 +181,7 @@ pub fn histories_go_on()
 pub fn callers_are_told_over_restarts()
     // connections of two runs are two callers, whatever their ids
     ensures callers { (run id other_run other_id : ℕ) →
-        caller_of run id ≡ caller_of other_run other_id → (run ≡ other_run) × (id ≡ other_id) }
+        caller_number run id ≡ caller_number other_run other_id → (run ≡ other_run) × (id ≡ other_id) }
     // all runs together left what one run leaves, and so did each of them
     ensures left { (settings : Settings) (past : List Entry) (w : World) (lives : List Life) →
         IsLeftBy settings past w → AreLived settings w lives →
@@ -190,21 +190,21 @@ pub fn callers_are_told_over_restarts()
     ensures verified_whole { (settings : Settings) (w : World) (lives : List Life) (g : State)
         (events : List Event) (run id : ℕ) → IsHistory settings w lives g events →
         told_over settings run id w lives g events
-        ≡ said_by by_fit settings (caller_of run id) w (all_items lives events) }
+        ≡ said_by by_fit settings (caller_number run id) w (all_items lives events) }
     // with the items of others dropped, save uploads under a storage index that the caller met
     ensures verified { (settings : Settings) (w : World) (lives : List Life) (g : State)
         (events : List Event) (run id : ℕ) → IsHistory settings w lives g events →
         told_over settings run id w lives g events
-        ≡ said_by by_fit settings (caller_of run id) w
-        (kept_by by_fit settings (only (caller_of run id)) w (all_items lives events)) }
+        ≡ said_by by_fit settings (caller_number run id) w
+        (kept_by by_fit settings (only (caller_number run id)) w (all_items lives events)) }
     // by the written answers, where no two of this caller's strings collide
     ensures apart { (settings : Settings) (past : List Entry) (w : World) (lives : List Life)
         (g : State) (events : List Event) (run id : ℕ) → IsHistory settings w lives g events →
         IsLeftBy settings past w →
-        Apart settings (only (caller_of run id)) past w (all_items lives events) →
+        Apart settings (only (caller_number run id)) past w (all_items lives events) →
         told_over settings run id w lives g events
-        ≡ said settings (caller_of run id) w
-        (kept settings (only (caller_of run id)) w (all_items lives events)) }
+        ≡ said settings (caller_number run id) w
+        (kept settings (only (caller_number run id)) w (all_items lives events)) }
     // the last run alone: the runs before it are a past like any other
     ensures last { (settings : Settings) (past : List Entry) (w : World) (lives : List Life)
         (g : State) (events : List Event) (caller : ℕ) → IsHistory settings w lives g events →
