@@ -9,11 +9,11 @@ ghost use Rattle.gate_tasks.specs.Arguments.{Asks, IsRefused};
 ghost use Rattle.gate_tasks.specs.Serving.{set_up_with};
 ghost use Rattle.gate_tasks.specs.Status.{status_of};
 
+use gate_core::Gateway;
 use gate_tasks::laws::usage_laws;
 use gate_tasks::{
     ProgramFault, Service, Task, UsageFault, exit_status, read_task, run_script, serve_on, set_up,
 };
-use gate_core::Gateway;
 use octets::Bytes;
 use share_store::MemStore;
 use std::alloc::Global;
