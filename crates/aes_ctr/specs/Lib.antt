@@ -1,3 +1,4 @@
+-- Read Cipher and what stands above it, then Keystream and Crypt. Planes, Circuit and Exchanges are how the code computes the same.
 pub mod Field
 pub mod SBox
 pub mod State

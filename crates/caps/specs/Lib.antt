@@ -1,3 +1,4 @@
+-- Read in this order: what a cap holds, its text, and then how a text is read.
 pub mod Fields
 pub mod Kinds
 pub mod CapTexts

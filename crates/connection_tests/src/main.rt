@@ -8,6 +8,9 @@ mod flows;
 /// Many connections over sockets.
 #[cfg(test)]
 mod polling;
+/// Whose turn it is, where there is memory.
+#[cfg(test)]
+mod turns;
 
 /// Nothing: the tests are all that this crate has.
 fn main() {}

@@ -1,6 +1,7 @@
 //! Connections over sockets of the loopback, within limits of time and number.
 
 use gate_core::Gateway;
+use gate_flow::Lobby;
 use gate_poll::*;
 use http_edge::{Head, Status};
 use log::Log;
@@ -18,6 +19,11 @@ fn gateway(alloc: Global) -> Result<Gateway<MemStore>, Fail> {
     let mut stores = Vec::new(alloc);
     stores.push(MemStore::new(alloc, 8_000_000))?;
     Ok(Gateway::new(alloc, 1, 1, stores, b"")?)
+}
+
+/// The same, for a loop to serve.
+fn lobby(alloc: Global) -> Result<Lobby<MemStore>, Fail> {
+    Ok(Lobby::new(gateway(alloc)?))
 }
 
 /// Listens on a port of the loopback that the system chooses.
@@ -56,9 +62,9 @@ fn counts_on<R: Net<Stream = TcpStream> + Clock + CpuClock + AllocGlobal + Log>(
     rt: &R,
     listener: TcpListener,
     limits: &Limits,
-    gateway: &mut Gateway<MemStore>,
+    lobby: &mut Lobby<MemStore>,
 ) -> Result<Counts, Fail> {
-    match serve_on(rt, listener, None, limits, gateway, &mut NoControl) {
+    match serve_on(rt, listener, None, limits, lobby, &mut NoControl) {
         Ok(counts) => Ok(counts),
         Err(_) => Err(Fail::from("serving ended")),
     }
@@ -68,7 +74,7 @@ fn counts_on<R: Net<Stream = TcpStream> + Clock + CpuClock + AllocGlobal + Log>(
 fn serves<R: Net<Stream = TcpStream> + Clock + CpuClock + AllocGlobal + Log + Abort>(
     rt: &R,
     limits: &Limits,
-    gateway: &mut Gateway<MemStore>,
+    lobby: &mut Lobby<MemStore>,
     rows: &[Row],
 ) -> Result<Counts, Fail> {
     let listener = listen(rt)?;
@@ -79,7 +85,7 @@ fn serves<R: Net<Stream = TcpStream> + Clock + CpuClock + AllocGlobal + Log + Ab
     }
     let mut limits = *limits;
     limits.served = Some(rows.len() as u64);
-    let counts = counts_on(rt, listener, &limits, gateway)?;
+    let counts = counts_on(rt, listener, &limits, lobby)?;
     for (client, row) in clients.iter_mut().zip(rows) {
         assert!(rt; all_of(rt.alloc(), client)?.as_slice() == row.given);
     }
@@ -124,7 +130,7 @@ fn connections_are_answered(rt: HostRuntime) -> Result<(), Fail> {
         given: b"",
     };
     let rows = [whole, closing, nothing];
-    let counts = serves(&rt, &limits, &mut gateway(rt.alloc())?, &rows)?;
+    let counts = serves(&rt, &limits, &mut lobby(rt.alloc())?, &rows)?;
     assert_eq!(rt; counts.open, 0);
     assert_eq!(rt; counts.opened, 3);
     assert_eq!(rt; counts.over, 3);
@@ -153,7 +159,7 @@ fn connections_that_take_too_long_are_cut(rt: HostRuntime) -> Result<(), Fail> {
         given: FOO,
     };
     let rows = [silent, slow_head, idle];
-    let counts = serves(&rt, &limits, &mut gateway(rt.alloc())?, &rows)?;
+    let counts = serves(&rt, &limits, &mut lobby(rt.alloc())?, &rows)?;
     assert_eq!(rt; counts.opened, 3);
     assert_eq!(rt; counts.late, 3);
     assert_eq!(rt; counts.over, 0);
@@ -195,22 +201,23 @@ fn eager(
 
 #[test]
 fn a_reader_that_takes_nothing_is_cut(rt: HostRuntime) -> Result<(), Fail> {
-    let mut many = gateway(rt.alloc())?;
-    assert!(rt; is_cut(&rt, &mut many)?);
+    assert!(rt; is_cut(&rt, gateway(rt.alloc())?)?);
     Ok(())
 }
 
 /// Whether a client is cut that asks for a large file eight times, and takes nothing.
 fn is_cut<R: Net<Stream = TcpStream> + Clock + CpuClock + AllocGlobal + Log>(
     rt: &R,
-    many: &mut Gateway<MemStore>,
+    many: Gateway<MemStore>,
 ) -> Result<bool, Fail> {
-    let request = large_request(rt.alloc(), many)?;
+    let mut many = many;
+    let request = large_request(rt.alloc(), &mut many)?;
+    let mut lobby = Lobby::new(many);
     let listener = listen(rt)?;
     let stream = eager(rt, listener.local_addr()?, &request)?;
     let mut limits = Limits::new(10, Duration::from_millis(300));
     limits.served = Some(1);
-    let counts = counts_on(rt, listener, &limits, many)?;
+    let counts = counts_on(rt, listener, &limits, &mut lobby)?;
     drop(stream);
     Ok(counts.late == 1 && counts.bytes_out > 0 && counts.bytes_out < 8 * 4_194_304)
 }
@@ -219,14 +226,14 @@ fn is_cut<R: Net<Stream = TcpStream> + Clock + CpuClock + AllocGlobal + Log>(
 fn a_socket_whose_id_was_used_is_refused(rt: HostRuntime) -> Result<(), Fail> {
     let mut many = gateway(rt.alloc())?;
     many.open(1, None)?;
-    assert!(rt; is_first_refused(&rt, &mut many)?);
+    assert!(rt; is_first_refused(&rt, &mut Lobby::new(many))?);
     Ok(())
 }
 
 /// Whether the first of two clients is refused, and the second served.
 fn is_first_refused<R: Net<Stream = TcpStream> + Clock + CpuClock + AllocGlobal + Log>(
     rt: &R,
-    many: &mut Gateway<MemStore>,
+    many: &mut Lobby<MemStore>,
 ) -> Result<bool, Fail> {
     let listener = listen(rt)?;
     let address = listener.local_addr()?;
@@ -270,8 +277,7 @@ const STOPPED: &[u8] =
 
 #[test]
 fn a_control_request_stops_the_loop(rt: HostRuntime) -> Result<(), Fail> {
-    let mut many = gateway(rt.alloc())?;
-    assert!(rt; is_stopped(&rt, &mut many)?);
+    assert!(rt; is_stopped(&rt, &mut lobby(rt.alloc())?)?);
     Ok(())
 }
 
@@ -279,7 +285,7 @@ fn a_control_request_stops_the_loop(rt: HostRuntime) -> Result<(), Fail> {
 /// client is let go.
 fn is_stopped<R: Net<Stream = TcpStream> + Clock + CpuClock + AllocGlobal + Log>(
     rt: &R,
-    many: &mut Gateway<MemStore>,
+    many: &mut Lobby<MemStore>,
 ) -> Result<bool, Fail> {
     let listener = listen(rt)?;
     let address = listener.local_addr()?;
@@ -299,7 +305,7 @@ fn are_stopped<R: Net<Stream = TcpStream> + Clock + CpuClock + AllocGlobal + Log
     rt: &R,
     listener: TcpListener,
     control: TcpListener,
-    many: &mut Gateway<MemStore>,
+    many: &mut Lobby<MemStore>,
 ) -> Result<bool, Fail> {
     let limits = Limits::new(10, Duration::from_secs(20));
     let mut answers = Stops { asked: 0 };
@@ -307,6 +313,53 @@ fn are_stopped<R: Net<Stream = TcpStream> + Clock + CpuClock + AllocGlobal + Log
         Ok(counts) => Ok(answers.asked == 1 && counts.opened == 2 && counts.stopped == 2),
         Err(_) => Err(Fail::from("serving ended")),
     }
+}
+
+/// A request for a head alone, and what it is answered.
+const HEAD: &[u8] = b"HEAD /stop HTTP/1.1\r\nHost: g\r\n\r\n";
+
+const HEAD_ALONE: &[u8] =
+    b"HTTP/1.1 200 OK\r\nContent-Type: text/plain; charset=utf-8\r\nContent-Length: 5\r\nConnection: close\r\n\r\n";
+
+#[test]
+fn a_control_request_for_a_head_gets_no_body(rt: HostRuntime) -> Result<(), Fail> {
+    let answer = answer_past(&rt, 0, HEAD, &mut lobby(rt.alloc())?)?;
+    assert!(rt; answer.as_slice() == HEAD_ALONE);
+    Ok(())
+}
+
+#[test]
+fn silent_control_connections_delay_nobody(rt: HostRuntime) -> Result<(), Fail> {
+    let began = Instant::now(&rt)?;
+    let answer = answer_past(&rt, 100, STOP, &mut lobby(rt.alloc())?)?;
+    assert!(rt; answer.as_slice() == STOPPED);
+    assert!(rt; Instant::now(&rt)?.duration_since(began) < Duration::from_secs(5));
+    Ok(())
+}
+
+/// What a control request is answered behind so many connections that send nothing. It stops the loop, which waits for none
+/// of them.
+fn answer_past<R: Net<Stream = TcpStream> + Clock + CpuClock + AllocGlobal + Log>(
+    rt: &R,
+    count: u32,
+    request: &[u8],
+    many: &mut Lobby<MemStore>,
+) -> Result<Vec<u8>, Fail> {
+    let listener = listen(rt)?;
+    let control = listen(rt)?;
+    let address = control.local_addr()?;
+    let mut silent = Vec::new(rt.alloc());
+    for _ in 0..count {
+        silent.push(client(rt, address, b"", false)?)?;
+    }
+    let mut caller = client(rt, address, request, true)?;
+    let limits = Limits::new(10, Duration::from_secs(20));
+    let mut answers = Stops { asked: 0 };
+    if serve_on(rt, listener, Some(control), &limits, many, &mut answers).is_err() {
+        return Err(Fail::from("serving ended"));
+    }
+    drop(silent);
+    all_of(rt.alloc(), &mut caller)
 }
 
 /// So many milliseconds after another time.

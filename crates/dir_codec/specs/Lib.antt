@@ -1,3 +1,4 @@
+-- Read DirectoryText first, over Names, Metadata and Entries; then Reading and Faults, and Children with MadeOf.
 pub mod Names
 pub mod Metadata
 pub mod Entries

@@ -1,3 +1,4 @@
+-- Read Code first, over Polynomial; Blocks is the same as a function. Tables is for private clauses.
 pub mod Polynomial
 pub mod Code
 pub mod Tables

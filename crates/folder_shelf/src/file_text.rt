@@ -1,5 +1,5 @@
 //! What stands in a file: bytes, and their seal behind them.
-ghost use Rattle.std.specs.Prelude.{◌≡◌, ◌≢◌, ◌≤◌, ◌↔◌, ℕ, List, length, take, drop, map, IsTrue, IfSome, IfNone};
+ghost use Rattle.std.specs.Prelude.{◌≡◌, ◌≢◌, ◌<◌, ◌≤◌, ◌↔◌, ℕ, List, length, take, drop, map, IsTrue, IfSome, IfNone, IsSomeAnd};
 ghost use Rattle.std.specs.List.{concat};
 ghost use Rattle.sha2.specs.Sha256.{sha256};
 ghost use Rattle.folder_shelf.specs.Sealed.{four_parts, seal, sealed};
@@ -8,7 +8,7 @@ use sha2::{Digest, Sha256};
 use tag_hash::tagged_four;
 
 /// How many bytes a seal has.
-const SEAL: usize = 8;
+pub(crate) const SEAL: usize = 8;
 
 /// What the parts of bytes are hashed under.
 const SEAL_TAG: &[u8; 20] = b"wozhinnam shelf seal";
@@ -80,4 +80,19 @@ pub fn unsealed(text: Vec<u8>) -> Option<Vec<u8>>
     }
     text.truncate(len);
     Some(text)
+}
+
+/// The share that stands in a file whose bytes these are. `None` where there is no such file, or its text is of none: no
+/// share has no bytes.
+pub fn share_in(text: Option<Vec<u8>>) -> Option<Vec<u8>>
+    ensures some { IfSome result (λ bytes. 0 < length bytes.items) }
+    ensures whole { IfSome result (λ bytes. IsSomeAnd text (λ t. t.items ≡ sealed bytes.items)) }
+    ensures rotten { IfNone result ((bytes : List ℕ) → 0 < length bytes →
+        IsSomeAnd text (λ t. t.items ≡ sealed bytes) → ⊥) }
+{
+    let bytes = unsealed(text?)?;
+    if bytes.as_slice().is_empty() {
+        return None;
+    }
+    Some(bytes)
 }

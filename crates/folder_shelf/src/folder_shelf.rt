@@ -1,9 +1,16 @@
 //! The shelf.
 ghost use Rattle.std.specs.FinMap.{empty};
-ghost use Rattle.std.specs.Prelude.{◌≡◌, ◌≤◌, ◌<◌, ◌+◌, ◌-◌, ◌^◌, ◌==◌, ℕ, false, if◌then◌else◌};
+ghost use Rattle.std.specs.Prelude.{◌≡◌, ◌≤◌, ◌<◌, ◌+◌, ◌-◌, ◌^◌, ◌==◌, ◌↔◌, ℕ, Some, false, length, string_bytes, IfOk, IfSome, OnOk, IsErrOf, if◌then◌else◌};
+ghost use Rattle.std.specs.Rc.{rc_slice_items};
+ghost use Rattle.share_shelf.specs.Left.{IsQuiet};
+ghost use Rattle.folder_shelf.specs.Paths.{share_path};
+ghost use Rattle.folder_shelf.specs.Sealed.{sealed};
+ghost use Rattle.folder_shelf.specs.Steps.{with_file_step};
+ghost use Rattle.folder_shelf.specs.Steps as step;
 
-use crate::file_text::{seal_of, unsealed};
-use crate::files::{Disk, Paths};
+use crate::file_text::{SEAL, seal_of, share_in};
+use crate::files::{Disk, FileDisk, LONGEST_FILE, Paths};
+use crate::listing::list;
 use crate::names::{folder_of, name_of};
 use crate::{FolderFault, Settings};
 use share_shelf::{Shelf, ShelfFault};
@@ -15,17 +22,21 @@ use std::rt::Files;
 /// How many rotten files are noted: a server that is read for years asks for one that it can't use again and again.
 const MOST_NOTED: usize = 4_096;
 
-/// A shelf in a folder of files. It isn't honest, since no contract says what files give.
+/// A shelf in a folder of a file system.
+pub type FileShelf<R> = FolderShelf<FileDisk<R>>;
+
+/// A shelf in a folder of files. What has the name of a share's file and is none of at most 67,108,872 bytes, or is not what
+/// was written, is rotten: it is left alone until a share is put in its place. It isn't honest, since no contract says what files give.
 #[derive(Drop)]
-pub struct FolderShelf<R: Files + AllocGlobal + Clone + Drop> {
-    disk: Disk<R>,
+pub struct FolderShelf<D: Disk + Drop> {
+    disk: D,
     top: String,
     failures: u64,
     rotten: Vec<String>,
     strangers: Vec<String>,
 }
 
-impl<R: Files + AllocGlobal + Clone + Drop> FolderShelf<R> {
+impl<R: Files + AllocGlobal + Clone + Drop> FolderShelf<FileDisk<R>> {
     /// The shelf in this folder, which is made where it isn't there and the one above it is. A folder with nothing in
     /// it gets these settings; one with others is refused before anything else of it is read. Files that were not whole
     /// are taken away. The caller holds the folder's lock. Each [`FolderFault`] says when it comes.
@@ -37,18 +48,42 @@ impl<R: Files + AllocGlobal + Clone + Drop> FolderShelf<R> {
         folder: &str,
         settings: &Settings,
         synced: bool,
-    ) -> Result<FolderShelf<R>, FolderFault> {
-        let alloc = rt.alloc();
-        let top = String::from_str(alloc, folder)?;
-        let disk = Disk { rt, synced };
+    ) -> Result<FileShelf<R>, FolderFault> {
+        let top = String::from_str(rt.alloc(), folder)?;
+        let disk = FileDisk { rt, synced };
         disk.prepare(folder, settings)?;
-        Ok(FolderShelf {
+        Ok(FolderShelf::over(disk, top))
+    }
+
+    /// The shelf in this folder, which has these settings and is only to be read: nothing is written, and what isn't whole
+    /// stays where it is.
+    pub fn open_to_read(
+        rt: R,
+        folder: &str,
+        settings: &Settings,
+    ) -> Result<FileShelf<R>, FolderFault> {
+        let top = String::from_str(rt.alloc(), folder)?;
+        let disk = FileDisk { rt, synced: true };
+        disk.check(folder, settings)?;
+        Ok(FolderShelf::over(disk, top))
+    }
+}
+
+impl<D: Disk + Drop> FolderShelf<D> {
+    /// The shelf in this folder of a file system, which is as it is to be. Nothing of it is read.
+    pub fn over(disk: D, top: String) -> FolderShelf<D>
+        ensures disk { result.disk ≡ disk }
+        ensures top { result.top ≡ top }
+        ensures failures { result.failures ≡ 0 }
+    {
+        let alloc = disk.memory();
+        FolderShelf {
             disk,
             top,
             failures: 0,
             rotten: Vec::new(alloc),
             strangers: Vec::new(alloc),
-        })
+        }
     }
 
     /// The paths of the files that were read so far and are not what was written: cut off, changed, or none. They were
@@ -59,7 +94,9 @@ impl<R: Files + AllocGlobal + Clone + Drop> FolderShelf<R> {
 
     /// Notes the path of a rotten file, once.
     fn note_rotten(&mut self, path: String) -> Result<(), AllocError>
-        ensures { self.new.failures ≡ self.old.failures }
+        ensures failures { self.new.failures ≡ self.old.failures }
+        ensures disk { self.new.disk ≡ self.old.disk }
+        ensures top { self.new.top ≡ self.old.top }
     {
         if self.rotten.len() >= MOST_NOTED {
             return Ok(());
@@ -84,6 +121,8 @@ impl<R: Files + AllocGlobal + Clone + Drop> FolderShelf<R> {
             ≡ (if self.old.failures == 2 ^ 64 - 1 then ShelfFault.NoMemory else ShelfFault.Failed) }
         ensures failures { self.new.failures ≡ (if self.old.failures == 2 ^ 64 - 1 then self.old.failures
             else self.old.failures + 1) }
+        ensures disk { self.new.disk ≡ self.old.disk }
+        ensures top { self.new.top ≡ self.old.top }
     {
         if self.failures == u64::MAX {
             return ShelfFault::NoMemory;
@@ -93,11 +132,15 @@ impl<R: Files + AllocGlobal + Clone + Drop> FolderShelf<R> {
     }
 
     /// The paths of a share's file.
-    fn paths_of(&self, index: &[u8; 16], number: u16) -> Result<Paths, AllocError> {
-        let alloc = self.disk.rt.alloc();
+    fn paths_of(&self, index: &[u8; 16], number: u16) -> Result<Paths, AllocError>
+        ensures { IfOk result (λ paths. string_bytes paths.name
+            ≡ share_path (string_bytes self.now.top) index.now number) }
+    {
+        let alloc = self.disk.memory();
         let file = name_of(alloc, index, number)?;
         let (top, folder) = (&self.top, folder_of(index));
         Ok(Paths {
+            beginnings: format!(in alloc; "{top}/new")?,
             unfinished: format!(in alloc; "{top}/new/{file}")?,
             folder: format!(in alloc; "{top}/{folder}")?,
             name: format!(in alloc; "{top}/{folder}/{file}")?,
@@ -105,7 +148,7 @@ impl<R: Files + AllocGlobal + Clone + Drop> FolderShelf<R> {
     }
 }
 
-impl<R: Files + AllocGlobal + Clone + Drop> Shelf for FolderShelf<R> {
+impl<D: Disk + Drop> Shelf for FolderShelf<D> {
     ghost honest = { λ shelf. false };
 
     ghost moment = { λ shelf. 0 };
@@ -117,7 +160,7 @@ impl<R: Files + AllocGlobal + Clone + Drop> Shelf for FolderShelf<R> {
     ghost failures = { λ shelf. shelf.failures };
 
     fn list(&mut self, alloc: Global) -> Result<Vec<([u8; 16], u16)>, ShelfFault> {
-        match self.disk.list(self.top.as_str()) {
+        match list(&mut self.disk, self.top.as_str()) {
             Ok(listed) => {
                 self.strangers = listed.strangers;
                 Ok(listed.shares)
@@ -127,22 +170,33 @@ impl<R: Files + AllocGlobal + Clone + Drop> Shelf for FolderShelf<R> {
         }
     }
 
-    fn read(&mut self, index: [u8; 16], number: u16) -> Result<Option<RcSlice<u8>>, ShelfFault> {
+    /// The bytes of the file with their seal taken away, where it has any and is what was written.
+    fn read(&mut self, index: [u8; 16], number: u16) -> Result<Option<RcSlice<u8>>, ShelfFault>
+        ensures quiet { IsQuiet ⟦<FolderShelf<D> as Shelf>⟧.moment
+            ⟦<FolderShelf<D> as Shelf>⟧.left_since self.old self.new }
+        ensures rises { self.old.failures ≤ self.new.failures }
+        ensures failed { IsErrOf result ShelfFault.Failed ↔ (self.old.failures < self.new.failures) }
+        ensures some { IfOk result (λ share. IfSome share (λ bytes.
+            0 < length (rc_slice_items bytes))) }
+        ensures given { IfOk result (λ share. IfSome share (λ bytes.
+            D.steps self.new.disk ≡ with_file_step (D.steps self.old.disk)
+            (step.read (share_path (string_bytes self.old.top) index number)
+            (Some (sealed (rc_slice_items bytes)))))) }
+        ensures top { self.new.top ≡ self.old.top }
+    {
         let paths = self.paths_of(&index, number)?;
-        match self.disk.read_whole(paths.name.as_str()) {
-            Ok(text) => {
-                if let Some(bytes) = unsealed(text) {
-                    if !bytes.is_empty() {
-                        return Ok(Some(RcSlice::from_vec(bytes)?));
-                    }
+        match self.disk.read(paths.name.as_str()) {
+            Ok(text) => match share_in(text) {
+                Some(bytes) => Ok(Some(RcSlice::from_vec(bytes)?)),
+                None => {
+                    self.note_rotten(paths.name)?;
+                    Ok(None)
                 }
-                self.note_rotten(paths.name)?;
-                Ok(None)
-            }
+            },
             Err(error) => match error.kind() {
                 ErrorKind::NotFound => Ok(None),
                 ErrorKind::OutOfMemory => Err(ShelfFault::NoMemory),
-                ErrorKind::IsADirectory => {
+                ErrorKind::IsADirectory | ErrorKind::PermissionDenied => {
                     self.note_rotten(paths.name)?;
                     Ok(None)
                 }
@@ -151,16 +205,36 @@ impl<R: Files + AllocGlobal + Clone + Drop> Shelf for FolderShelf<R> {
         }
     }
 
-    fn put(&mut self, index: [u8; 16], number: u16, bytes: RcSlice<u8>) -> Result<(), ShelfFault> {
+    /// The bytes are written with their seal behind them, under the name of the share.
+    #[tactic(auto, unfolding(crate::specs::Sealed::sealed))]
+    fn put(&mut self, index: [u8; 16], number: u16, bytes: RcSlice<u8>) -> Result<(), ShelfFault>
+        requires { 0 < length (rc_slice_items bytes) }
+        ensures rises { self.old.failures ≤ self.new.failures }
+        ensures failed { IsErrOf result ShelfFault.Failed ↔ (self.old.failures < self.new.failures) }
+        ensures written { OnOk result (D.steps self.new.disk ≡ with_file_step (D.steps self.old.disk)
+            (step.wrote (share_path (string_bytes self.old.top) index number)
+            (sealed (rc_slice_items bytes)))) }
+        ensures top { self.new.top ≡ self.old.top }
+    {
+        if bytes.len() > LONGEST_FILE - SEAL {
+            return Err(self.fail());
+        }
         let paths = self.paths_of(&index, number)?;
         let seal = seal_of(bytes.as_slice());
-        match self.disk.write_whole(&paths, bytes.as_slice(), &seal) {
+        match self.disk.write(&paths, bytes.as_slice(), &seal) {
             Ok(()) => Ok(()),
             Err(_) => Err(self.fail()),
         }
     }
 
-    fn remove(&mut self, index: [u8; 16], number: u16) -> Result<(), ShelfFault> {
+    /// The file of the share is taken away.
+    fn remove(&mut self, index: [u8; 16], number: u16) -> Result<(), ShelfFault>
+        ensures rises { self.old.failures ≤ self.new.failures }
+        ensures failed { IsErrOf result ShelfFault.Failed ↔ (self.old.failures < self.new.failures) }
+        ensures removed { OnOk result (D.steps self.new.disk ≡ with_file_step (D.steps self.old.disk)
+            (step.removed (share_path (string_bytes self.old.top) index number))) }
+        ensures top { self.new.top ≡ self.old.top }
+    {
         let paths = self.paths_of(&index, number)?;
         match self.disk.remove(&paths) {
             Ok(()) => Ok(()),

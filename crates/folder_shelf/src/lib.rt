@@ -30,9 +30,10 @@ mod folder_shelf;
 pub mod laws;
 
 pub use fault::FolderFault;
-pub use file_text::{seal_of, unsealed};
-pub use folder_shelf::FolderShelf;
+pub use file_text::{seal_of, share_in, unsealed};
+pub use files::{Disk, FileDisk, LONGEST_FILE, Paths, read_file};
+pub use folder_shelf::{FileShelf, FolderShelf};
 pub use names::{name_of, read_name};
 pub use opening::FolderLock;
 pub use settings::Settings;
-pub use settings_file::{check_settings, read_settings, settings_text};
+pub use settings_file::{TEXT as SETTINGS_TEXT, check_settings, read_settings, settings_text};

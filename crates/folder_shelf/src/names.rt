@@ -2,6 +2,7 @@
 ghost use Rattle.std.specs.Prelude.{◌≡◌, ◌<◌, ◌/◌, ℕ, List, length, string_bytes, Some, All, IfOk, IfSome};
 ghost use Rattle.base32_text.specs.Base32.{spelling};
 ghost use Rattle.folder_shelf.specs.Names.{file_name, IsPlace};
+ghost use Rattle.folder_shelf.specs.Paths.{folder_number};
 
 use base32_text::laws::{reading_is_decided, spelling_spells};
 use base32_text::{B32Fault, decode, push_encoded};
@@ -11,7 +12,9 @@ use std::alloc::{AllocError, Global};
 pub(crate) const FOLDERS: u8 = 16;
 
 /// The folder of a share's file: the first four bits of its storage index.
-pub(crate) fn folder_of(index: &[u8; 16]) -> u8 {
+pub(crate) fn folder_of(index: &[u8; 16]) -> u8
+    ensures { result ≡ folder_number index.now }
+{
     index[0] / FOLDERS
 }
 

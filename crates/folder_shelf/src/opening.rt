@@ -1,17 +1,18 @@
 //! How a folder is opened.
-use crate::files::{Disk, Paths};
+use crate::files::{FileDisk, Paths, read_file};
 use crate::names::FOLDERS;
-use crate::settings_file::{check_settings, settings_text};
+use crate::settings_file::{TEXT, check_settings, settings_text};
 use crate::{FolderFault, Settings};
 use std::fs;
 use std::fs::{File, OpenOptions};
 use std::io::ErrorKind;
 use std::rt::Files;
 
-/// The lock of a folder, held until it is dropped, or until the process ends in whatever way.
+/// The lock of a folder, held until it is dropped, or until the process ends in whatever way. Where the file system takes
+/// no writes there is none: nobody writes there.
 #[derive(Drop)]
 pub struct FolderLock {
-    file: File,
+    file: Option<File>,
 }
 
 impl FolderLock {
@@ -21,18 +22,31 @@ impl FolderLock {
         rt: &R,
         folder: &str,
     ) -> Result<FolderLock, FolderFault> {
-        let disk = Disk {
+        let disk = FileDisk {
             rt: rt.clone()?,
             synced: true,
         };
         disk.make_top(folder)?;
         let path = format!(in rt.alloc(); "{folder}/lock")?;
-        let file = OpenOptions::new()
+        if let Ok(found) = fs::symlink_metadata(rt, path.as_str()) {
+            // a pipe would be waited for
+            if !found.is_file() {
+                return Err(FolderFault::Failed);
+            }
+        }
+        let file = match OpenOptions::new()
             .write(true)
             .create(true)
-            .open(rt, path.as_str())?;
+            .open(rt, path.as_str())
+        {
+            Ok(file) => file,
+            Err(error) if error.kind() == ErrorKind::ReadOnlyFilesystem => {
+                return Ok(FolderLock { file: None });
+            }
+            Err(error) => return Err(FolderFault::from(error)),
+        };
         match file.try_lock() {
-            Ok(()) => Ok(FolderLock { file }),
+            Ok(()) => Ok(FolderLock { file: Some(file) }),
             Err(fs::TryLockError::WouldBlock) => Err(FolderFault::InUse),
             Err(fs::TryLockError::Error(_)) => Err(FolderFault::Failed),
         }
@@ -48,7 +62,7 @@ fn above(folder: &str) -> &str {
     }
 }
 
-impl<R: Files + AllocGlobal + Clone + Drop> Disk<R> {
+impl<R: Files + AllocGlobal + Clone + Drop> FileDisk<R> {
     /// Makes a folder where there is none, and syncs its name.
     fn make_top(&self, top: &str) -> Result<(), FolderFault> {
         if self.make_folder(top)? {
@@ -76,24 +90,37 @@ impl<R: Files + AllocGlobal + Clone + Drop> Disk<R> {
         Ok(())
     }
 
+    /// Checks the settings of a folder. `NoSettings` where it has none.
+    pub(crate) fn check(&self, top: &str, settings: &Settings) -> Result<(), FolderFault> {
+        let path = format!(in self.rt.alloc(); "{top}/grid")?;
+        match read_file(&self.rt, path.as_str(), TEXT) {
+            Ok(Some(text)) => check_settings(self.rt.alloc(), &text, settings),
+            Ok(None) => Err(FolderFault::SettingsRotten),
+            Err(error) if error.kind() == ErrorKind::NotFound => Err(FolderFault::NoSettings),
+            Err(error) => Err(FolderFault::from(error)),
+        }
+    }
+
     /// Checks the settings of a folder, and writes them where the folder is new. They are synced, whatever else is.
     fn own(&self, top: &str, unfinished: &str, settings: &Settings) -> Result<(), FolderFault> {
         let alloc = self.rt.alloc();
         let path = format!(in alloc; "{top}/grid")?;
-        match self.read_whole(path.as_str()) {
-            Ok(text) => check_settings(alloc, &text, settings),
+        match read_file(&self.rt, path.as_str(), TEXT) {
+            Ok(Some(text)) => check_settings(alloc, &text, settings),
+            Ok(None) => Err(FolderFault::SettingsRotten),
             Err(error) if error.kind() == ErrorKind::NotFound => {
                 if !self.is_new(top)? {
                     return Err(FolderFault::NoSettings);
                 }
                 self.make_folder(unfinished)?;
                 let paths = Paths {
+                    beginnings: String::from_str(alloc, unfinished)?,
                     unfinished: format!(in alloc; "{unfinished}/grid")?,
                     folder: String::from_str(alloc, top)?,
                     name: path,
                 };
                 let text = settings_text(alloc, settings)?;
-                let disk = Disk {
+                let disk = FileDisk {
                     rt: self.rt.clone()?,
                     synced: true,
                 };
@@ -106,7 +133,7 @@ impl<R: Files + AllocGlobal + Clone + Drop> Disk<R> {
 
     /// Whether nothing stands in a folder but what is there before its settings are.
     fn is_new(&self, top: &str) -> Result<bool, FolderFault> {
-        let names = self.names_in(top)?;
+        let names = self.names_of(top)?;
         Ok(
             names
                 .iter()
@@ -119,8 +146,8 @@ impl<R: Files + AllocGlobal + Clone + Drop> Disk<R> {
     fn clear(&self, unfinished: &str) -> Result<(), FolderFault> {
         let alloc = self.rt.alloc();
         let probe = format!(in alloc; "{unfinished}/probe")?;
-        let _probe = File::create(&self.rt, probe.as_str())?;
-        for name in &self.names_in(unfinished)? {
+        let _probe = self.begin(unfinished, probe.as_str())?;
+        for name in &self.names_of(unfinished)? {
             let path = format!(in alloc; "{unfinished}/{name}")?;
             if !fs::symlink_metadata(&self.rt, path.as_str())?.is_dir() {
                 fs::remove_file(&self.rt, path.as_str())?;

@@ -12,7 +12,7 @@ use std::alloc::{AllocError, Global};
 const FORMAT: &[u8; 16] = b"wozhinnam shelf2";
 
 /// How many bytes the text of a settings file has.
-const TEXT: usize = 64;
+pub const TEXT: usize = 64;
 
 /// The text of a settings file, 64 bytes. `Err` only where memory is refused.
 pub fn settings_text(alloc: Global, settings: &Settings) -> Result<Vec<u8>, AllocError>

@@ -1,6 +1,6 @@
 //! Calls that were refused memory, made again: each kind of call of a gateway that takes memory, and a download of the
 //! file below it. A call that is refused memory is made once more and has to give what it would have given; only a piece
-//! that is refused memory cuts its connection. Run with each allocation refused in turn (`bench/refused_again.py`).
+//! that is refused memory cuts its connection. Run with each allocation refused in turn (`bench/checks/refused_again.py`).
 
 use crate::files::{gateway, stores};
 use crate::refusal::Outcome;

@@ -1,16 +1,16 @@
 -- What a flow is after the gateway was called for it.
-use Rattle.std.proofs.Common.{◌≡◌, ◌≢◌, ℕ, suc, ◌≤◌, ◌⊎◌, List, [], ◌∷◌, ◌++◌, length, take, Bool, true, false, refl, sym, ap, subst, ◌∙◌, arith, ⊎_elim, inl, inr}
-use Rattle.std.specs.Prelude.{IsTrue, ◌↔◌, MatchBool, min}
+use Rattle.std.proofs.Common.{◌≡◌, ◌≢◌, ℕ, suc, ◌≤◌, List, [], ◌∷◌, length, take, Bool, true, false, refl, sym, ap, subst, ◌∙◌, arith}
+use Rattle.std.specs.Prelude.{IsTrue, ◌↔◌, MatchBool}
 use Rattle.std.proofs.lemmas.List.{length-take}
-use Rattle.gate_core.specs.Events.{Event, End, Take}
-use Rattle.gate_core.specs.Held.{State, waiting, connection_at, is_closed_in, bytes_refusal}
+use Rattle.gate_core.specs.Events.{Take}
+use Rattle.gate_core.specs.Held.{State, connection_at, bytes_refusal}
 use Rattle.gate_core.specs.Came.{GoesOn}
 use Rattle.gate_flow.specs.declared.want.Want.{Want}
 use Rattle.gate_flow.specs.declared.want.Want.TheVariants.{Read, Advance, Write, Nothing}
 use Rattle.gate_flow.specs.State.{FlowState, IsSound, Stands}
-use Rattle.gate_flow.specs.Led.{IsLed, IsLedCalmly, IsMoved, IsMovedCalmly}
-use Rattle.gate_flow.specs.Steps.{Advances, AdvancesCalmly, Rests}
-use Rattle.gate_flow.proofs.Leading.{Beginnings, led_none}
+use Rattle.gate_flow.specs.Led.{IsLed, IsMoved, IsMovedCalmly}
+use Rattle.gate_flow.specs.Steps.{Advances, AdvancesCalmly}
+use Rattle.gate_flow.proofs.Leading.{Beginnings}
 use Rattle.gate_flow.specs.Brought.{AreBrought, AreInParts, IsEnough}
 use Rattle.gate_flow.proofs.Moving.{failing_behind, parts_behind, parts_taken}
 
@@ -33,12 +33,13 @@ module _ (old : FlowState) (id : ℕ) (piece portion : List ℕ) (ended : Bool) 
 
   module _ (is : before ≡ old) (g m : State) (left : List ℕ) where
     advances : (h : State) → ((now : IsMoved id g h piece left portion portion) × AreInParts id now.calls g h piece left) → Advances old (after left portion want) g h
-    advances h (now, parts) = subst (λ o. Advances o (after left portion want) g h) is record { id = refl; moved = now; parts = parts }
+    advances h (now, parts) = subst (λ o. Advances o (after left portion want) g h) is record { id = refl; ended = refl; moved = now; parts = parts }
 
     calmly : (h : State) (more : List ℕ) (next : Want) → IsEnough left (connection_at m id)
         → ((now : IsMovedCalmly id g h piece left portion more) × ((parts : AreInParts id now.moved.calls g h piece left) × (parts.at ≡ m))) → AdvancesCalmly old (after left more next) g h
     calmly h more next enough (now, (parts, at)) = subst (λ o. AdvancesCalmly o (after left more next) g h) is record {
       id = refl;
+      ended = refl;
       moved = now;
       parts = parts;
       enough = subst (λ (s : State). IsEnough left (connection_at s id)) (sym at) enough;

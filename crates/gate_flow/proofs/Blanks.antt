@@ -1,5 +1,5 @@
 -- What ends in a blank line ends in LF.
-use Rattle.std.proofs.Common.{ℕ, ◌-◌, ◌+◌, ◌≤◌, ◌<◌, ◌≡◌, ◌≢◌, true, false, Bool, List, [], ◌∷◌, length, take, drop, refl, sym, ap, ◌∙◌, arith, nat_eq, ⊎_elim}
+use Rattle.std.proofs.Common.{ℕ, ◌-◌, ◌+◌, ◌≤◌, ◌<◌, ◌≡◌, true, false, Bool, List, [], ◌∷◌, length, take, drop, refl, sym, ap, ◌∙◌, arith, nat_eq, ⊎_elim}
 use Rattle.std.specs.List.{ends_with}
 use Rattle.std.proofs.lemmas.Slice.Eq.{slice_eq-Decides}
 use Rattle.std.proofs.lemmas.Bool.{eq-eqb}

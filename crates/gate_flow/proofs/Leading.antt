@@ -1,13 +1,13 @@
 -- Calls of one connection, one after the other.
-use Rattle.std.proofs.Common.{◌≡◌, ◌≢◌, ℕ, ◌≤◌, List, [], ◌∷◌, ◌++◌, take, drop, take-append-drop, Bool, true, false, cond, eqb, eq-eqb, Option, Some, None, Result, Ok, Err, refl, sym, ap, subst, ◌∙◌, append_assoc, arith, rules}
-use Rattle.std.specs.Prelude.{MatchOption, IsOkUnless, IsOk, OnOk, OnErr, IfOk, unwrap_or, ◌||◌}
+use Rattle.std.proofs.Common.{◌≡◌, ◌≢◌, ℕ, ◌≤◌, List, [], ◌∷◌, ◌++◌, take, drop, take-append-drop, Bool, true, false, cond, eq-eqb, Option, Some, None, Result, Ok, Err, refl, sym, ap, subst, ◌∙◌, append_assoc, arith, rules}
+use Rattle.std.specs.Prelude.{MatchOption, IsOkUnless, IsOk, unwrap_or, ◌||◌}
 use Rattle.std.specs.Ordering.{nat_cmp}
 use Rattle.std.specs.FinMap as map
 use Rattle.std.specs.List.{flat_map}
 use Rattle.std.proofs.lemmas.List.{append-nil}
 use Rattle.std.proofs.lemmas.List.Elements.{filter-append}
 use Rattle.std.proofs.lemmas.List.Concat.{flat_map-append}
-use Rattle.grid.specs.GridState.{GridState, room_at, held_at as held_of, failures_at, IsHonest, NoneFailed}
+use Rattle.grid.specs.GridState.{GridState, failures_at, NoneFailed}
 use Rattle.grid.proofs.Turns.{leaves_none, leaves_both}
 use Rattle.grid.specs.Leaves.{Leaves}
 use Rattle.gate_core.specs.declared.stage.Stage.{Stage}
@@ -90,7 +90,7 @@ calm_on g h e on opening events came roomy none = on opening events came
 -- ---- single calls
 
 -- one that left the grid as it was
-led_held : (id : ℕ) (calls : List Event) (g h : State) (held : Held) → h ≡ with_held g id held → ((other : ℕ) → other ≢ id → connection_at h other ≡ connection_at g other)
+pub led_held : (id : ℕ) (calls : List Event) (g h : State) (held : Held) → h ≡ with_held g id held → ((other : ℕ) → other ≢ id → connection_at h other ≡ connection_at g other)
     → ((events : List Event) → Faithful g events → Faithful (with_held g id held) (events ++ calls)) → IsLed id calls g h
 led_held id calls g h held is others told = record {
   settings = ap (λ (s : State). s.settings) is;
@@ -196,7 +196,7 @@ refused_led law id fault r g h is answer left others leaves = by (connection_at 
 
 -- ---- the first and the last call
 
-here : {X : Type 0} (m : map.FinMap nat_cmp X) (k : ℕ) (v : X) → map.get (map.insert m k v) k ≡ Some v
+pub here : {X : Type 0} (m : map.FinMap nat_cmp X) (k : ℕ) (v : X) → map.get (map.insert m k v) k ≡ Some v
 here m k v = grind (arith, map.gets, rules)
 
 pub waiting_held : (g h : State) (id : ℕ) (held : Held) → h ≡ with_held g id held → waiting h id ≡ held.waiting

@@ -4,3 +4,5 @@ pub mod Moving
 pub mod Standing
 pub mod Advancing
 pub mod Running
+pub mod Forgotten
+pub mod Hosting

@@ -1,10 +1,10 @@
 -- Pieces that are brought and portions that are taken, one after the other.
-use Rattle.std.proofs.Common.{◌≡◌, ◌≢◌, ℕ, ◌≤◌, ◌<◌, ◌^◌, ◌-◌, ◌⊎◌, List, [], ◌∷◌, ◌++◌, length, take, drop, Bool, true, false, cond, eqb, refl, sym, ap, subst, ◌∙◌, append_assoc, arith, length-append, take-append-drop, Option, Some, None, inl, inr}
-use Rattle.std.specs.Prelude.{All, IsTrue, ◌↔◌, ◌||◌, Result, Ok, Err, OnOk, OnErr}
+use Rattle.std.proofs.Common.{◌≡◌, ◌≢◌, ℕ, List, [], ◌∷◌, ◌++◌, take, drop, Bool, true, false, refl, sym, ap, subst, ◌∙◌, append_assoc, take-append-drop, Some, None}
+use Rattle.std.specs.Prelude.{◌||◌, Result, Ok, Err, OnOk, OnErr}
 use Rattle.gate_flow.specs.declared.fault.FlowFault.{FlowFault}
 use Rattle.std.proofs.lemmas.List.{append-nil}
-use Rattle.std.proofs.lemmas.List.Elements.{All-append, All-nil, All-cons}
-use Rattle.gate_core.specs.Events.{Event, Open, Bytes, End, Take, caller_of, piece_of, given_by, is_end, is_of, calls_of, bytes_of_calls, handed, has_ended}
+use Rattle.std.proofs.lemmas.List.Elements.{All-append, All-nil, All-cons, All-head, All-tail}
+use Rattle.gate_core.specs.Events.{Event, Open, Bytes, End, Take, Lose, Spoil, caller_of, piece_of, given_by, is_end, is_of, calls_of, bytes_of_calls, handed, has_ended}
 use Rattle.std.specs.List.{list_any}
 use Rattle.std.proofs.lemmas.List.Elements.{filter-append}
 use Rattle.std.proofs.lemmas.List.Folds.{list_any-append}
@@ -13,14 +13,34 @@ use Rattle.gate_core.specs.Came.{GoesOn}
 use Rattle.gate_core.specs.Faithful.{Faithful}
 use Rattle.gate_flow.specs.Parts.{IsPart}
 use Rattle.gate_flow.specs.Brought.{AreBrought, AreInParts}
-use Rattle.gate_flow.specs.Led.{AreOf, TakesBytes, IsTimely, AreTimely, IsLed, IsLedCalmly, IsMoved, IsMovedCalmly, IsGivenUp}
+use Rattle.gate_flow.specs.Led.{AreOf, IsMove, AreMoves, TakesBytes, IsTimely, AreTimely, IsLed, IsLedCalmly, IsMoved, IsMovedCalmly, IsGivenUp}
 use Rattle.gate_flow.proofs.Leading.{Beginnings, led_none, led_more, calm_none, calm_more, calm_on, joined_more, handed_more, joined_one, handed_one, calls_of_one, unclosed}
 
-own_none : (id : ℕ) → AreOf id []
-own_none id = All-nil (λ (e : Event). caller_of e ≡ Some id)
+own_none : (id : ℕ) → AreMoves id []
+own_none id = All-nil (IsMove id)
+
+move_one : (id : ℕ) (e : Event) → IsMove id e → AreMoves id (e ∷ [])
+move_one id e mine = All-cons (IsMove id) e [] mine (own_none id)
+
+move_more : (id : ℕ) (a b : List Event) → AreMoves id a → AreMoves id b → AreMoves id (a ++ b)
+move_more id a b first second = All-append (IsMove id) a b first second
+
+move_own : (id : ℕ) (e : Event) → IsMove id e → caller_of e ≡ Some id
+move_own id (Open other secret) mine = absurd mine
+move_own id (Bytes other piece) mine = ap Some mine
+move_own id (End other) mine = ap Some mine
+move_own id (Take other given) mine = ap Some mine
+move_own id (Lose server key) mine = absurd mine
+move_own id (Spoil server key place) mine = absurd mine
+
+-- calls that move a connection on are of its id
+pub moves_own : (id : ℕ) (calls : List Event) → AreMoves id calls → AreOf id calls
+moves_own id [] are = All-nil (λ (e : Event). caller_of e ≡ Some id)
+moves_own id (e ∷ calls) are =
+    All-cons (λ (x : Event). caller_of x ≡ Some id) e calls (move_own id e (All-head (IsMove id) e calls are)) (moves_own id calls (All-tail (IsMove id) e calls are))
 
 pub own_one : (id : ℕ) (e : Event) → caller_of e ≡ Some id → AreOf id (e ∷ [])
-own_one id e mine = All-cons (λ (x : Event). caller_of x ≡ Some id) e [] mine (own_none id)
+own_one id e mine = All-cons (λ (x : Event). caller_of x ≡ Some id) e [] mine (All-nil (λ (x : Event). caller_of x ≡ Some id))
 
 pub own_more : (id : ℕ) (a b : List Event) → AreOf id a → AreOf id b → AreOf id (a ++ b)
 own_more id a b first second = All-append (λ (e : Event). caller_of e ≡ Some id) a b first second
@@ -71,18 +91,18 @@ moved_still id g h piece left portion more led still kept = record {
 }
 
 -- one call
-moved_one : (id : ℕ) (e : Event) (g h : State) (piece left portion more : List ℕ) → caller_of e ≡ Some id → is_end e ≡ false
+moved_one : (id : ℕ) (e : Event) (g h : State) (piece left portion more : List ℕ) → IsMove id e → is_end e ≡ false
     → ((events : List Event) → Faithful g events → IsTimely id events e) → (TakesBytes (connection_at g id) → TakesBytes (connection_at h id)) → IsLed id (e ∷ []) g h → IsLedCalmly (e ∷ []) g h
     → piece ≡ piece_of e ++ left → more ≡ portion ++ given_by e → IsMovedCalmly id g h piece left portion more
 moved_one id e g h piece left portion more mine none timely takes led calm brought given = record {
   moved = record {
     calls = e ∷ [];
-    own = own_one id e mine;
-    going = going_one id e mine none;
+    own = move_one id e mine;
+    going = going_one id e (move_own id e mine) none;
     timely = λ events told. (timely events told, tt);
     led = led;
-    brought = brought ∙ ap (λ r. r ++ left) (sym (joined_one id e mine));
-    handed_out = given ∙ ap (λ r. portion ++ r) (sym (handed_one id e mine));
+    brought = brought ∙ ap (λ r. r ++ left) (sym (joined_one id e (move_own id e mine)));
+    handed_out = given ∙ ap (λ r. portion ++ r) (sym (handed_one id e (move_own id e mine)));
   };
   calm = calm;
   takes = takes;
@@ -104,7 +124,7 @@ module _ (id : ℕ) (g h k : State) (a b c p q r : List ℕ) where
   pub moved_then : IsMoved id g h a b p q → IsMoved id h k b c q r → IsMoved id g k a c p r
   moved_then first second = record {
     calls = first.calls ++ second.calls;
-    own = own_more id first.calls second.calls first.own second.own;
+    own = move_more id first.calls second.calls first.own second.own;
     going = going_more id first.calls second.calls first.going second.going;
     timely = λ events told. timely_more id events first.calls second.calls (first.timely events told) (second.timely (events ++ first.calls) (first.led.told events told));
     led = led_more id first.calls second.calls g h k first.led second.led;
@@ -234,7 +254,7 @@ nothing_called id g h same was over = record {
 end_called : (id : ℕ) (g h : State) → waiting h id ≡ waiting g id → IsLed id (End id ∷ []) g h → IsLedCalmly (End id ∷ []) g h → bytes_refusal (connection_at h id) ≢ None → IsGivenUp id g h
 end_called id g h same led calm over = record {
   calls = End id ∷ [];
-  own = own_one id (End id) refl;
+  own = move_one id (End id) refl;
   timely = λ events. (tt, tt);
   led = led;
   calm = calm;

@@ -1,7 +1,7 @@
 -- A flow that runs, call by call, and what serving a connection comes to.
 use Rattle.std.proofs.Common.{◌≡◌, ◌≢◌, ℕ, List, [], ◌∷◌, ◌++◌, Bool, true, false, ◌⊎◌, ⊎_elim, inl, inr, refl, sym, ap, subst, ◌∙◌, Option, Some, None}
 use Rattle.std.specs.Prelude.{IsTrue, ◌||◌}
-use Rattle.std.specs.Io.KnownBytes.{Consumes, Appends}
+use Rattle.std.specs.Io.KnownBytes.{Consumes}
 use Rattle.std.specs.List.{list_any}
 use Rattle.std.proofs.KnownBytes.{Consumes-nil, Consumes-trans, Appends-nil, Appends-trans}
 use Rattle.std.proofs.lemmas.List.{append-nil}
@@ -11,20 +11,19 @@ use Rattle.http_edge.specs.Left.{rest, is_closed as is_left_closed}
 use Rattle.gate_core.specs.declared.stage.Stage.{Stage}
 use Rattle.gate_core.specs.declared.stage.Stage.TheVariants as stage
 use Rattle.gate_core.specs.Events.{Event, Open, is_end, is_of, calls_of, bytes_of_calls, handed, has_ended}
-use Rattle.gate_core.specs.Held.{Held, State, connection_at, waiting, waiting_in, is_over, is_closed_in, stage_refusal, bytes_refusal}
+use Rattle.gate_core.specs.Held.{Held, State, connection_at, waiting, waiting_in, is_over, is_closed_in, stage_refusal}
 use Rattle.gate_core.specs.Faithful.{Faithful, FaithfulAt}
 use Rattle.gate_flow.specs.declared.fault.FlowFault.{FlowFault}
 use Rattle.gate_flow.specs.declared.fault.FlowFault.TheVariants.{Refused, ReadFailed, WriteFailed, NoMemory}
 use Rattle.gate_flow.specs.declared.want.Want.{Want}
 use Rattle.gate_flow.specs.declared.want.Want.TheVariants as want
 use Rattle.gate_flow.specs.State.{FlowState, IsSound, Stands, opened_flow}
-use Rattle.gate_flow.specs.Led.{AreOf, TakesBytes, AreTimely, IsLed, IsLedCalmly, IsMoved, IsGivenUp}
+use Rattle.gate_flow.specs.Led.{AreOf, TakesBytes, AreTimely, IsLed, IsLedCalmly, IsGivenUp}
 use Rattle.gate_flow.specs.Steps.{IsRead, IsWritten, Advances, AdvancesCalmly, Rests, RestsAt}
-use Rattle.gate_flow.specs.Flowed.{Flowed}
-use Rattle.gate_flow.specs.Run.{Opens, HasRun, HasRunCalmly}
-use Rattle.gate_flow.specs.Served.{HasStopped, IsClosedBy, IsServed, IsStopped, StopsAt}
+use Rattle.gate_flow.specs.Run.{HasRun, HasRunCalmly}
+use Rattle.gate_flow.specs.Served.{HasStopped, IsServed, IsStopped, StopsAt}
 use Rattle.gate_flow.proofs.Leading.{Beginnings, led_more, calm_more, joined_more, handed_more, joined_one, handed_one}
-use Rattle.gate_flow.proofs.Moving.{own_one, own_more, timely_more}
+use Rattle.gate_flow.proofs.Moving.{own_one, own_more, moves_own, timely_more}
 use Rattle.gate_flow.proofs.Standing.{read_stands, wrote_stands, advanced_stands}
 
 -- ---- it is opened
@@ -44,6 +43,7 @@ run_begins id secret g h r w led calm takes = record {
     flowed = record { all_read = sym (append-nil (bytes_of_calls id (Open id secret ∷ [])) ∙ joined_one id (Open id secret) refl); all_written = handed_one id (Open id secret) refl };
     taken = Consumes-nil r;
     put = Appends-nil w;
+    input = λ over. cc;
   };
   calm = calm;
   takes = takes;
@@ -65,6 +65,7 @@ module _ (id : ℕ) (secret : List ℕ) (g h : State) (old new : FlowState) (rea
     flowed = read_stands old new run.calls run.bytes run.out left left2 run.flowed now;
     taken = Consumes-trans read left left2 run.bytes now.more run.taken now.taken;
     put = run.put;
+    input = now.at_end;
   }
 
   pub reads : (left2 : Option (List ℕ)) → HasRunCalmly id secret g h old read left before after → IsRead old new left left2 → HasRunCalmly id secret g h new read left2 before after
@@ -84,6 +85,7 @@ module _ (id : ℕ) (secret : List ℕ) (g h : State) (old new : FlowState) (rea
     flowed = wrote_stands old new run.calls run.bytes run.out after after2 run.flowed now;
     taken = run.taken;
     put = Appends-trans before after after2 run.out now.some run.put now.put;
+    input = λ over. run.input (sym now.ended ∙ over);
   }
 
   pub writes : (after2 : Option (List ℕ)) → HasRunCalmly id secret g h old read left before after → IsWritten old new after after2 → HasRunCalmly id secret g h new read left before after2
@@ -98,7 +100,7 @@ module _ (id : ℕ) (secret : List ℕ) (g h : State) (old new : FlowState) (rea
           same = now.id ∙ run.same;
           calls = run.calls ++ calls;
           opens = (run.opens.0 ++ calls, ap (λ cs. cs ++ calls) run.opens.1);
-          own = own_more id run.calls calls run.own (subst (λ (i : ℕ). AreOf i calls) run.same now.moved.own);
+          own = own_more id run.calls calls run.own (subst (λ (i : ℕ). AreOf i calls) run.same (moves_own old.id calls now.moved.own));
           timely = λ events told. timely_more id events run.calls calls (run.timely events told)
               (subst (λ (i : ℕ). AreTimely i (events ++ run.calls) calls) run.same (now.moved.timely (events ++ run.calls) (run.led.told events told)));
           led = led_more id run.calls calls g h k run.led (subst (λ (i : ℕ). IsLed i calls h k) run.same now.moved.led);
@@ -107,10 +109,11 @@ module _ (id : ℕ) (secret : List ℕ) (g h : State) (old new : FlowState) (rea
           flowed = advanced_stands old new h k run.calls run.bytes run.out run.flowed now;
           taken = run.taken;
           put = run.put;
+          input = λ over. run.input (sym now.ended ∙ over);
         }
 
   plainly : (k : State) → AdvancesCalmly old new h k → Advances old new h k
-  plainly k now = record { id = now.id; moved = now.moved.moved; parts = now.parts }
+  plainly k now = record { id = now.id; ended = now.ended; moved = now.moved.moved; parts = now.parts }
 
   pub advances : Beginnings → (k : State) → HasRunCalmly id secret g h old read left before after → AdvancesCalmly old new h k → HasRunCalmly id secret g k new read left before after
   unfolding run_advances plainly
@@ -136,7 +139,7 @@ module _ (id : ℕ) (secret : List ℕ) (g h k : State) (f : FlowState) (read le
   stopped unwritten rest_is = record {
     calls = run.calls ++ given.calls;
     opens = (run.opens.0 ++ given.calls, ap (λ cs. cs ++ given.calls) run.opens.1);
-    own = own_more id run.calls given.calls run.own given.own;
+    own = own_more id run.calls given.calls run.own (moves_own id given.calls given.own);
     timely = λ events told. timely_more id events run.calls given.calls (run.timely events told) (given.timely (events ++ run.calls));
     led = led_more id run.calls given.calls g h k run.led given.led;
     taken = subst (Consumes read left) (run.flowed.all_read ∙ ap (λ (i : ℕ). bytes_of_calls i run.calls ++ f.piece) run.same ∙ ap (λ r. r ++ f.piece) (sym brings_all)) run.taken;

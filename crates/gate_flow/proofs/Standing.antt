@@ -1,13 +1,12 @@
 -- Where a flow stands, call by call.
-use Rattle.std.proofs.Common.{◌≡◌, ◌≢◌, ℕ, List, [], ◌∷◌, ◌++◌, Bool, true, false, cond, eqb, ne_eqb, refl, sym, ap, subst, ◌∙◌, append_assoc, Option, Some, None, arith}
-use Rattle.std.specs.Io.KnownBytes.{Consumes, Appends}
+use Rattle.std.proofs.Common.{◌≡◌, ◌≢◌, ℕ, List, [], ◌∷◌, ◌++◌, false, cond, ne_eqb, refl, sym, ap, subst, ◌∙◌, append_assoc, Option, Some, None}
 use Rattle.std.specs.List.{flat_map}
 use Rattle.std.proofs.lemmas.List.{append-nil}
 use Rattle.std.proofs.lemmas.List.Elements.{All-head, All-tail}
 use Rattle.http_edge.specs.Frame.{frame}
 use Rattle.gate_core.specs.Settings.{Settings}
 use Rattle.gate_core.specs.Events.{Event, Open, caller_of, piece_of, given_by, is_caller, is_of, calls_of, bytes_of_calls, handed}
-use Rattle.gate_core.specs.Held.{State, connection_at, waiting, waiting_in}
+use Rattle.gate_core.specs.Held.{State, connection_at}
 use Rattle.gate_core.specs.Replied.{AreAnswered}
 use Rattle.gate_core.specs.Faithful.{Faithful, FaithfulAt}
 use Rattle.gate_flow.specs.State.{FlowState, opened_flow}

@@ -1,5 +1,5 @@
 -- The parts that one call for a flow brings of its piece.
-use Rattle.std.specs.Prelude.{◌≡◌, ◌≢◌, ◌⊎◌, ℕ, List, [], ◌∷◌, ◌++◌, take, drop, Bool, false, IsTrue, Option}
+use Rattle.std.specs.Prelude.{◌≡◌, ◌≢◌, ◌⊎◌, ℕ, List, [], ◌∷◌, ◌++◌, take, drop, false, IsTrue, Option}
 use Rattle.gate_core.specs.Events.{Event, Bytes, bytes_of_calls}
 use Rattle.gate_core.specs.Held.{Held, State, connection_at, waiting, waiting_in, is_closed_in}
 use Rattle.gate_flow.specs.Parts.{IsPart}

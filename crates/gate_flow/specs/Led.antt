@@ -1,5 +1,5 @@
 -- What calls of one connection do to a gateway.
-use Rattle.std.specs.Prelude.{◌≡◌, ◌≢◌, ℕ, List, [], ◌∷◌, ◌++◌, All, ⊤, Option, Some, None, Bool, true, false}
+use Rattle.std.specs.Prelude.{◌≡◌, ◌≢◌, ℕ, List, [], ◌∷◌, ◌++◌, All, ⊤, Option, Some, None, true, false}
 use Rattle.grid.specs.GridState.{NoneFailed}
 use Rattle.grid.specs.Leaves.{Leaves}
 use Rattle.http_edge.specs.Left.{rest, is_closed as is_left_closed}
@@ -11,6 +11,18 @@ use Rattle.gate_core.specs.Faithful.{Faithful}
 -- each of these calls is of this connection
 abbrev pub AreOf : ℕ → List Event → Type 0
 AreOf id calls = All (λ e. caller_of e ≡ Some id) calls
+
+-- a call that moves a connection on, which was opened before: it brings bytes of it or its end, or takes what waits for it
+abbrev pub IsMove : ℕ → Event → Type 0
+IsMove id (Open other secret) = ⊥
+IsMove id (Bytes other piece) = other ≡ id
+IsMove id (End other) = other ≡ id
+IsMove id (Take other given) = other ≡ id
+IsMove id (Lose server key) = ⊥
+IsMove id (Spoil server key place) = ⊥
+
+abbrev pub AreMoves : ℕ → List Event → Type 0
+AreMoves id calls = All (IsMove id) calls
 
 -- the gateway takes bytes of a connection: it was opened, its end didn't come, and memory didn't run out on it
 abbrev pub TakesBytes : Option Held → Type 0
@@ -51,7 +63,7 @@ AreTimely id before (e ∷ calls) = IsTimely id before e × AreTimely id (before
 -- portion.
 pub record IsMoved (id : ℕ) (old new : State) (piece left portion more : List ℕ) : Type 0 where
   pub calls : List Event
-  pub own : AreOf id calls
+  pub own : AreMoves id calls
   pub going : has_ended id calls ≡ false
   pub timely : (events : List Event) → Faithful old events → AreTimely id events calls
   pub led : IsLed id calls old new
@@ -68,7 +80,7 @@ pub record IsMovedCalmly (id : ℕ) (old new : State) (piece left portion more :
 -- and what waited waits still.
 pub record IsGivenUp (id : ℕ) (old new : State) : Type 0 where
   pub calls : List Event
-  pub own : AreOf id calls
+  pub own : AreMoves id calls
   pub timely : (events : List Event) → AreTimely id events calls
   pub led : IsLed id calls old new
   pub calm : IsLedCalmly calls old new

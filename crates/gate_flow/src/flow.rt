@@ -1,5 +1,6 @@
 //! One connection, without its socket.
-ghost use Rattle.std.specs.Prelude.{◌≡◌, ◌≢◌, [], ◌∷◌, length, ◌⊎◌, OnOk, IfOk, IfErr, OnErr, IsOkUnless, MatchOption, None, unwrap_or, option_copied};
+ghost use Rattle.std.specs.Prelude.{◌≡◌, ◌≢◌, ℕ, ◌+◌, ◌↔◌, true, [], ◌∷◌, length, ◌⊎◌, OnOk, IfOk, IfErr, OnErr, IsOkUnless, MatchOption, None, unwrap_or, option_copied};
+ghost use Rattle.std.specs.IoError.{error_kind};
 ghost use Rattle.gate_core.specs.Events.{Open};
 ghost use Rattle.gate_core.specs.Held.{connection_at, open_refusal};
 ghost use Rattle.gate_flow.specs.Faults.{IsCallFault, IsReadFault, IsWriteFault};
@@ -111,7 +112,11 @@ impl Flow {
         requires { self.old.want ≡ Want.Read }
         ensures read { IsRead self.old self.new (R.remaining reader.old) (R.remaining reader.new) }
         ensures next { (self.new.want ≡ Want.Advance) ⊎ (self.new ≡ self.old) }
+        ensures count { (n : ℕ) → result ≡ Ok (Step.Went n) →
+            length self.new.piece ≡ length self.old.piece + n }
+        ensures end { result ≡ Ok (Step.Went 0) → self.new.ended ≡ true }
         ensures blocked { result ≡ Ok Step.Blocked → self.new ≡ self.old }
+        ensures interrupted { result ≡ Ok Step.Interrupted → self.new ≡ self.old }
         ensures err { OnErr result (self.new ≡ self.old) }
         ensures faults { IfErr result IsReadFault }
     {
@@ -164,7 +169,10 @@ impl Flow {
         requires { self.old.want ≡ Want.Write }
         ensures wrote { IsWritten self.old self.new (W.contents writer.old) (W.contents writer.new) }
         ensures next { (self.new.want ≡ Want.Advance) ⊎ (self.new.want ≡ Want.Write) }
+        ensures count { (n : ℕ) → result ≡ Ok (Step.Went n) →
+            length self.old.portion ≡ n + length self.new.portion }
         ensures blocked { result ≡ Ok Step.Blocked → self.new ≡ self.old }
+        ensures interrupted { result ≡ Ok Step.Interrupted → self.new ≡ self.old }
         ensures err { OnErr result (self.new ≡ self.old) }
         ensures faults { IfErr result IsWriteFault }
     {
@@ -193,11 +201,15 @@ impl Flow {
 
 /// What an error of a stream means.
 fn step_after(error: &Error, fault: FlowFault) -> Result<Step, FlowFault>
-    ensures { IfErr result (λ told. told ≡ fault) }
+    ensures blocked { result ≡ Ok Step.Blocked ↔ error_kind error.now ≡ ErrorKind.WouldBlock }
+    ensures interrupted { result ≡ Ok Step.Interrupted
+        ↔ error_kind error.now ≡ ErrorKind.Interrupted }
+    ensures never { (n : ℕ) → result ≢ Ok (Step.Went n) }
+    ensures fault { IfErr result (λ told. told ≡ fault) }
 {
     match error.kind() {
         ErrorKind::WouldBlock => Ok(Step::Blocked),
-        ErrorKind::Interrupted => Ok(Step::Went(0)),
+        ErrorKind::Interrupted => Ok(Step::Interrupted),
         _ => Err(fault),
     }
 }

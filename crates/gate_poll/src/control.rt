@@ -185,13 +185,13 @@ impl Caller {
             match item {
                 Item::Request { head, .. } => {
                     let answer = control.answer(self.alloc, &head, counts, gateway)?;
-                    self.say(&answer.reply)?;
+                    self.say(&answer.reply, head.is_head_request())?;
                     return Ok(answer.stops);
                 }
                 Item::Continue => self.said.extend_from_slice(continue_text())?,
-                Item::Fault { .. } => {
+                Item::Fault { head_only, .. } => {
                     let reply = text_reply(self.alloc, Status::BadRequest, b"bad request\n")?;
-                    self.say(&reply)?;
+                    self.say(&reply, head_only)?;
                     return Ok(false);
                 }
             }
@@ -199,9 +199,9 @@ impl Caller {
         Ok(false)
     }
 
-    /// Says a reply, and nothing after it.
-    fn say(&mut self, reply: &Reply) -> Result<(), AllocError> {
-        let bytes = render(self.alloc, reply, false, true)?;
+    /// Says a reply, and nothing after it. One to a HEAD request has no body (RFC 9110, section 9.3.2).
+    fn say(&mut self, reply: &Reply, head_only: bool) -> Result<(), AllocError> {
+        let bytes = render(self.alloc, reply, head_only, true)?;
         self.said.extend_from_slice(&bytes)?;
         self.phase = Phase::Told;
         Ok(())
@@ -258,18 +258,12 @@ impl Desk {
         })
     }
 
-    /// Whether there is room for one more.
-    pub fn has_room(&self) -> bool {
-        self.callers.len() < MOST
-    }
-
-    /// Whether none is open.
-    pub fn is_empty(&self) -> bool {
-        self.callers.is_empty()
-    }
-
-    /// Takes a socket in. Without memory it is dropped.
+    /// Takes a socket in, under an id that is above those of the others. Where as many are open as may be, the one that
+    /// was opened first makes room: so one that sends no request keeps no other out. Without memory it is dropped.
     pub fn take_in(&mut self, id: u64, stream: TcpStream, now: Instant) {
+        if self.callers.len() >= MOST {
+            drop(self.callers.pop_first());
+        }
         let caller = Caller {
             alloc: self.alloc,
             stream,

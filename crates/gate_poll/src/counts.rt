@@ -73,4 +73,45 @@ impl Counts {
     {
         self.bytes_out = self.bytes_out.saturating_add(count as u64);
     }
+
+    /// A connection was opened, and so many are open.
+    pub fn opens(&mut self, count: usize) {
+        self.opened = self.opened.saturating_add(1);
+        self.open = count as u64;
+    }
+
+    /// A connection was closed, and so many are open.
+    pub fn closes(&mut self, count: usize) {
+        self.open = count as u64;
+    }
+
+    /// A socket was closed at once.
+    pub fn refuses(&mut self) {
+        self.refused = self.refused.saturating_add(1);
+    }
+
+    /// A connection was given all replies to what it sent.
+    pub fn ends(&mut self) {
+        self.over = self.over.saturating_add(1);
+    }
+
+    /// A connection was cut since its socket failed or memory was refused.
+    pub fn fails(&mut self) {
+        self.failed = self.failed.saturating_add(1);
+    }
+
+    /// A connection was closed since serving was to stop.
+    pub fn stops(&mut self) {
+        self.stopped = self.stopped.saturating_add(1);
+    }
+
+    /// A connection was cut since its time was over.
+    pub fn cuts(&mut self) {
+        self.late = self.late.saturating_add(1);
+    }
+
+    /// No socket could be accepted.
+    pub fn starves(&mut self) {
+        self.starved = self.starved.saturating_add(1);
+    }
 }

@@ -14,6 +14,12 @@ mod counts;
 mod ids;
 /// How long a peer may take.
 mod pace;
+/// How many lines a second are told of connections.
+mod journal;
+/// Sockets of connections, and the doors through which they come.
+mod sockets;
+/// What turns are had with.
+mod tools;
 /// One connection with its socket.
 mod peer;
 /// The connections by their ids.

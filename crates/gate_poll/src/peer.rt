@@ -1,9 +1,13 @@
 //! One connection with its socket.
-use crate::counts::Counts;
+ghost use Rattle.std.specs.Prelude.{◌≡◌, ◌≢◌, Some, None, false, true};
+ghost use Rattle.gate_flow.specs.declared.want.Want.TheVariants as want;
+ghost use Rattle.gate_turns.specs.declared.seat.Side.TheVariants as side;
+
 use crate::limits::Limits;
 use crate::pace::{Pace, Way};
-use gate_core::Gateway;
-use gate_flow::{Flow, FlowFault, Step, Want};
+use crate::tools::Tools;
+use gate_flow::{Flow, FlowFault, Lobby, Step, Want};
+use gate_turns::{End, Seat, Side, Turned};
 use mio::net::TcpStream;
 use share_store::Store;
 use std::io::{ErrorKind, Read};
@@ -15,9 +19,6 @@ const CALLS: u32 = 4;
 
 /// From how many milliseconds of processor time on a step of the gateway is long.
 const LONG_MILLIS: u128 = 2;
-
-/// How many turns after a long step a connection is held to be a slow one.
-const SLOW_TURNS: u8 = 255;
 
 /// A time, and how much processor time the loop had used by then.
 #[derive(Clone, Copy, Debug)]
@@ -35,6 +36,11 @@ impl Moment {
         }
     }
 
+    /// The processor time that was used since counts for no step.
+    pub fn skips<R: CpuClock>(&mut self, rt: &R) {
+        *self = Moment::at(rt, self.now);
+    }
+
     /// Becomes the time after a step, and says whether that step was long. Time in which the system ran others isn't
     /// counted.
     fn passes<R: Clock + CpuClock>(&mut self, rt: &R) -> bool {
@@ -44,28 +50,23 @@ impl Moment {
     }
 }
 
-/// What came of a turn.
+/// What came of a turn, and the fault that ended it, if one did.
 #[derive(Clone, Copy, Debug, PartialEq, Eq)]
-pub enum Turn {
-    /// It has more to do, after the others had their turns.
-    Again,
-    /// It waits for its socket.
-    Waits,
-    /// All was said, and its peer sends no more.
-    Over,
-    /// Its socket failed, or memory was refused.
-    Failed(FlowFault),
+pub struct Outcome {
+    pub turned: Turned,
+    pub fault: Option<FlowFault>,
 }
 
-/// Which turns a connection waits for.
+/// What came of one call of a socket, and of the gateway after it.
 #[derive(Clone, Copy, Debug, PartialEq, Eq)]
-pub enum Lane {
-    /// Those of connections whose last steps were quick.
-    Quick,
-    /// Those of connections that had no reply yet.
-    Fresh,
-    /// Those of connections of which one of the last steps was long.
-    Slow,
+struct Stepped {
+    /// How the turn ends. It goes on where this is `None`.
+    end: Option<End>,
+    /// Whether the gateway took long.
+    long: bool,
+    /// Whether it has a reply, or a part of one.
+    replied: bool,
+    fault: Option<FlowFault>,
 }
 
 /// One connection with its socket.
@@ -74,194 +75,356 @@ pub struct Peer {
     stream: TcpStream,
     flow: Flow,
     pace: Pace,
-    readable: bool,
-    writable: bool,
-    /// Whether it stands in a queue of those that have a turn to come.
-    pub queued: bool,
-    /// For how many turns it is held to be a slow one.
-    slow: u8,
-    /// Whether it had no reply yet, so that it isn't known how long its steps are.
-    fresh: bool,
     /// Whether nothing more is said to it, and what it still sends is dropped.
     lingers: bool,
     /// How many bytes were dropped.
     dropped: u64,
 }
 
+impl Outcome {
+    /// There is nothing to call.
+    pub fn none() -> Outcome {
+        Outcome {
+            turned: Turned {
+                end: End::Over,
+                long: false,
+                replied: false,
+                owed: false,
+            },
+            fault: None,
+        }
+    }
+}
+
+impl Stepped {
+    /// The turn goes on.
+    fn goes_on() -> Stepped
+        ensures { result.end ≡ None }
+    {
+        Stepped {
+            end: None,
+            long: false,
+            replied: false,
+            fault: None,
+        }
+    }
+
+    /// The turn ends so.
+    fn ends(end: End) -> Stepped
+        ensures { result.end ≡ Some end }
+    {
+        Stepped {
+            end: Some(end),
+            long: false,
+            replied: false,
+            fault: None,
+        }
+    }
+
+    /// The turn ends at a fault.
+    fn fails(fault: FlowFault) -> Stepped
+        ensures { result.end ≡ Some End.Over }
+    {
+        Stepped {
+            end: Some(End::Over),
+            long: false,
+            replied: false,
+            fault: Some(fault),
+        }
+    }
+}
+
 impl Peer {
+    ghost use Rattle.gate_poll.specs.Peers.{owes, EndsFor, IsGoing, IsStepped};
+
     /// A socket that was just accepted.
-    pub fn new(stream: TcpStream, flow: Flow, now: Instant) -> Peer {
+    pub fn new(stream: TcpStream, flow: Flow, now: Instant) -> Peer
+        ensures flow { result.flow ≡ flow }
+        ensures lingers { result.lingers ≡ false }
+    {
         Peer {
             stream,
             flow,
             pace: Pace::new(now),
-            readable: true,
-            writable: true,
-            queued: false,
-            slow: 0,
-            fresh: true,
             lingers: false,
             dropped: 0,
         }
     }
 
-    /// The socket was reported ready.
-    pub fn is_ready(&mut self, readable: bool, writable: bool) {
-        self.readable = self.readable || readable;
-        self.writable = self.writable || writable;
-    }
-
-    /// Which turns it waits for.
-    pub fn lane(&self) -> Lane {
-        if self.slow > 0 {
-            Lane::Slow
-        } else if self.fresh {
-            Lane::Fresh
-        } else {
-            Lane::Quick
-        }
-    }
-
-    /// Whether its last turn had a long step.
-    pub fn took_long(&self) -> bool {
-        self.slow == SLOW_TURNS
-    }
-
-    /// Whether its time is over. One that has a turn to come is waited for by nobody.
+    /// Whether its time is over.
     pub fn is_late(&self, now: Instant, limits: &Limits) -> bool {
         if self.lingers {
             self.pace.is_over(now, limits.linger)
         } else {
-            !self.queued && self.pace.is_late(now, limits)
+            self.pace.is_late(now, limits)
         }
     }
 
     /// Whether all was said to it, and it is only waited until it ends its side.
-    pub fn is_done(&self) -> bool {
+    pub fn is_done(&self) -> bool
+        ensures { result ≡ self.now.lingers }
+    {
         self.lingers
     }
 
     /// Whether it is still to be told something, or may not have taken all of it.
-    pub fn is_owed(&self) -> bool {
-        self.lingers || self.flow.want() != Want::Read
+    fn is_owed(&self) -> bool
+        ensures { result ≡ owes self.now }
+    {
+        match self.flow.want() {
+            Want::Read => self.lingers,
+            Want::Advance | Want::Write | Want::Nothing => true,
+        }
     }
 
     /// Its flow, for the gateway to give up.
-    pub fn into_flow(self) -> Flow {
+    pub fn into_flow(self) -> Flow
+        ensures { result ≡ self.flow }
+    {
         self.flow
     }
 
-    /// Calls its socket a few times, and no more after a long step. `moment` becomes the time after the last step.
-    pub fn turn<S: Store, R: Clock + CpuClock>(
+    /// Has its turn. `moment` becomes the time after the last step of the gateway, and the time in which bytes were dropped
+    /// counts for no step.
+    pub fn goes_on<S: Store, R: Clock + CpuClock>(
         &mut self,
         rt: &R,
-        gateway: &mut Gateway<S>,
-        limits: &Limits,
-        counts: &mut Counts,
+        lobby: &mut Lobby<S>,
+        tools: &mut Tools,
         moment: &mut Moment,
-    ) -> Turn {
-        self.slow = self.slow.saturating_sub(1);
-        for _ in 0..CALLS {
-            let before = self.flow.want();
-            let step = match before {
-                Want::Read if self.readable => self.flow.read_from(&mut &self.stream),
-                Want::Write if self.writable => self.flow.write_to(&mut &self.stream),
-                Want::Advance => Ok(Step::Went(0)),
-                Want::Nothing => return self.close(moment.now),
-                Want::Read | Want::Write => return Turn::Waits,
-            };
-            match step {
-                Ok(Step::Went(count)) => self.moves(before, count, counts, moment.now),
-                Ok(Step::Blocked) => {
-                    self.blocks(before, moment.now, limits);
-                    return Turn::Waits;
-                }
-                Err(fault) => return Turn::Failed(fault),
-            }
-            match self.advance(rt, gateway, before, moment) {
-                Ok(false) => {}
-                Ok(true) => return Turn::Again,
-                Err(fault) => return Turn::Failed(fault),
-            }
+        seat: &Seat,
+    ) -> Outcome
+        ensures stepped { IsStepped self.old self.new (Some result.turned.end) lobby.old lobby.new }
+        ensures owed { result.turned.owed ≡ owes self.new }
+    {
+        gate_flow::laws::gateways_are_hosted();
+        if self.lingers {
+            let outcome = self.drain(tools, moment.now);
+            moment.skips(rt);
+            return outcome;
         }
-        Turn::Again
+        self.turn(rt, lobby, tools, moment, seat)
     }
 
-    /// So many bytes were read or written.
-    fn moves(&mut self, want: Want, count: usize, counts: &mut Counts, now: Instant) {
-        self.pace.moves(now, count);
-        match want {
-            Want::Read => counts.reads(count),
-            _ => counts.writes(count),
-        }
-    }
-
-    /// The socket would block.
-    fn blocks(&mut self, want: Want, now: Instant, limits: &Limits) {
-        match want {
-            Want::Read => self.readable = false,
-            _ => {
-                self.writable = false;
-                self.pace.blocks(now, limits);
+    /// Its socket is called a few times, where what is known of it allows that, and no more after a long step.
+    fn turn<S: Store, R: Clock + CpuClock>(
+        &mut self,
+        rt: &R,
+        lobby: &mut Lobby<S>,
+        tools: &mut Tools,
+        moment: &mut Moment,
+        seat: &Seat,
+    ) -> Outcome
+        ensures stepped { IsStepped self.old self.new (Some result.turned.end) lobby.old lobby.new }
+        ensures owed { result.turned.owed ≡ owes self.new }
+    {
+        gate_flow::laws::gateways_are_hosted();
+        let mut replied = false;
+        'calls: for _ in 0..CALLS {
+            let step = self.step(rt, lobby, tools, moment, seat);
+            replied = replied || step.replied;
+            if let Some(end) = step.end {
+                let turned = self.turned(end, step.long, replied);
+                return Outcome {
+                    turned,
+                    fault: step.fault,
+                };
             }
+        }
+        let turned = self.turned(End::Again, false, replied);
+        Outcome {
+            turned,
+            fault: None,
         }
     }
 
-    /// Calls the gateway, where that is what is to be done next, and says whether that took long.
+    /// What came of a turn that ended so.
+    fn turned(&self, end: End, long: bool, replied: bool) -> Turned
+        ensures end { result.end ≡ end }
+        ensures owed { result.owed ≡ owes self.now }
+    {
+        Turned {
+            end,
+            long,
+            replied,
+            owed: self.is_owed(),
+        }
+    }
+
+    /// Does what its flow wants, once.
+    fn step<S: Store, R: Clock + CpuClock>(
+        &mut self,
+        rt: &R,
+        lobby: &mut Lobby<S>,
+        tools: &mut Tools,
+        moment: &mut Moment,
+        seat: &Seat,
+    ) -> Stepped
+        ensures { IsStepped self.old self.new result.end lobby.old lobby.new }
+    {
+        gate_flow::laws::gateways_are_hosted();
+        match self.flow.want() {
+            Want::Read => self.read(rt, lobby, tools, moment, seat.readable),
+            Want::Write => self.write(rt, lobby, tools, moment, seat.writable),
+            Want::Advance => self.advance(rt, lobby, Want::Advance, moment),
+            Want::Nothing => Stepped::ends(self.close(moment.now)),
+        }
+    }
+
+    /// Reads once, if its socket may be called.
+    fn read<S: Store, R: Clock + CpuClock>(
+        &mut self,
+        rt: &R,
+        lobby: &mut Lobby<S>,
+        tools: &mut Tools,
+        moment: &mut Moment,
+        readable: bool,
+    ) -> Stepped
+        requires { self.old.flow.want ≡ want.Read }
+        ensures { IsStepped self.old self.new result.end lobby.old lobby.new }
+    {
+        gate_flow::laws::gateways_are_hosted();
+        if !readable {
+            return Stepped::ends(End::Blocked(Side::Read));
+        }
+        match self.flow.read_from(&mut &self.stream) {
+            Ok(Step::Went(count)) => {
+                self.pace.moves(moment.now, count);
+                tools.counts.reads(count);
+                self.advance(rt, lobby, Want::Read, moment)
+            }
+            Ok(Step::Interrupted) => Stepped::goes_on(),
+            Ok(Step::Blocked) => Stepped::ends(End::Blocked(Side::Read)),
+            Err(fault) => Stepped::fails(fault),
+        }
+    }
+
+    /// Writes once, if its socket may be called.
+    fn write<S: Store, R: Clock + CpuClock>(
+        &mut self,
+        rt: &R,
+        lobby: &mut Lobby<S>,
+        tools: &mut Tools,
+        moment: &mut Moment,
+        writable: bool,
+    ) -> Stepped
+        requires { self.old.flow.want ≡ want.Write }
+        ensures { IsStepped self.old self.new result.end lobby.old lobby.new }
+    {
+        gate_flow::laws::gateways_are_hosted();
+        if !writable {
+            return Stepped::ends(End::Blocked(Side::Write));
+        }
+        match self.flow.write_to(&mut &self.stream) {
+            Ok(Step::Went(count)) => {
+                self.pace.moves(moment.now, count);
+                tools.counts.writes(count);
+                self.advance(rt, lobby, Want::Write, moment)
+            }
+            Ok(Step::Interrupted) => Stepped::goes_on(),
+            Ok(Step::Blocked) => {
+                self.pace.blocks(moment.now, &tools.limits);
+                Stepped::ends(End::Blocked(Side::Write))
+            }
+            Err(fault) => Stepped::fails(fault),
+        }
+    }
+
+    /// Calls the gateway, where that is what is to be done next.
     fn advance<S: Store, R: Clock + CpuClock>(
         &mut self,
         rt: &R,
-        gateway: &mut Gateway<S>,
+        lobby: &mut Lobby<S>,
         before: Want,
         moment: &mut Moment,
-    ) -> Result<bool, FlowFault> {
+    ) -> Stepped
+        ensures { IsStepped self.old self.new result.end lobby.old lobby.new }
+    {
+        gate_flow::laws::gateways_are_hosted();
         if self.flow.want() != Want::Advance {
-            return Ok(false);
+            return Stepped::goes_on();
         }
-        self.flow.advance(gateway)?;
-        let is_long = moment.passes(rt);
-        self.fresh = self.fresh && self.flow.want() == Want::Read;
-        match self.flow.want() {
-            Want::Read if before != Want::Read => self.pace.turns(moment.now, Way::Sends),
-            Want::Write if before != Want::Write => self.pace.turns(moment.now, Way::Takes),
+        if let Err(fault) = lobby.advance(&mut self.flow) {
+            return Stepped::fails(fault);
+        }
+        let long = moment.passes(rt);
+        let want = self.flow.want();
+        self.turns(before, want, moment.now);
+        Stepped {
+            end: if long { Some(End::Again) } else { None },
+            long,
+            replied: want != Want::Read,
+            fault: None,
+        }
+    }
+
+    /// Its pace counts anew where its flow turns from reading to writing, or back.
+    fn turns(&mut self, before: Want, want: Want, now: Instant)
+        ensures flow { self.new.flow ≡ self.old.flow }
+        ensures lingers { self.new.lingers ≡ self.old.lingers }
+    {
+        match want {
+            Want::Read if before != Want::Read => self.pace.turns(now, Way::Sends),
+            Want::Write if before != Want::Write => self.pace.turns(now, Way::Takes),
             _ => {}
         }
-        if is_long {
-            self.slow = SLOW_TURNS;
-        }
-        Ok(is_long)
     }
 
     /// Says no more, and goes on reading for a while where the peer may still send: closing a socket over bytes that
     /// weren't read would drop what the peer didn't take yet (RFC 9112, section 9.6).
-    fn close(&mut self, now: Instant) -> Turn {
+    fn close(&mut self, now: Instant) -> End
+        ensures flow { self.new.flow ≡ self.old.flow }
+        ensures goes { IsGoing result }
+    {
         if self.flow.has_ended() || self.stream.shutdown(Shutdown::Write).is_err() {
-            return Turn::Over;
+            return End::Over;
         }
         self.lingers = true;
         self.pace.turns(now, Way::Sends);
-        Turn::Again
+        End::Again
     }
 
-    /// Drops what the peer still sends, up to a limit.
-    pub fn drain(&mut self, scratch: &mut [u8], limits: &Limits, counts: &mut Counts) -> Turn {
-        for _ in 0..CALLS {
-            if self.dropped > limits.rest {
-                return Turn::Over;
+    /// Has its turn where all was said to it: what it still sends is dropped, up to a limit of bytes and of time.
+    fn drain(&mut self, tools: &mut Tools, now: Instant) -> Outcome
+        requires { self.old.lingers ≡ true }
+        ensures flow { self.new.flow ≡ self.old.flow }
+        ensures waits { EndsFor result.turned.end self.new }
+        ensures owed { result.turned.owed ≡ owes self.new }
+    {
+        let end = self.drop_some(tools, now);
+        let turned = self.turned(end, false, false);
+        Outcome {
+            turned,
+            fault: None,
+        }
+    }
+
+    /// Reads a few times, and drops what came.
+    fn drop_some(&mut self, tools: &mut Tools, now: Instant) -> End
+        ensures flow { self.new.flow ≡ self.old.flow }
+        ensures lingers { self.new.lingers ≡ self.old.lingers }
+        ensures reads { result ≢ End.Blocked side.Write }
+    {
+        if self.pace.is_over(now, tools.limits.linger) {
+            return End::Over;
+        }
+        'reads: for _ in 0..CALLS {
+            if self.dropped > tools.limits.rest {
+                return End::Over;
             }
-            match (&self.stream).read(scratch) {
-                Ok(0) => return Turn::Over,
+            match (&self.stream).read(&mut tools.scratch) {
+                Ok(0) => return End::Over,
                 Ok(count) => {
-                    counts.reads(count);
+                    tools.counts.reads(count);
                     self.dropped = self.dropped.saturating_add(count as u64);
                 }
                 Err(error) => match error.kind() {
-                    ErrorKind::WouldBlock => return Turn::Waits,
+                    ErrorKind::WouldBlock => return End::Blocked(Side::Read),
                     ErrorKind::Interrupted => {}
-                    _ => return Turn::Over,
+                    _ => return End::Over,
                 },
             }
         }
-        Turn::Again
+        End::Again
     }
 }

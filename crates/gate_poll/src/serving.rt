@@ -1,17 +1,23 @@
 //! The loop.
+ghost use Rattle.std.specs.Prelude.{◌≡◌, ◌≤◌, ℕ, IfOk};
+ghost use Rattle.gate_flow.specs.Hosted.{IsHosted};
+ghost use Rattle.gate_turns.specs.Lanes.{turns_due};
+ghost use Rattle.gate_poll.specs.Table.{IsTableKept, Serves};
+
 use crate::control::{Control, Desk};
 use crate::counts::Counts;
 use crate::fault::ServeFault;
-use crate::ids::Ids;
 use crate::limits::Limits;
+use crate::sockets::{Arrival, Entrance, register};
 use crate::table::Table;
 use crate::watch::Watch;
-use gate_core::Gateway;
+use gate_flow::Lobby;
+use gate_turns::Ending;
 use log::{Log, info, warn};
-use mio::net::{TcpListener, TcpStream};
-use mio::{Events, Interest, Poll, Token};
+use mio::event::Event;
+use mio::net::TcpListener;
+use mio::{Events, Poll, Token};
 use share_store::Store;
-use std::io::ErrorKind;
 use std::net::Net;
 use std::time::{Clock, CpuClock, Duration, Instant};
 
@@ -27,133 +33,105 @@ const EVENTS: usize = 1024;
 /// How many connections are accepted between two rounds of turns.
 const ACCEPTS: u32 = 64;
 
+/// How many control connections are accepted between two rounds of turns.
+const CONTROL_ACCEPTS: u32 = 16;
+
 /// How long the loop waits at most, and how often it looks for those whose time is over.
 const TICK_MILLIS: u64 = 500;
-
-/// Where connections come from.
-#[derive(Drop)]
-struct Door {
-    listener: TcpListener,
-    /// Whether connections may wait to be accepted.
-    waiting: bool,
-}
-
-/// What came of an attempt to accept a connection.
-#[derive(Drop)]
-enum Came {
-    /// A socket.
-    One(TcpStream),
-    /// One that is gone again.
-    Gone,
-    /// None waits.
-    Nobody,
-    /// The system gives none for now.
-    Starved,
-}
 
 /// The loop's state besides the connections.
 #[derive(Drop)]
 struct Gate {
     poll: Poll,
     /// `None` once serving is to stop.
-    door: Option<Door>,
-    control: Option<Door>,
-    ids: Ids,
-    /// Until when no connection is accepted, since the system gave none.
-    paused: Option<Instant>,
+    entrance: Option<Entrance>,
+    control: Option<Entrance>,
     swept: Instant,
     watch: Watch,
     /// Since when serving is to stop.
-    stopping: Option<Instant>,
+    ending: Ending,
 }
 
 /// Serves connections, all at once, until so many were served as the limits say, or a control request asked that
-/// serving stop. Each has an id of its own.
+/// serving stop. Each has an id of its own: the gateway is called for connections of ids from 1 on alone, which are opened
+/// under its own secret, and nothing else of it is changed.
 pub fn serve_on<S: Store, R: Net + Clock + CpuClock + AllocGlobal + Log, C: Control<S>>(
     rt: &R,
     listener: TcpListener,
     control: Option<TcpListener>,
     limits: &Limits,
-    gateway: &mut Gateway<S>,
+    lobby: &mut Lobby<S>,
     answers: &mut C,
-) -> Result<Counts, ServeFault> {
+) -> Result<Counts, ServeFault>
+    ensures hosted { (next : ℕ) × IsHosted 1 next lobby.old lobby.new }
+{
+    gate_flow::laws::gateways_are_hosted();
     let mut events = Events::with_capacity(rt.alloc(), EVENTS)?;
-    let mut table = Table::new(rt.alloc(), limits)?;
+    let mut table = Table::new(rt.alloc(), limits, Instant::now(rt)?)?;
     let mut desk = Desk::new(rt.alloc())?;
     let mut gate = Gate::open(rt, listener, control)?;
-    for _ in 0..u64::MAX {
-        let time = gate.time_to_wait(&table);
-        gate.poll.poll(&mut events, Some(time))?;
-        mark(&events, &mut gate, &mut table, &mut desk);
-        let now = Instant::now(rt)?;
-        gate.accept_some(rt, &mut table, gateway, now);
-        gate.accept_control(&mut desk, now);
-        table.round(rt, gateway, now);
-        desk.round(answers, &table.counts, gateway);
-        gate.sweep(rt, &mut table, &mut desk, gateway, now);
-        if gate.is_over(rt, &mut table, &desk, limits, gateway, now) {
-            break;
-        }
+    let ended = gate.serve(
+        rt,
+        &mut events,
+        &mut table,
+        &mut desk,
+        limits,
+        lobby,
+        answers,
+    );
+    table.give_up_all(lobby);
+    match ended {
+        Ok(()) => Ok(table.tools.counts),
+        Err(fault) => Err(fault),
     }
-    table.give_up_all(gateway);
-    Ok(table.counts)
 }
 
 /// Marks what was reported ready.
-fn mark(events: &Events, gate: &mut Gate, table: &mut Table, desk: &mut Desk) {
+fn mark(events: &Events, gate: &mut Gate, table: &mut Table, desk: &mut Desk)
+    requires { IsTableKept table.old }
+    ensures kept { IsTableKept table.new }
+    ensures ids { table.new.ids ≡ table.old.ids }
+    ensures due { turns_due table.new.turns.lanes ≡ turns_due table.old.turns.lanes }
+{
     for event in events {
-        let Token(token) = event.token();
-        if event.token() == LISTENER {
-            gate.knocks();
-        } else if event.token() == CONTROL {
-            gate.calls();
-        } else {
-            let readable = event.is_readable() || event.is_read_closed() || event.is_error();
-            let writable = event.is_writable() || event.is_write_closed() || event.is_error();
-            table.is_ready(token as u64, readable, writable);
-            desk.is_ready(token as u64);
-        }
+        mark_one(event, gate, table, desk);
     }
 }
 
-impl Door {
-    /// Begins to listen under a token.
-    fn open(poll: &Poll, mut listener: TcpListener, token: Token) -> Result<Door, ServeFault> {
-        poll.registry()
-            .register(&mut listener, token, Interest::READABLE)?;
-        Ok(Door {
-            listener,
-            waiting: true,
-        })
+/// Marks one that was reported ready.
+fn mark_one(event: &Event, gate: &mut Gate, table: &mut Table, desk: &mut Desk)
+    requires { IsTableKept table.old }
+    ensures kept { IsTableKept table.new }
+    ensures ids { table.new.ids ≡ table.old.ids }
+    ensures due { turns_due table.new.turns.lanes ≡ turns_due table.old.turns.lanes }
+{
+    let Token(token) = event.token();
+    if event.token() == LISTENER {
+        knock(&mut gate.entrance);
+        return;
     }
+    if event.token() == CONTROL {
+        knock(&mut gate.control);
+        return;
+    }
+    let readable = event.is_readable() || event.is_read_closed() || event.is_error();
+    let writable = event.is_writable() || event.is_write_closed() || event.is_error();
+    table.is_ready(token as u64, readable, writable);
+    desk.is_ready(token as u64);
+}
 
-    /// Accepts one connection.
-    fn accept(&mut self) -> Came {
-        if !self.waiting {
-            return Came::Nobody;
-        }
-        match self.listener.accept() {
-            Ok((stream, _)) => Came::One(stream),
-            Err(error) => match error.kind() {
-                ErrorKind::WouldBlock => {
-                    self.waiting = false;
-                    Came::Nobody
-                }
-                ErrorKind::ConnectionAborted | ErrorKind::Interrupted => Came::Gone,
-                _ => Came::Starved,
-            },
-        }
+/// Connections may wait to be accepted.
+fn knock(entrance: &mut Option<Entrance>) {
+    if let Some(entrance) = entrance {
+        entrance.door.knocks();
     }
 }
 
-/// Registers a socket under an id that was not used before.
-fn register(poll: &Poll, ids: &mut Ids, stream: &mut TcpStream) -> Option<u64> {
-    let id = ids.take()?;
-    let both = Interest::READABLE | Interest::WRITABLE;
-    let _ = stream.set_nodelay(true);
-    match poll.registry().register(stream, Token(id as usize), both) {
-        Ok(()) => Some(id),
-        Err(_) => None,
+/// Whether one may be accepted now, where there is room for it or not.
+fn may_accept(entrance: &Option<Entrance>, now: Instant, room: bool) -> bool {
+    match entrance {
+        Some(entrance) => entrance.door.may_accept(now, room),
+        None => false,
     }
 }
 
@@ -165,51 +143,84 @@ impl Gate {
         control: Option<TcpListener>,
     ) -> Result<Gate, ServeFault> {
         let poll = Poll::new(rt)?;
-        let door = Door::open(&poll, listener, LISTENER)?;
+        let entrance = Entrance::open(&poll, listener, LISTENER)?;
         let control = match control {
-            Some(listener) => Some(Door::open(&poll, listener, CONTROL)?),
+            Some(listener) => Some(Entrance::open(&poll, listener, CONTROL)?),
             None => None,
         };
         Ok(Gate {
             poll,
-            door: Some(door),
+            entrance: Some(entrance),
             control,
-            ids: Ids::new(),
-            paused: None,
             swept: Instant::now(rt)?,
             watch: Watch::new(rt.alloc()),
-            stopping: None,
+            ending: Ending::new(),
         })
     }
 
+    /// Serves, a round after the other, until that is over.
+    fn serve<S: Store, R: Clock + CpuClock + Log, C: Control<S>>(
+        &mut self,
+        rt: &R,
+        events: &mut Events,
+        table: &mut Table,
+        desk: &mut Desk,
+        limits: &Limits,
+        lobby: &mut Lobby<S>,
+        answers: &mut C,
+    ) -> Result<(), ServeFault>
+        requires kept { IsTableKept table.old }
+        requires over { turns_due table.old.turns.lanes ≡ 0 }
+        ensures served { Serves table.old table.new lobby.old lobby.new }
+    {
+        gate_flow::laws::gateways_are_hosted();
+        'rounds: for _ in 0..u64::MAX {
+            if self.round(rt, events, table, desk, limits, lobby, answers)? {
+                return Ok(());
+            }
+        }
+        Ok(())
+    }
+
+    /// One round: what is ready is marked, some are accepted, and those that have a turn to come have it. It is said
+    /// whether serving is over.
+    fn round<S: Store, R: Clock + CpuClock + Log, C: Control<S>>(
+        &mut self,
+        rt: &R,
+        events: &mut Events,
+        table: &mut Table,
+        desk: &mut Desk,
+        limits: &Limits,
+        lobby: &mut Lobby<S>,
+        answers: &mut C,
+    ) -> Result<bool, ServeFault>
+        requires kept { IsTableKept table.old }
+        requires over { turns_due table.old.turns.lanes ≡ 0 }
+        ensures served { Serves table.old table.new lobby.old lobby.new }
+        ensures over { turns_due table.new.turns.lanes ≡ 0 }
+    {
+        gate_flow::laws::gateways_are_hosted();
+        let time = self.time_to_wait(table, Instant::now(rt)?);
+        self.poll.poll(events, Some(time))?;
+        mark(events, self, table, desk);
+        let now = Instant::now(rt)?;
+        self.accept_some(rt, table, lobby, now);
+        self.accept_control(table, desk, now);
+        table.round(rt, lobby, now);
+        desk.round(answers, &table.tools.counts, lobby.gateway());
+        self.sweep(rt, table, desk, lobby, now);
+        Ok(self.is_over(rt, table, desk, limits, lobby, now))
+    }
+
     /// How long it may be waited for sockets: not at all while a turn is to come, or a connection may be accepted.
-    fn time_to_wait(&self, table: &Table) -> Duration {
-        if table.has_turns() || (self.may_accept() && table.has_room()) {
+    fn time_to_wait(&self, table: &Table, now: Instant) -> Duration {
+        if table.has_turns()
+            || may_accept(&self.entrance, now, table.has_room())
+            || may_accept(&self.control, now, true)
+        {
             Duration::ZERO
         } else {
             tick()
-        }
-    }
-
-    /// Whether connections may wait to be accepted, and the system gives sockets.
-    fn may_accept(&self) -> bool {
-        match &self.door {
-            Some(door) => door.waiting && self.paused.is_none(),
-            None => false,
-        }
-    }
-
-    /// Connections may wait to be accepted.
-    fn knocks(&mut self) {
-        if let Some(door) = &mut self.door {
-            door.waiting = true;
-        }
-    }
-
-    /// Control connections may wait to be accepted.
-    fn calls(&mut self) {
-        if let Some(door) = &mut self.control {
-            door.waiting = true;
         }
     }
 
@@ -218,50 +229,37 @@ impl Gate {
         &mut self,
         rt: &R,
         table: &mut Table,
-        gateway: &mut Gateway<S>,
+        lobby: &mut Lobby<S>,
         now: Instant,
-    ) {
-        let Some(door) = &mut self.door else {
+    )
+        requires { IsTableKept table.old }
+        ensures served { Serves table.old table.new lobby.old lobby.new }
+        ensures due { turns_due table.new.turns.lanes ≡ turns_due table.old.turns.lanes }
+    {
+        gate_flow::laws::gateways_are_hosted();
+        let Some(entrance) = &mut self.entrance else {
             return;
         };
-        if let Some(until) = self.paused {
-            if now < until {
+        'attempts: for _ in 0..ACCEPTS {
+            if !accept_one(rt, entrance, &self.poll, table, lobby, now) {
                 return;
-            }
-            self.paused = None;
-        }
-        for _ in 0..ACCEPTS {
-            if !table.has_room() {
-                return;
-            }
-            match door.accept() {
-                Came::One(mut stream) => match register(&self.poll, &mut self.ids, &mut stream) {
-                    Some(id) => table.take_in(id, stream, gateway, now),
-                    None => table.refuses(),
-                },
-                Came::Gone => {}
-                Came::Nobody => return,
-                Came::Starved => {
-                    warn!(rt; "accept paused: the system gives no socket");
-                    table.starves();
-                    self.paused = now.checked_add(tick());
-                    return;
-                }
             }
         }
     }
 
-    /// Accepts one control connection, if there is room.
-    fn accept_control(&mut self, desk: &mut Desk, now: Instant) {
-        let Some(door) = &mut self.control else {
+    /// Accepts the control connections that wait, as many as may be open.
+    fn accept_control(&mut self, table: &mut Table, desk: &mut Desk, now: Instant)
+        requires { IsTableKept table.old }
+        ensures kept { IsTableKept table.new }
+        ensures next { table.old.ids.next ≤ table.new.ids.next }
+        ensures turns { table.new.turns ≡ table.old.turns }
+    {
+        let Some(entrance) = &mut self.control else {
             return;
         };
-        if !desk.has_room() {
-            return;
-        }
-        if let Came::One(mut stream) = door.accept() {
-            if let Some(id) = register(&self.poll, &mut self.ids, &mut stream) {
-                desk.take_in(id, stream, now);
+        'attempts: for _ in 0..CONTROL_ACCEPTS {
+            if !accept_call(entrance, &self.poll, table, desk, now) {
+                return;
             }
         }
     }
@@ -272,40 +270,51 @@ impl Gate {
         rt: &R,
         table: &mut Table,
         desk: &mut Desk,
-        gateway: &mut Gateway<S>,
+        lobby: &mut Lobby<S>,
         now: Instant,
-    ) {
-        if now.duration_since(self.swept) >= tick() {
-            self.swept = now;
-            table.sweep(rt, gateway, now);
-            desk.sweep(now);
-            self.watch.look(rt, gateway);
+    )
+        requires { IsTableKept table.old }
+        ensures served { Serves table.old table.new lobby.old lobby.new }
+        ensures due { turns_due table.new.turns.lanes ≡ turns_due table.old.turns.lanes }
+    {
+        gate_flow::laws::gateways_are_hosted();
+        if now.duration_since(self.swept) < tick() {
+            return;
         }
+        self.swept = now;
+        table.sweep(rt, lobby, now);
+        desk.sweep(now);
+        self.watch.look(rt, lobby.gateway());
     }
 
     /// Whether serving is over: all that are to be served were, or all was said after it was to stop, or the time for
-    /// that is over.
+    /// that is over. A stop waits for no control connection.
     fn is_over<S: Store, R: Log>(
         &mut self,
         rt: &R,
         table: &mut Table,
         desk: &Desk,
         limits: &Limits,
-        gateway: &mut Gateway<S>,
+        lobby: &mut Lobby<S>,
         now: Instant,
-    ) -> bool {
-        if let Some(since) = self.stopping {
-            let quiet = table.is_empty() && desk.is_empty();
-            return quiet || now.duration_since(since) >= limits.stopping;
+    ) -> bool
+        requires { IsTableKept table.old }
+        ensures served { Serves table.old table.new lobby.old lobby.new }
+        ensures due { turns_due table.new.turns.lanes ≡ turns_due table.old.turns.lanes }
+    {
+        gate_flow::laws::gateways_are_hosted();
+        if self.ending.is_asked() {
+            return self.ending.is_over(table.len(), now, limits.stopping);
         }
         if desk.stops {
-            info!(rt; "stopping: {} connections are open", table.counts.open);
-            self.stopping = Some(now);
-            self.door = None;
-            table.stop_all(gateway);
+            info!(rt; "stopping: {} connections are open", table.tools.counts.open);
+            self.ending.asks(now);
+            self.entrance = None;
+            table.stop_all(lobby);
+            return table.is_empty();
         }
         match limits.served {
-            Some(most) => table.counts.opened >= most && table.is_empty(),
+            Some(most) => table.tools.counts.opened >= most && table.is_empty(),
             None => false,
         }
     }
@@ -313,4 +322,67 @@ impl Gate {
 
 fn tick() -> Duration {
     Duration::from_millis(TICK_MILLIS)
+}
+
+/// Accepts one connection, and says whether there may be more.
+fn accept_one<S: Store, R: Log>(
+    rt: &R,
+    entrance: &mut Entrance,
+    poll: &Poll,
+    table: &mut Table,
+    lobby: &mut Lobby<S>,
+    now: Instant,
+) -> bool
+    requires { IsTableKept table.old }
+    ensures served { Serves table.old table.new lobby.old lobby.new }
+    ensures due { turns_due table.new.turns.lanes ≡ turns_due table.old.turns.lanes }
+{
+    gate_flow::laws::gateways_are_hosted();
+    if !entrance.door.may_accept(now, table.has_room()) {
+        return false;
+    }
+    match entrance.accept(now) {
+        Arrival::Socket(stream) => {
+            table.take_in(poll, stream, lobby, now);
+            true
+        }
+        Arrival::Gone => true,
+        Arrival::Nobody => false,
+        Arrival::Starved => {
+            warn!(rt; "accept paused: the system gives no socket");
+            table.tools.counts.starves();
+            false
+        }
+    }
+}
+
+/// Accepts one control connection, and says whether there may be more.
+fn accept_call(
+    entrance: &mut Entrance,
+    poll: &Poll,
+    table: &mut Table,
+    desk: &mut Desk,
+    now: Instant,
+) -> bool
+    requires { IsTableKept table.old }
+    ensures kept { IsTableKept table.new }
+    ensures next { table.old.ids.next ≤ table.new.ids.next }
+    ensures turns { table.new.turns ≡ table.old.turns }
+{
+    if !entrance.door.may_accept(now, true) {
+        return false;
+    }
+    match entrance.accept(now) {
+        Arrival::Socket(mut stream) => {
+            let Some(id) = table.new_id() else {
+                return false;
+            };
+            if register(poll, id, &mut stream) {
+                desk.take_in(id, stream, now);
+            }
+            true
+        }
+        Arrival::Gone => true,
+        Arrival::Nobody | Arrival::Starved => false,
+    }
 }

@@ -1,296 +1,423 @@
 //! The connections by their ids.
-ghost use Rattle.std.specs.Prelude.{◌≡◌, ◌<◌, ◌≤◌, ◌↔◌, IsTrue};
-ghost use Rattle.std.specs.BTreeMap.{btree_map_len};
+ghost use Rattle.std.specs.Prelude.{◌≡◌, ◌≢◌, ◌+◌, ◌<◌, ◌≤◌, ◌↔◌, ℕ, IsTrue, Some, None, true, false, IfOk, IfSome, IfNone, length};
+ghost use Rattle.gate_flow.specs.Hosted.{IsHosted, IsOwnId};
+ghost use Rattle.gate_turns.specs.Seat.{new_seat};
+ghost use Rattle.gate_turns.specs.Lanes.{turns_due};
+ghost use Rattle.gate_turns.specs.Turns.{seat_at, HasCome, OthersStay};
+ghost use Rattle.gate_poll.specs.Peers.{owes};
+ghost use Rattle.gate_poll.specs.Table.{peer_in, OthersKept, IsOwnPeer, AreOwnPeers, IsTurnOf, AreKeptBut, IsSocketCalled};
 
-use crate::counts::Counts;
+use crate::ids::Ids;
 use crate::limits::Limits;
-use crate::peer::{Lane, Moment, Peer, Turn};
-use gate_core::Gateway;
-use gate_flow::{Flow, FlowFault};
+use crate::peer::{Moment, Outcome, Peer};
+use crate::sockets::register;
+use crate::tools::Tools;
+use gate_flow::{Flow, Lobby};
+use gate_turns::{Chosen, Lane, Seat, Turns};
 use log::{Log, warn};
+use mio::Poll;
 use mio::net::TcpStream;
 use share_store::Store;
 use std::alloc::{AllocError, Global};
-use std::collections::{BTreeMap, VecDeque};
+use std::collections::BTreeMap;
 use std::time::{Clock, CpuClock, Instant};
-
-/// How many bytes of a connection that was closed are dropped at a time.
-const SCRATCH: usize = 4096;
-
-/// For how many connections there is room in the queues from the beginning.
-const QUEUED: usize = 4096;
 
 /// How many connections are cut at a time.
 const CUT: usize = 1024;
 
-/// The connections by their ids, and those that have a turn to come. An id is a connection's id in the gateway and its
-/// token in the poll, and none is used twice: an event that comes late finds nothing.
+/// The connections by their ids, each with its seat among those that have turns. An id is a connection's id in the gateway
+/// and its token in the poll, and none is used twice: an event that comes late finds nothing.
 #[derive(Drop)]
 pub struct Table {
     alloc: Global,
-    limits: Limits,
+    ids: Ids,
     peers: BTreeMap<u64, Peer>,
-    quick: VecDeque<u64>,
-    fresh: VecDeque<u64>,
-    slow: VecDeque<u64>,
-    scratch: Vec<u8>,
+    turns: Turns,
     cut: Vec<u64>,
     stopping: bool,
-    /// What happened so far.
-    pub counts: Counts,
+    /// What turns are had with.
+    pub tools: Tools,
 }
 
 impl Table {
-    /// No connections.
-    pub fn new(alloc: Global, limits: &Limits) -> Result<Table, AllocError> {
-        let queued = limits.most.min(QUEUED);
+    ghost use Rattle.gate_poll.specs.Table.{IsTableKept, Serves};
+
+    /// No connections, and room for as many as the limits say.
+    pub fn new(alloc: Global, limits: &Limits, now: Instant) -> Result<Table, AllocError>
+        ensures kept { IfOk result IsTableKept }
+        ensures first { IfOk result (λ table. table.ids.next ≡ 1) }
+        ensures due { IfOk result (λ table. turns_due table.turns.lanes ≡ 0) }
+    {
         Ok(Table {
             alloc,
-            limits: *limits,
+            ids: Ids::new(),
             peers: BTreeMap::new(alloc),
-            quick: VecDeque::with_capacity(alloc, queued)?,
-            fresh: VecDeque::with_capacity(alloc, queued)?,
-            slow: VecDeque::with_capacity(alloc, queued)?,
-            scratch: vec![in alloc; 0u8; SCRATCH]?,
+            turns: Turns::new(alloc, limits.most)?,
             cut: Vec::with_capacity(alloc, CUT)?,
             stopping: false,
-            counts: Counts::new(),
+            tools: Tools::new(alloc, limits, now)?,
         })
     }
 
     /// Whether there is room for one more connection.
     pub fn has_room(&self) -> bool
-        ensures { IsTrue result ↔ (btree_map_len self.now.peers < self.now.limits.most) }
+        ensures { IsTrue result ↔ (length self.now.turns.seats < self.now.tools.limits.most) }
     {
-        self.limits.has_room(self.peers.len())
+        self.tools.limits.has_room(self.turns.len())
+    }
+
+    /// How many connections are open.
+    pub fn len(&self) -> usize
+        ensures { result ≡ length self.now.turns.seats }
+    {
+        self.turns.len()
     }
 
     /// Whether no connection is open.
-    pub fn is_empty(&self) -> bool {
-        self.peers.is_empty()
+    pub fn is_empty(&self) -> bool
+        ensures { IsTrue result ↔ (length self.now.turns.seats ≡ 0) }
+    {
+        self.len() == 0
     }
 
     /// Whether one has a turn to come.
     pub fn has_turns(&self) -> bool {
-        !self.quick.is_empty() || !self.fresh.is_empty() || !self.slow.is_empty()
+        self.turns.has_turns()
     }
 
-    /// Takes a socket in, under an id that was not used before. Where the gateway or memory refuses it, it is dropped.
+    /// An id that was not used before, for a control connection. `None` once all were.
+    pub fn new_id(&mut self) -> Option<u64>
+        requires { IsTableKept self.old }
+        ensures kept { IsTableKept self.new }
+        ensures next { self.old.ids.next ≤ self.new.ids.next }
+        ensures turns { self.new.turns ≡ self.old.turns }
+    {
+        self.ids.take()
+    }
+
+    /// Takes a socket in, under an id that was not used before. Where the system, the gateway or memory refuses it, it is
+    /// dropped.
     pub fn take_in<S: Store>(
         &mut self,
-        id: u64,
-        stream: TcpStream,
-        gateway: &mut Gateway<S>,
+        poll: &Poll,
+        mut stream: TcpStream,
+        lobby: &mut Lobby<S>,
         now: Instant,
     )
-        requires room { btree_map_len self.old.peers < self.old.limits.most }
-        ensures bound { btree_map_len self.new.peers ≤ self.old.limits.most }
-        ensures limits { self.new.limits ≡ self.old.limits }
+        requires { IsTableKept self.old }
+        ensures served { Serves self.old self.new lobby.old lobby.new }
+        ensures due { turns_due self.new.turns.lanes ≡ turns_due self.old.turns.lanes }
     {
-        let Ok(flow) = Flow::open(self.alloc, gateway, id, None) else {
-            self.refuses();
+        gate_flow::laws::gateways_are_hosted();
+        let Some(id) = self.ids.take() else {
+            self.tools.counts.refuses();
             return;
         };
-        let mut peer = Peer::new(stream, flow, now);
-        peer.queued = self.fresh.push_back(id).is_ok();
-        match self.peers.insert(id, peer) {
-            Ok(_) => {
-                self.counts.opened = self.counts.opened.saturating_add(1);
-                self.counts.open = self.peers.len() as u64;
-            }
-            Err(refused) => {
-                let (_, peer) = refused.value;
-                peer.into_flow().close(gateway);
-                self.refuses();
+        if !register(poll, id, &mut stream) {
+            self.tools.counts.refuses();
+            return;
+        }
+        let Ok(flow) = lobby.open(self.alloc, id) else {
+            self.tools.counts.refuses();
+            return;
+        };
+        let peer = Peer::new(stream, flow, now);
+        match add(&mut self.peers, &mut self.turns, id, peer) {
+            None => self.tools.counts.opens(self.turns.len()),
+            Some(flow) => {
+                give_up(lobby, flow);
+                self.tools.counts.refuses();
             }
         }
     }
 
-    /// A socket was closed at once.
-    pub fn refuses(&mut self)
-        ensures peers { self.new.peers ≡ self.old.peers }
-        ensures limits { self.new.limits ≡ self.old.limits }
+    /// A socket was reported ready. An id that is not open changes nothing.
+    pub fn is_ready(&mut self, id: u64, readable: bool, writable: bool)
+        requires { IsTableKept self.old }
+        ensures kept { IsTableKept self.new }
+        ensures ids { self.new.ids ≡ self.old.ids }
+        ensures due { turns_due self.new.turns.lanes ≡ turns_due self.old.turns.lanes }
     {
-        self.counts.refused = self.counts.refused.saturating_add(1);
+        self.turns.report(id, readable, writable);
     }
 
-    /// No socket could be accepted.
-    pub fn starves(&mut self) {
-        self.counts.starved = self.counts.starved.saturating_add(1);
-    }
-
-    /// A socket was reported ready.
-    pub fn is_ready(&mut self, id: u64, readable: bool, writable: bool) {
-        if let Some(peer) = self.peers.get_mut(&id) {
-            peer.is_ready(readable, writable);
-        }
-        self.enqueue(id);
-    }
-
-    /// Puts a connection into its queue, if it stands in none.
-    fn enqueue(&mut self, id: u64) {
-        let Some(peer) = self.peers.get_mut(&id) else {
-            return;
-        };
-        if peer.queued {
-            return;
-        }
-        peer.queued = match peer.lane() {
-            Lane::Quick => self.quick.push_back(id).is_ok(),
-            Lane::Fresh => self.fresh.push_back(id).is_ok(),
-            Lane::Slow => self.slow.push_back(id).is_ok(),
-        };
-    }
-
-    /// Each quick connection that has a turn to come has it, then fresh ones up to the first long step, and then one of
-    /// the slow ones.
+    /// A round of turns, as `Turns` gives them.
     pub fn round<S: Store, R: Clock + CpuClock + Log>(
         &mut self,
         rt: &R,
-        gateway: &mut Gateway<S>,
+        lobby: &mut Lobby<S>,
         now: Instant,
-    ) {
+    )
+        requires kept { IsTableKept self.old }
+        requires over { turns_due self.old.turns.lanes ≡ 0 }
+        ensures served { Serves self.old self.new lobby.old lobby.new }
+        ensures over { turns_due self.new.turns.lanes ≡ 0 }
+    {
+        gate_flow::laws::gateways_are_hosted();
         let mut moment = Moment::at(rt, now);
-        for _ in 0..self.quick.len() {
-            if let Some(id) = self.quick.pop_front() {
-                let _ = self.turn(rt, gateway, id, &mut moment);
-            }
-        }
-        self.fresh_turns(rt, gateway, &mut moment);
-        if let Some(id) = self.slow.pop_front() {
-            let _ = self.turn(rt, gateway, id, &mut moment);
+        self.turns.begin_round();
+        'turns: while let Some(chosen) = self.turns.next() {
+            self.turn(rt, lobby, chosen, &mut moment);
         }
     }
 
-    /// Fresh connections have their turns, up to the first long step.
-    fn fresh_turns<S: Store, R: Clock + CpuClock + Log>(
-        &mut self,
-        rt: &R,
-        gateway: &mut Gateway<S>,
-        moment: &mut Moment,
-    ) {
-        for _ in 0..self.fresh.len() {
-            if let Some(id) = self.fresh.pop_front() {
-                if self.turn(rt, gateway, id, moment) {
-                    return;
-                }
-            }
-        }
-    }
-
-    /// A connection has its turn, and it is said whether that had a long step.
+    /// A connection has its turn.
     fn turn<S: Store, R: Clock + CpuClock + Log>(
         &mut self,
         rt: &R,
-        gateway: &mut Gateway<S>,
-        id: u64,
+        lobby: &mut Lobby<S>,
+        chosen: Chosen,
         moment: &mut Moment,
-    ) -> bool {
-        let Some(peer) = self.peers.get_mut(&id) else {
-            return false;
+    )
+        requires { IsTurnOf chosen.id self.old.ids.next self.old.peers.entries self.old.turns }
+        ensures served { Serves self.old self.new lobby.old lobby.new }
+        ensures due { turns_due self.new.turns.lanes ≤ turns_due self.old.turns.lanes }
+    {
+        gate_flow::laws::gateways_are_hosted();
+        let id = chosen.id;
+        let Some(seat) = self.turns.seat(id) else {
+            return;
         };
-        peer.queued = false;
-        let turn = if peer.is_done() {
-            peer.drain(&mut self.scratch, &self.limits, &mut self.counts)
-        } else {
-            peer.turn(rt, gateway, &self.limits, &mut self.counts, moment)
-        };
-        let may_end = self.stopping && !peer.is_owed();
-        let took_long = peer.took_long();
-        match turn {
-            Turn::Again | Turn::Waits if may_end => self.stop(id, gateway),
-            Turn::Again => self.enqueue(id),
-            Turn::Waits => {}
-            Turn::Over => {
-                self.counts.over = self.counts.over.saturating_add(1);
-                self.remove(id, gateway);
-            }
-            Turn::Failed(fault) => self.fail(rt, id, fault, gateway),
+        let outcome = call(
+            &mut self.peers,
+            rt,
+            lobby,
+            &mut self.tools,
+            moment,
+            id,
+            &seat,
+        );
+        shorten(
+            &mut self.turns,
+            outcome.turned.long && chosen.lane == Lane::Fresh,
+        );
+        if !self.turns.turned(id, outcome.turned, self.stopping) {
+            self.tools.tells(rt, id, &outcome, moment.now);
+            self.remove(id, lobby);
+            moment.skips(rt);
         }
-        took_long
     }
 
-    /// Cuts a connection whose socket failed, or for which memory was refused.
-    fn fail<S: Store, R: Log>(
-        &mut self,
-        rt: &R,
-        id: u64,
-        fault: FlowFault,
-        gateway: &mut Gateway<S>,
-    ) {
-        warn!(rt; "connection {} cut: {}", id, fault);
-        self.counts.failed = self.counts.failed.saturating_add(1);
-        self.remove(id, gateway);
-    }
-
-    /// Closes a connection to which nothing is owed.
-    fn stop<S: Store>(&mut self, id: u64, gateway: &mut Gateway<S>) {
-        self.counts.stopped = self.counts.stopped.saturating_add(1);
-        self.remove(id, gateway);
-    }
-
-    /// Closes a connection, and gives up what the gateway holds of it.
-    fn remove<S: Store>(&mut self, id: u64, gateway: &mut Gateway<S>) {
-        if let Some(peer) = self.peers.remove(&id) {
-            peer.into_flow().close(gateway);
-            // Nothing of it takes memory from now on; where memory was refused its entry stays.
-            let _ = gateway.forget(id);
-        }
-        self.counts.open = self.peers.len() as u64;
+    /// Closes a connection that has no seat any more, and gives up what the gateway holds of it.
+    fn remove<S: Store>(&mut self, id: u64, lobby: &mut Lobby<S>)
+        requires { AreKeptBut id self.old.ids.next self.old.peers.entries self.old.turns }
+        ensures served { Serves self.old self.new lobby.old lobby.new }
+        ensures turns { self.new.turns ≡ self.old.turns }
+    {
+        gate_flow::laws::gateways_are_hosted();
+        let flow = take_out(&mut self.peers, id);
+        give_up_some(lobby, flow);
+        self.tools.counts.closes(self.turns.len());
     }
 
     /// Cuts those whose time is over, at most 1,024 of them.
-    pub fn sweep<S: Store, R: Log>(&mut self, rt: &R, gateway: &mut Gateway<S>, now: Instant) {
-        self.cut.clear();
-        for (id, peer) in self.peers.iter() {
-            if self.cut.len() < CUT && peer.is_late(now, &self.limits) {
-                let _ = self.cut.push(*id);
-            }
-        }
-        for _ in 0..self.cut.len() {
-            if let Some(id) = self.cut.pop() {
-                self.cut_late(rt, id, gateway);
-            }
+    pub fn sweep<S: Store, R: Log>(&mut self, rt: &R, lobby: &mut Lobby<S>, now: Instant)
+        requires { IsTableKept self.old }
+        ensures served { Serves self.old self.new lobby.old lobby.new }
+        ensures due { turns_due self.new.turns.lanes ≡ turns_due self.old.turns.lanes }
+    {
+        gate_flow::laws::gateways_are_hosted();
+        self.tools.journal.tell(rt);
+        find_late(&self.peers, &self.tools.limits, now, &mut self.cut);
+        'late: for _ in 0..self.cut.len() {
+            let Some(id) = self.cut.pop() else {
+                return;
+            };
+            self.cut_late(rt, id, lobby, now);
         }
     }
 
-    /// Cuts a connection whose time is over. One to which all was said is over.
-    fn cut_late<S: Store, R: Log>(&mut self, rt: &R, id: u64, gateway: &mut Gateway<S>) {
-        let was_told = match self.peers.get(&id) {
-            Some(peer) => peer.is_done(),
-            None => return,
-        };
-        if was_told {
-            self.counts.over = self.counts.over.saturating_add(1);
-        } else {
-            warn!(rt; "connection {} cut: its time was over", id);
-            self.counts.late = self.counts.late.saturating_add(1);
+    /// Cuts a connection whose time is over, if it waits for its socket. One to which all was said is over.
+    fn cut_late<S: Store, R: Log>(&mut self, rt: &R, id: u64, lobby: &mut Lobby<S>, now: Instant)
+        requires { IsTableKept self.old }
+        ensures served { Serves self.old self.new lobby.old lobby.new }
+        ensures due { turns_due self.new.turns.lanes ≡ turns_due self.old.turns.lanes }
+    {
+        gate_flow::laws::gateways_are_hosted();
+        if !self.turns.leave(id) {
+            return;
         }
-        self.remove(id, gateway);
+        let told = self.is_told(id);
+        self.tools.cuts(rt, id, told, now);
+        self.remove(id, lobby);
+    }
+
+    /// Whether all was said to a connection.
+    fn is_told(&self, id: u64) -> bool {
+        match self.peers.get(&id) {
+            Some(peer) => peer.is_done(),
+            None => false,
+        }
     }
 
     /// From now on connections are closed once nothing is owed to them, those that wait for a request at once.
-    pub fn stop_all<S: Store>(&mut self, gateway: &mut Gateway<S>) {
+    pub fn stop_all<S: Store>(&mut self, lobby: &mut Lobby<S>)
+        requires { IsTableKept self.old }
+        ensures served { Serves self.old self.new lobby.old lobby.new }
+        ensures due { turns_due self.new.turns.lanes ≡ turns_due self.old.turns.lanes }
+    {
+        gate_flow::laws::gateways_are_hosted();
         self.stopping = true;
-        let mut ended = Vec::new(self.alloc);
-        for (id, peer) in self.peers.iter() {
-            if !peer.is_owed() && ended.push(*id).is_err() {
+        let ids = self.all_ids();
+        for id in &ids {
+            self.dismiss(*id, lobby);
+        }
+    }
+
+    /// The ids of the connections, as many as there is memory for.
+    fn all_ids(&self) -> Vec<u64> {
+        let mut ids = Vec::new(self.alloc);
+        for (id, _) in self.peers.iter() {
+            if ids.push(*id).is_err() {
                 break;
             }
         }
-        for id in &ended {
-            self.stop(*id, gateway);
+        ids
+    }
+
+    /// Closes a connection that waits for its socket and to which nothing is owed.
+    fn dismiss<S: Store>(&mut self, id: u64, lobby: &mut Lobby<S>)
+        requires { IsTableKept self.old }
+        ensures served { Serves self.old self.new lobby.old lobby.new }
+        ensures due { turns_due self.new.turns.lanes ≡ turns_due self.old.turns.lanes }
+    {
+        gate_flow::laws::gateways_are_hosted();
+        if self.turns.dismiss(id) {
+            self.tools.counts.stops();
+            self.remove(id, lobby);
         }
     }
 
     /// Closes all connections.
-    pub fn give_up_all<S: Store>(&mut self, gateway: &mut Gateway<S>) {
-        for _ in 0..self.peers.len() {
-            if let Some((_, peer)) = self.peers.pop_first() {
-                peer.into_flow().close(gateway);
-                self.counts.stopped = self.counts.stopped.saturating_add(1);
-            }
+    pub fn give_up_all<S: Store>(&mut self, lobby: &mut Lobby<S>)
+        requires { IsTableKept self.old }
+        ensures hosted { IsHosted 1 self.old.ids.next lobby.old lobby.new }
+    {
+        gate_flow::laws::gateways_are_hosted();
+        'all: for _ in 0..self.peers.len() {
+            let flow = take_first(&mut self.peers);
+            give_up_some(lobby, flow);
+            self.tools.counts.stops();
         }
-        self.counts.open = 0;
+        self.tools.counts.closes(0);
     }
+}
+
+/// Cuts a round short for fresh ones, if one of them had a long step.
+fn shorten(turns: &mut Turns, long: bool)
+    ensures seats { turns.new.seats ≡ turns.old.seats }
+    ensures turn { turns.new.turn ≡ turns.old.turn }
+    ensures due { turns_due turns.new.lanes ≤ turns_due turns.old.lanes }
+{
+    if long {
+        turns.cut_short();
+    }
+}
+
+/// Finds those whose time is over, at most 1,024 of them.
+fn find_late(peers: &BTreeMap<u64, Peer>, limits: &Limits, now: Instant, late: &mut Vec<u64>) {
+    late.clear();
+    for (id, peer) in peers.iter() {
+        if late.len() < CUT && peer.is_late(now, limits) {
+            let _ = late.push(*id);
+        }
+    }
+}
+
+/// Calls the socket of a connection that has its turn. It is over where there is no such connection.
+fn call<S: Store, R: Clock + CpuClock>(
+    peers: &mut BTreeMap<u64, Peer>,
+    rt: &R,
+    lobby: &mut Lobby<S>,
+    tools: &mut Tools,
+    moment: &mut Moment,
+    id: u64,
+    seat: &Seat,
+) -> Outcome
+    requires { IfSome (peer_in peers.old.entries id) (λ peer. peer.flow.id ≡ id) }
+    ensures called { IfSome (peer_in peers.old.entries id) (λ _.
+        IsSocketCalled id result.turned peers.old.entries peers.new.entries) }
+    ensures others { OthersKept id peers.old.entries peers.new.entries }
+    ensures hosted { IsHosted id (id + 1) lobby.old lobby.new }
+{
+    gate_flow::laws::gateways_are_hosted();
+    match peers.get_mut(&id) {
+        Some(peer) => peer.goes_on(rt, lobby, tools, moment, seat),
+        None => Outcome::none(),
+    }
+}
+
+/// Gives a connection a seat. Where memory is refused its flow comes back, and nothing changed.
+fn add(peers: &mut BTreeMap<u64, Peer>, turns: &mut Turns, id: u64, peer: Peer) -> Option<Flow>
+    requires fresh { peer_in peers.old.entries id ≡ None }
+    requires seat { seat_at turns.old id ≡ None }
+    requires idle { turns.old.turn ≡ None }
+    requires owed { owes peer ≡ false }
+    ensures added { IfNone result (HasCome id new_seat turns.old turns.new
+        × (peer_in peers.new.entries id ≡ Some peer)) }
+    ensures refused { IfSome result (λ flow. (flow ≡ peer.flow) × (turns.new ≡ turns.old)
+        × (peer_in peers.new.entries id ≡ None)) }
+    ensures others { OthersKept id peers.old.entries peers.new.entries }
+    ensures seats { OthersStay id turns.old turns.new }
+    ensures turn { turns.new.turn ≡ None }
+{
+    if let Err(refused) = peers.insert(id, peer) {
+        let (_, peer) = refused.value;
+        return Some(peer.into_flow());
+    }
+    if turns.open(id) {
+        return None;
+    }
+    match peers.remove(&id) {
+        Some(peer) => Some(peer.into_flow()),
+        None => None,
+    }
+}
+
+/// Takes a connection out, and gives its flow.
+fn take_out(peers: &mut BTreeMap<u64, Peer>, id: u64) -> Option<Flow>
+    ensures gone { peer_in peers.new.entries id ≡ None }
+    ensures others { OthersKept id peers.old.entries peers.new.entries }
+    ensures own { (next : ℕ) → IsOwnPeer next id (peer_in peers.old.entries id) →
+        IfSome result (λ flow. IsOwnId 1 next flow.id) }
+{
+    match peers.remove(&id) {
+        Some(peer) => Some(peer.into_flow()),
+        None => None,
+    }
+}
+
+/// Takes one of the connections out, and gives its flow.
+fn take_first(peers: &mut BTreeMap<u64, Peer>) -> Option<Flow>
+    ensures own { (next : ℕ) → AreOwnPeers next peers.old.entries →
+        IfSome result (λ flow. IsOwnId 1 next flow.id) }
+    ensures others { (next : ℕ) → AreOwnPeers next peers.old.entries →
+        AreOwnPeers next peers.new.entries }
+{
+    match peers.pop_first() {
+        Some((_, peer)) => Some(peer.into_flow()),
+        None => None,
+    }
+}
+
+/// Gives up what the gateway holds of a connection, if there is one.
+fn give_up_some<S: Store>(lobby: &mut Lobby<S>, flow: Option<Flow>)
+    ensures { (next : ℕ) → 1 ≤ next → IfSome flow (λ flow. IsOwnId 1 next flow.id) →
+        IsHosted 1 next lobby.old lobby.new }
+{
+    gate_flow::laws::gateways_are_hosted();
+    match flow {
+        Some(flow) => give_up(lobby, flow),
+        None => {}
+    }
+}
+
+/// Gives up what the gateway holds of a connection. Where memory is refused its entry stays.
+fn give_up<S: Store>(lobby: &mut Lobby<S>, flow: Flow)
+    ensures { IsHosted flow.id (flow.id + 1) lobby.old lobby.new }
+{
+    gate_flow::laws::gateways_are_hosted();
+    let id = flow.id();
+    lobby.close(flow);
+    lobby.forget(id);
 }

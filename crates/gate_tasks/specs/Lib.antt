@@ -1,3 +1,5 @@
+-- Read Text, Command and Lines for the language of scripts, Script and Replies for what is answered;
+-- Serving, Running and Turns for the program.
 pub mod Text
 pub mod Command
 pub mod Lines

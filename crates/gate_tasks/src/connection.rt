@@ -88,7 +88,7 @@ fn read_once<R: Read>(flow: &mut Flow, reader: &mut R) -> Result<Want, FlowFault
         (R.remaining reader.old) (R.remaining reader.new) }
 {
     match flow.read_from(reader) {
-        Ok(Step::Went(_)) => Ok(flow.want()),
+        Ok(Step::Went(_) | Step::Interrupted) => Ok(flow.want()),
         Ok(Step::Blocked) => Err(FlowFault::ReadFailed),
         Err(fault) => Err(fault),
     }
@@ -103,7 +103,7 @@ fn write_once<W: Write>(flow: &mut Flow, writer: &mut W) -> Result<(), FlowFault
     ensures stops { IfErr result (λ fault. (g : State) → StopsAt fault flow.new g) }
 {
     match flow.write_to(writer) {
-        Ok(Step::Went(_)) => Ok(()),
+        Ok(Step::Went(_) | Step::Interrupted) => Ok(()),
         Ok(Step::Blocked) => Err(FlowFault::WriteFailed),
         Err(fault) => Err(fault),
     }

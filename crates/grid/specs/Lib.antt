@@ -1,3 +1,4 @@
+-- Read GridState and Standing first, then Leaves, Changed and Refusals; Image is the bytes of an image, over Layout and Rows.
 pub mod Changed
 pub mod Changes
 pub mod Found

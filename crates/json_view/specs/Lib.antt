@@ -1,3 +1,4 @@
+-- Read Nodes and Checks; the texts are of Strings and Values.
 pub mod Strings
 pub mod Nodes
 pub mod Checks

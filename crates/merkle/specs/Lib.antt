@@ -1,3 +1,4 @@
+-- Read Tree first; Chain and Leads say what a leaf proves of the root.
 pub mod Chain
 pub mod Filled
 pub mod Height

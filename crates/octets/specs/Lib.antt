@@ -1,3 +1,4 @@
+-- Independent of each other.
 pub mod Sharing
 pub mod Decimal
 pub mod Cut

@@ -1,3 +1,2 @@
-pub mod PathLemmas
 pub mod WalkLemmas
 pub mod WayLemmas

@@ -1,2 +1,3 @@
+-- Read Asked, then Resolved.
 pub mod Asked
 pub mod Resolved

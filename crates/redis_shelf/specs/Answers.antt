@@ -1,7 +1,10 @@
--- What replies say; for private clauses.
-use Rattle.std.specs.Prelude.{◌≡◌, ◌⊎◌, ℕ, pos, List, [], ◌∷◌, codes, decimal, Option, Some, None}
+-- What replies say.
+use Rattle.std.specs.Prelude.{◌≡◌, ◌⊎◌, ℕ, pos, List, [], ◌∷◌, codes, decimal, nat_eq, IsTrue, Option, Some, None}
+use Rattle.std.specs.List.{starts_with}
 use Rattle.redis_shelf.specs.declared.change.Kind.{Kind}
 use Rattle.redis_shelf.specs.declared.change.Kind.TheVariants.{Put, Remove}
+use Rattle.redis_shelf.specs.declared.fault.RedisFault.{RedisFault}
+use Rattle.redis_shelf.specs.declared.fault.RedisFault.TheVariants.{Refused, Full}
 use Rattle.resp.specs.declared.reply.Item.{Item}
 use Rattle.resp.specs.declared.reply.Item.TheVariants as item
 use Rattle.resp.specs.declared.reply.Element.TheVariants as element
@@ -32,3 +35,30 @@ page cursor names = reply.Several (element.One (item.Bulk (decimal cursor)) ∷ 
 
 abbrev pub IsPage : Reply → ℕ → List Item → Type 0
 IsPage answer cursor names = answer ≡ page cursor names
+
+-- an error reply: the server heard what it was told, and doesn't do it
+abbrev pub IsError : Reply → Type 0
+IsError answer = (why : List ℕ) × (answer ≡ reply.One (item.Error why))
+
+-- an error reply of a kind, which is the word that it begins with
+abbrev pub IsErrorOf : List ℕ → Reply → Type 0
+IsErrorOf kind answer = (why : List ℕ) × (answer ≡ reply.One (item.Error why)) × IsTrue (starts_with nat_eq why kind)
+
+-- `-OOM ..`: the server has no memory left
+abbrev pub IsFullError : Reply → Type 0
+IsFullError answer = IsErrorOf (codes "OOM ") answer
+
+-- `-WRONGTYPE ..`: what stands under the name are no bytes
+abbrev pub IsOtherKind : Reply → Type 0
+IsOtherKind answer = IsErrorOf (codes "WRONGTYPE ") answer
+
+-- A share's bytes came, or that there is none: nothing stands there, or no bytes, or what are none.
+abbrev pub GivesShare : Reply → Option (List ℕ) → Type 0
+GivesShare answer None = IsValue answer None ⊎ (IsValue answer (Some []) ⊎ IsOtherKind answer)
+GivesShare answer (Some bytes) = IsValue answer (Some bytes)
+
+-- that an error reply came to what was told
+abbrev pub IsRefusal : RedisFault → Type 0
+IsRefusal Refused = Unit {0}
+IsRefusal Full = Unit {0}
+IsRefusal _ = ⊥

@@ -1,8 +1,9 @@
 //! What replies say.
-ghost use Rattle.std.specs.Prelude.{◌≡◌, ◌≢◌, ◌↔◌, ◌<◌, ◌^◌, ℕ, List, Option, IsTrue, IfSome, IfNone, decimal};
+ghost use Rattle.std.specs.Prelude.{◌≡◌, ◌≢◌, ◌↔◌, ◌<◌, ◌^◌, ℕ, List, Option, IsTrue, IfOk, IfErr, IfSome, IfNone, decimal, length};
 ghost use Rattle.resp.specs.declared.reply.Item.{Item};
-ghost use Rattle.redis_shelf.specs.Answers.{IsDone, IsDeleted, IsValue, IsPage};
+ghost use Rattle.redis_shelf.specs.Answers.{IsDone, IsDeleted, IsValue, IsPage, IsError, IsFullError, IsOtherKind, IsRefusal, GivesShare};
 
+use crate::RedisFault;
 use octets::laws::numbers_have_one_text;
 use octets::{Bytes, read_number};
 use resp::{Element, Item, Reply};
@@ -27,8 +28,57 @@ pub(crate) fn is_deleted(reply: &Reply) -> bool
     }
 }
 
+/// What is wrong with a reply that isn't the one that was wanted.
+pub(crate) fn fault_of(reply: &Reply) -> RedisFault
+    ensures refused { IsRefusal result ↔ IsError reply.now }
+    ensures full { (result ≡ RedisFault.Full) ↔ IsFullError reply.now }
+{
+    match reply {
+        Reply::One(Item::Error(why)) => {
+            if why.as_slice().starts_with(b"OOM ") {
+                RedisFault::Full
+            } else {
+                RedisFault::Refused
+            }
+        }
+        _ => RedisFault::OtherReply,
+    }
+}
+
+/// Whether it says that what stands under a name are no bytes.
+pub(crate) fn is_other_kind(reply: &Reply) -> bool
+    ensures { IsTrue result ↔ IsOtherKind reply.now }
+{
+    match reply {
+        Reply::One(Item::Error(why)) => why.as_slice().starts_with(b"WRONGTYPE "),
+        _ => false,
+    }
+}
+
+/// The bytes of a share that stand under a name, or that there are none: nothing stands there, or no bytes do. Or what is
+/// wrong with a reply that says neither.
+pub(crate) fn share_in(reply: Reply) -> Result<Option<Bytes>, RedisFault>
+    ensures found { IfOk result (λ share. GivesShare reply share) }
+    ensures some { IfOk result (λ share. IfSome share (λ bytes. 0 < length bytes)) }
+    ensures wrong { IfErr result (λ fault. (IsRefusal fault ↔ IsError reply)
+        × ((share : Option (List ℕ)) → GivesShare reply share → ⊥)) }
+{
+    let fault = fault_of(&reply);
+    let other_kind = is_other_kind(&reply);
+    match bulk_in(reply) {
+        Some(Some(bytes)) => {
+            if bytes.is_empty() {
+                return Ok(None);
+            }
+            Ok(Some(bytes))
+        }
+        Some(None) => Ok(None),
+        None => { if other_kind { Ok(None) } else { Err(fault) } }
+    }
+}
+
 /// The bytes that stand under a name, or that none do. `None` where it is no such reply.
-pub(crate) fn value_in(reply: Reply) -> Option<Option<Bytes>>
+fn bulk_in(reply: Reply) -> Option<Option<Bytes>>
     ensures found { IfSome result (λ value. IsValue reply value) }
     ensures none { IfNone result ((value : Option (List ℕ)) → IsValue reply value → ⊥) }
 {

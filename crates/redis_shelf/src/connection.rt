@@ -1,36 +1,35 @@
 //! A connection that is made anew where it is needed.
-ghost use Rattle.std.specs.Prelude.{◌≡◌, ◌≢◌, ◌<◌, ℕ, List, IfOk, IfErr, OnOk, OnErr};
+ghost use Rattle.std.specs.Prelude.{◌≡◌, ◌<◌, ℕ, List, IfOk, IfErr, OnOk, OnErr};
 ghost use Rattle.resp.specs.Spelled.{SpellsReply};
-ghost use Rattle.resp.specs.declared.reply.Item.TheVariants as item;
 ghost use Rattle.resp.specs.declared.reply.Reply.{Reply};
-ghost use Rattle.resp.specs.declared.reply.Reply.TheVariants as replies;
-ghost use Rattle.redis_shelf.specs.Answers.{IsAnswer};
-ghost use Rattle.redis_shelf.specs.Told.{command_of, with_more, Ends, IsAll, said_first, said_again, opening, doubt_of, IsReady, IsCommanded, IsLetGo, IsLeft};
+ghost use Rattle.redis_shelf.specs.Answers.{IsAnswer, IsDone, IsError, IsRefusal};
+ghost use Rattle.redis_shelf.specs.Commands.{auth_command};
+ghost use Rattle.redis_shelf.specs.Told.{command_of, short_limits, with_exchange, IsGreeted, IsReady, IsExchanged, IsChangeTold, IsLeft};
 
-use crate::answers::is_done;
+use crate::answers::{fault_of, is_done};
 use crate::change::Change;
 use crate::commands::auth;
 use crate::fault::ChangeFault;
 use crate::talk::{talk, talk_parts};
-use crate::{Link, RedisFault};
+use crate::{Link, RedisFault, Settings};
 use octets::Bytes;
-use resp::{Item, Limits, Reply};
+use resp::{Limits, Reply};
 use std::alloc::Global;
 
 /// How large a reply to a change may be.
-pub(crate) const SHORT: Limits = Limits {
+const SHORT: Limits = Limits {
     line: 512,
     bulk: 512,
     elements: 16,
 };
 
 /// What there is of a connection.
-#[derive(Debug, Drop)]
+#[derive(Clone, Copy, Debug, PartialEq, Eq)]
 pub(crate) enum State {
     /// One is open, and what it was told is answered.
     Open,
-    /// None is. A change whose answer was lost is to be made once more before anything else is asked.
-    Closed(Option<Change>),
+    /// None is.
+    Closed,
 }
 
 /// A connection to a server, or the way to one.
@@ -38,10 +37,6 @@ pub(crate) enum State {
 pub(crate) struct Connection<L: Link + Drop> {
     pub(crate) alloc: Global,
     pub(crate) link: L,
-    /// What the server wants to be told first.
-    pub(crate) password: Option<Bytes>,
-    /// For how many seconds the server is left alone after a fault.
-    pub(crate) rest: u64,
     pub(crate) state: State,
     /// When the server may be asked again, in the link's seconds.
     pub(crate) resumes: u64,
@@ -49,70 +44,74 @@ pub(crate) struct Connection<L: Link + Drop> {
 
 impl<L: Link + Drop> Connection<L> {
     /// Tells a command and gives its reply. Where the connection is closed it is opened first.
-    pub(crate) fn ask(&mut self, limits: Limits, command: &[u8]) -> Result<Reply, RedisFault>
+    pub(crate) fn ask(
+        &mut self,
+        settings: &Settings,
+        limits: Limits,
+        command: &[u8],
+    ) -> Result<Reply, RedisFault>
         requires { 0 < limits.line }
         ensures open { OnOk result (self.new.state ≡ State.Open) }
-        ensures told { OnOk result (IsCommanded self.old.state self.old.password
-            (L.written self.old.link) (L.written self.new.link) command.now) }
-        ensures heard { IfOk result (λ reply. (came : List ℕ) × SpellsReply limits reply came
-            × Ends (L.heard self.new.link) came) }
-        ensures closed { OnErr result (IsLetGo self.old.state self.new.state) }
+        ensures asked { IfOk result (λ reply. (came : List ℕ) × SpellsReply limits reply came
+            × IsExchanged self.old.state settings.now.password (L.talk self.old.link)
+            (L.talk self.new.link) command.now came) }
+        ensures closed { OnErr result (self.new.state ≡ State.Closed) }
+        ensures not_refused { IfErr result (λ fault. IsRefusal fault → ⊥) }
     {
-        self.ready()?;
+        self.ready(settings)?;
         match talk(self.alloc, &mut self.link, limits, command) {
             Ok(reply) => Ok(reply),
             Err(fault) => {
-                self.close(fault, None);
+                self.let_go(settings.rest, fault);
                 Err(fault)
             }
         }
     }
 
-    /// Makes a change. One whose answer is lost is in doubt until it is made once more.
-    pub(crate) fn change(&mut self, change: Change) -> Result<(), ChangeFault>
+    /// Makes a change. Where the server refuses it, it is not done, and the connection stays.
+    pub(crate) fn change(&mut self, settings: &Settings, change: &Change) -> Result<(), ChangeFault>
         ensures open { OnOk result (self.new.state ≡ State.Open) }
-        ensures told { OnOk result (IsCommanded self.old.state self.old.password
-            (L.written self.old.link) (L.written self.new.link) (command_of change)) }
-        ensures left { IfErr result (λ fault.
-            IsLeft fault change self.old.state self.new.state) }
+        ensures made { OnOk result (IsChangeTold self.old.state settings.now.password
+            (L.talk self.old.link) (L.talk self.new.link) change.now.kind
+            (command_of change.now)) }
+        ensures left { IfErr result (λ fault. IsLeft fault self.new.state) }
     {
-        if let Err(fault) = self.ready() {
+        if let Err(fault) = self.ready(settings) {
             return Err(ChangeFault::NotDone(fault));
         }
-        match make(self.alloc, &mut self.link, &change) {
+        match make(self.alloc, &mut self.link, change) {
             Ok(()) => Ok(()),
-            Err(RedisFault::Refused) => {
-                self.close(RedisFault::Refused, None);
-                Err(ChangeFault::NotDone(RedisFault::Refused))
-            }
             Err(fault) => {
-                self.close(fault, Some(change));
+                if fault.is_refusal() {
+                    return Err(ChangeFault::NotDone(fault));
+                }
+                self.let_go(settings.rest, fault);
                 Err(ChangeFault::Lost(fault))
             }
         }
     }
 
-    /// Opens a connection where none is open: it is told who asks, and the change in doubt. Nothing is done where the
-    /// server is left alone.
-    fn ready(&mut self) -> Result<(), RedisFault>
+    /// Opens a connection where none is open, and says who asks. Nothing is done where the server is left alone.
+    pub(crate) fn ready(&mut self, settings: &Settings) -> Result<(), RedisFault>
         ensures open { OnOk result (self.new.state ≡ State.Open) }
-        ensures told { OnOk result (IsReady self.old.state self.old.password
-            (L.written self.old.link) (L.written self.new.link)) }
-        ensures closed { OnErr result (self.new.state ≡ State.Closed (doubt_of self.old.state)) }
+        ensures ready { OnOk result (IsReady self.old.state settings.now.password
+            (L.talk self.old.link) (L.talk self.new.link)) }
+        ensures closed { OnErr result (self.new.state ≡ State.Closed) }
+        ensures not_refused { IfErr result (λ fault. IsRefusal fault → ⊥) }
     {
-        let State::Closed(doubt) = &self.state else {
+        if self.state == State::Open {
             return Ok(());
-        };
+        }
         if self.link.seconds() < self.resumes {
             return Err(RedisFault::Resting);
         }
-        match greet(self.alloc, &mut self.link, &self.password, doubt) {
+        match greet(self.alloc, &mut self.link, &settings.password) {
             Ok(()) => {
                 self.state = State::Open;
                 Ok(())
             }
             Err(fault) => {
-                self.let_go(fault);
+                self.let_go(settings.rest, fault);
                 Err(fault)
             }
         }
@@ -125,95 +124,73 @@ impl<L: Link + Drop> Connection<L> {
         let Connection {
             alloc: _,
             link,
-            password: _,
-            rest: _,
             state: _,
             resumes: _,
         } = self;
         link
     }
 
-    /// Lets the connection go for this fault, with this change in doubt.
-    pub(crate) fn close(&mut self, fault: RedisFault, doubt: Option<Change>)
-        ensures { self.new.state ≡ State.Closed doubt }
+    /// What to do of a reply that isn't the one that was wanted: where it is an error reply the connection is healthy and
+    /// stays, and else it is let go.
+    pub(crate) fn reject(&mut self, rest: u64, fault: RedisFault)
+        ensures healthy { IsRefusal fault → self.new ≡ self.old }
+        ensures closed { (IsRefusal fault → ⊥) → self.new.state ≡ State.Closed }
     {
-        self.let_go(fault);
-        self.state = State::Closed(doubt);
-    }
-
-    /// Lets the connection go for a reply that isn't the one that was wanted, and says what is wrong with it.
-    pub(crate) fn reject(&mut self, reply: &Reply) -> RedisFault
-        ensures { self.new.state ≡ State.Closed None }
-    {
-        let fault = fault_of(reply);
-        self.close(fault, None);
-        fault
+        if !fault.is_refusal() {
+            self.let_go(rest, fault);
+        }
     }
 
     /// Lets the connection go for this fault, and the server alone for a while, where it isn't for want of memory here.
-    fn let_go(&mut self, fault: RedisFault)
-        ensures { self.new.state ≡ self.old.state }
+    fn let_go(&mut self, rest: u64, fault: RedisFault)
+        ensures { self.new.state ≡ State.Closed }
     {
         self.link.close();
+        self.state = State::Closed;
         if fault != RedisFault::NoMemory {
-            self.resumes = self.link.seconds().saturating_add(self.rest);
+            self.resumes = self.link.seconds().saturating_add(rest);
         }
     }
 }
 
-/// Opens a connection, says who asks, and makes a change that is in doubt.
-fn greet<L: Link>(
-    alloc: Global,
-    link: &mut L,
-    password: &Option<Bytes>,
-    doubt: &Option<Change>,
-) -> Result<(), RedisFault>
-    ensures { OnOk result (IsAll (L.written link.new) (opening password.now doubt.now)) }
+/// Opens a connection, and says who asks.
+fn greet<L: Link>(alloc: Global, link: &mut L, password: &Option<Bytes>) -> Result<(), RedisFault>
+    ensures greeted { OnOk result (IsGreeted password.now (L.talk link.new)) }
+    ensures not_refused { IfErr result (λ fault. IsRefusal fault → ⊥) }
 {
     link.connect()?;
-    log_in(alloc, link, password)?;
-    settle(alloc, link, doubt)?;
-    Ok(())
-}
-
-/// Makes a change that is in doubt, where there is one.
-fn settle<L: Link>(alloc: Global, link: &mut L, doubt: &Option<Change>) -> Result<(), RedisFault>
-    ensures { OnOk result
-        (L.written link.new ≡ with_more (L.written link.old) (said_again doubt.now)) }
-{
-    let Some(change) = doubt else {
-        return Ok(());
-    };
-    make(alloc, link, change)
-}
-
-/// Says who asks, where there is a password.
-fn log_in<L: Link>(alloc: Global, link: &mut L, password: &Option<Bytes>) -> Result<(), RedisFault>
-    ensures { OnOk result
-        (L.written link.new ≡ with_more (L.written link.old) (said_first password.now)) }
-{
-    let Some(password) = password else {
-        return Ok(());
-    };
-    let command = auth(alloc, password.as_slice())?;
-    let reply = talk(alloc, link, SHORT, &command)?;
-    if is_done(&reply) {
-        Ok(())
-    } else {
-        Err(fault_of(&reply))
+    match password {
+        None => Ok(()),
+        Some(password) => log_in(alloc, link, password.as_slice()),
     }
 }
 
-/// Makes a change. `Refused` only where the server said that it refuses.
+/// Says who asks.
+fn log_in<L: Link>(alloc: Global, link: &mut L, password: &[u8]) -> Result<(), RedisFault>
+    ensures taken { OnOk result ((reply : Reply) × (came : List ℕ) × IsDone reply
+        × SpellsReply short_limits reply came × (L.talk link.new
+        ≡ with_exchange (L.talk link.old) (auth_command password.now) came)) }
+    ensures not_refused { IfErr result (λ fault. IsRefusal fault → ⊥) }
+{
+    let command = auth(alloc, password)?;
+    let reply = talk(alloc, link, SHORT, &command)?;
+    if is_done(&reply) {
+        return Ok(());
+    }
+    match fault_of(&reply) {
+        RedisFault::OtherReply => Err(RedisFault::OtherReply),
+        _ => Err(RedisFault::NotAdmitted),
+    }
+}
+
+/// Makes a change. Refused only where the server said that it refuses.
 fn make<L: Link>(alloc: Global, link: &mut L, change: &Change) -> Result<(), RedisFault>
-    ensures told { OnOk result
-        (L.written link.new ≡ with_more (L.written link.old) (command_of change.now)) }
-    ensures answered { OnOk result ((reply : Reply) × (came : List ℕ)
-        × IsAnswer change.now.kind reply × SpellsReply SHORT reply came
-        × (L.heard link.new ≡ with_more (L.heard link.old) came)) }
-    ensures refused { IfErr result (λ fault. fault ≡ RedisFault.Refused → (why came : List ℕ)
-        × SpellsReply SHORT (replies.One (item.Error why)) came
-        × (L.heard link.new ≡ with_more (L.heard link.old) came)) }
+    ensures made { OnOk result ((reply : Reply) × (came : List ℕ)
+        × IsAnswer change.now.kind reply × SpellsReply short_limits reply came
+        × (L.talk link.new ≡ with_exchange (L.talk link.old) (command_of change.now) came)) }
+    ensures refused { IfErr result (λ fault. IsRefusal fault → (reply : Reply) × (came : List ℕ)
+        × IsError reply × SpellsReply short_limits reply came
+        × (L.talk link.new ≡ with_exchange (L.talk link.old) (command_of change.now) came)) }
 {
     let reply = tell(alloc, link, change)?;
     if change.is_answered(&reply) {
@@ -225,25 +202,13 @@ fn make<L: Link>(alloc: Global, link: &mut L, change: &Change) -> Result<(), Red
 
 /// Tells the command of a change and gives its reply. A share's bytes are written from where they are.
 fn tell<L: Link>(alloc: Global, link: &mut L, change: &Change) -> Result<Reply, RedisFault>
-    ensures written { OnOk result
-        (L.written link.new ≡ with_more (L.written link.old) (command_of change.now)) }
-    ensures heard { IfOk result (λ reply. (came : List ℕ) × SpellsReply SHORT reply came
-        × (L.heard link.new ≡ with_more (L.heard link.old) came)) }
-    ensures not_refused { IfErr result (λ fault. fault ≢ RedisFault.Refused) }
+    ensures exchanged { IfOk result (λ reply. (came : List ℕ) × SpellsReply short_limits reply came
+        × (L.talk link.new ≡ with_exchange (L.talk link.old) (command_of change.now) came)) }
+    ensures not_refused { IfErr result (λ fault. IsRefusal fault → ⊥) }
 {
     let head = change.head.as_slice();
     match &change.share {
         None => talk(alloc, link, SHORT, head),
         Some(share) => talk_parts(alloc, link, SHORT, &[head, share.as_slice(), b"\r\n"]),
-    }
-}
-
-/// What is wrong with a reply that isn't the one that was wanted.
-pub(crate) fn fault_of(reply: &Reply) -> RedisFault
-    ensures { result ≡ RedisFault.Refused → (why : List ℕ) × (reply.now ≡ replies.One (item.Error why)) }
-{
-    match reply {
-        Reply::One(Item::Error(_)) => RedisFault::Refused,
-        _ => RedisFault::OtherReply,
     }
 }

@@ -1,5 +1,6 @@
 //! Why a server gave no answer.
-ghost use Rattle.std.specs.Prelude.{◌≡◌, ◌⊎◌};
+ghost use Rattle.std.specs.Prelude.{◌≡◌, ◌⊎◌, ◌↔◌, IsTrue};
+ghost use Rattle.redis_shelf.specs.Answers.{IsRefusal};
 ghost use Rattle.redis_shelf.specs.declared.fault.RedisFault.TheVariants.{Link, NoReply, NoMemory};
 
 use resp::RespFault;
@@ -12,7 +13,8 @@ use thiserror::Error;
 #[error("the stream failed")]
 pub struct LinkFault;
 
-/// Why a server gave no answer. The connection is let go then, but for the first and the last two.
+/// Why a server gave no answer. The connection is let go then, and the server left alone for a while, but for where it
+/// was not asked or refused by an error reply, the share is too long, or there was no memory.
 #[derive(Clone, Copy, Debug, PartialEq, Eq, Error)]
 pub enum RedisFault {
     /// It was not asked, since it failed less than the seconds before that it is left alone then.
@@ -24,18 +26,36 @@ pub enum RedisFault {
     /// What came is no reply, or one that is too large.
     #[error("what came is no reply")]
     NoReply,
-    /// The server said that it didn't do what it was told.
+    /// The server didn't take the password.
+    #[error("the server refused the password")]
+    NotAdmitted,
+    /// The server said, by an error reply, that it doesn't do what it was told. The connection is healthy.
     #[error("the server refused")]
     Refused,
+    /// The server said so because it has no memory left.
+    #[error("the server is full")]
+    Full,
     /// A reply came that is none to what was told, or bytes behind it.
     #[error("the reply is none to what was asked")]
     OtherReply,
+    /// The list of the server's names doesn't come to an end.
+    #[error("the list of its names doesn't end")]
+    Endless,
     /// The share is longer than the shelf's longest.
     #[error("the share is too long")]
     TooLong,
     /// There was no memory for the call.
     #[error("out of memory")]
     NoMemory,
+}
+
+impl RedisFault {
+    /// Whether the server heard what it was told and said that it doesn't do it.
+    pub(crate) fn is_refusal(&self) -> bool
+        ensures { IsTrue result ↔ IsRefusal self.now }
+    {
+        matches!(self, RedisFault::Refused | RedisFault::Full)
+    }
 }
 
 /// Why a change is not known to be done.

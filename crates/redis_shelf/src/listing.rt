@@ -1,5 +1,5 @@
 //! What a server says that it has.
-ghost use Rattle.std.specs.Prelude.{IsTrue, OnOk, IfOk};
+ghost use Rattle.std.specs.Prelude.{◌≡◌, [], IsTrue, OnOk, IfOk};
 ghost use Rattle.redis_shelf.specs.Keys.{IsTaken, IsGathered};
 
 use crate::keys::read_key;
@@ -8,7 +8,7 @@ use resp::Item;
 use std::alloc::{AllocError, Global};
 
 /// How many names are told that are no share's, at most.
-const TOLD: usize = 64;
+pub(crate) const TOLD: usize = 64;
 
 /// What was found.
 #[derive(Drop)]
@@ -23,7 +23,9 @@ pub(crate) struct Listed {
 
 impl Listed {
     /// Nothing.
-    pub(crate) fn new(alloc: Global) -> Listed {
+    pub(crate) fn new(alloc: Global) -> Listed
+        ensures { result.shares.items ≡ [] }
+    {
         Listed {
             shares: Vec::new(alloc),
             strangers: Vec::new(alloc),

@@ -1,22 +1,24 @@
 //! The shelf.
 ghost use Rattle.std.specs.FinMap.{empty};
-ghost use Rattle.std.specs.Prelude.{◌≡◌, ◌≤◌, ◌<◌, ◌+◌, ◌-◌, ◌^◌, ◌==◌, ◌↔◌, ℕ, List, Option, None, Some, false, OnOk, OnErr, IfOk, IfErr, IsErrOf, if◌then◌else◌};
+ghost use Rattle.std.specs.Prelude.{◌≡◌, ◌≢◌, ◌≤◌, ◌<◌, ◌+◌, ◌-◌, ◌^◌, ◌==◌, ◌↔◌, ℕ, List, None, Some, false, length, Contains, OnOk, IfOk, IfErr, IfSome, IsErrOf, if◌then◌else◌};
 ghost use Rattle.std.specs.Option.{option_map};
 ghost use Rattle.std.specs.Rc.{rc_slice_items};
-ghost use Rattle.redis_shelf.specs.Commands.{set_command, get_command, delete_command, scan_command};
-ghost use Rattle.redis_shelf.specs.Keys.{key, IsGathered};
-ghost use Rattle.redis_shelf.specs.Answers.{page};
+ghost use Rattle.share_shelf.specs.Left.{IsQuiet};
 ghost use Rattle.resp.specs.Spelled.{SpellsReply};
 ghost use Rattle.resp.specs.declared.reply.Item.{Item};
-ghost use Rattle.redis_shelf.specs.Told.{command_of, Ends, IsCommanded, IsGiven, IsUnsure, value_limits};
+ghost use Rattle.redis_shelf.specs.Answers.{page, IsRefusal};
+ghost use Rattle.redis_shelf.specs.Commands.{set_command, get_command, delete_command, scan_command};
+ghost use Rattle.redis_shelf.specs.Keys.{key, IsGathered};
+ghost use Rattle.redis_shelf.specs.Scan.{IsListed};
+ghost use Rattle.redis_shelf.specs.Told.{Talk, command_of, page_limits, IsReady, IsExchanged, IsChangeTold, IsGiven, IsConnectionLeft};
 
-use crate::answers::{page_in, value_in};
-use crate::change::Change;
+use crate::answers::{fault_of, is_other_kind, page_in, share_in};
+use crate::change::{Change, Kind};
 use crate::commands::{get, scan};
-use crate::connection::{Connection, State, fault_of};
+use crate::connection::{Connection, State};
 use crate::fault::ChangeFault;
 use crate::keys::spell_key;
-use crate::listing::Listed;
+use crate::listing::{Listed, TOLD};
 use crate::{Link, RedisFault};
 use octets::Bytes;
 use resp::Limits;
@@ -27,12 +29,18 @@ use std::rc::RcSlice;
 /// How large a part of the list of names may be.
 const PAGE: Limits = Limits {
     line: 512,
-    bulk: 4096,
+    bulk: 65536,
     elements: 16384,
 };
 
-/// How many parts the list may have.
-const PAGES: u32 = 1 << 24;
+/// How many parts the list may have: some 1,000 of the server's names are in each.
+const PAGES: u32 = 1 << 20;
+
+/// How many parts may follow each other with no share in them.
+const IDLE_PAGES: u32 = 1 << 16;
+
+/// How many shares a list may have.
+const LISTED: usize = 1 << 26;
 
 /// What a shelf has to know of its server.
 #[derive(Drop)]
@@ -43,7 +51,7 @@ pub struct Settings {
     pub password: Option<Bytes>,
     /// How many bytes a share has, at most.
     pub longest: u32,
-    /// For how many seconds the server is left alone after a fault.
+    /// For how many seconds the server is left alone after a fault of the connection.
     pub rest: u64,
 }
 
@@ -51,8 +59,7 @@ pub struct Settings {
 #[derive(Drop)]
 pub struct RedisShelf<L: Link + Drop> {
     connection: Connection<L>,
-    grid: Bytes,
-    longest: u32,
+    settings: Settings,
     failures: u64,
     last_fault: Option<RedisFault>,
     strangers: Vec<Bytes>,
@@ -61,24 +68,19 @@ pub struct RedisShelf<L: Link + Drop> {
 
 impl<L: Link + Drop> RedisShelf<L> {
     /// The shelf on the server that this link leads to. Nothing is asked yet.
-    pub fn new(alloc: Global, link: L, settings: Settings) -> RedisShelf<L> {
-        let Settings {
-            grid,
-            password,
-            longest,
-            rest,
-        } = settings;
+    pub fn new(alloc: Global, link: L, settings: Settings) -> RedisShelf<L>
+        ensures settings { result.settings ≡ settings }
+        ensures link { result.connection.link ≡ link }
+        ensures closed { result.connection.state ≡ State.Closed }
+    {
         RedisShelf {
             connection: Connection {
                 alloc,
                 link,
-                password,
-                rest,
-                state: State::Closed(None),
+                state: State::Closed,
                 resumes: 0,
             },
-            grid,
-            longest,
+            settings,
             failures: 0,
             last_fault: None,
             strangers: Vec::new(alloc),
@@ -92,8 +94,7 @@ impl<L: Link + Drop> RedisShelf<L> {
     {
         let RedisShelf {
             connection,
-            grid: _,
-            longest: _,
+            settings: _,
             failures: _,
             last_fault: _,
             strangers: _,
@@ -103,12 +104,14 @@ impl<L: Link + Drop> RedisShelf<L> {
     }
 
     /// Why the shelf failed when it last did.
-    pub fn last_fault(&self) -> Option<RedisFault> {
+    pub fn last_fault(&self) -> Option<RedisFault>
+        ensures { result ≡ self.now.last_fault }
+    {
         self.last_fault
     }
 
-    /// Names that begin with the grid's id and are no share's, as the last [`Shelf::list`] found them: the first of them,
-    /// and how many there are. They were left alone.
+    /// Names that begin with the grid's id and are no share's, and those of shares under which no bytes stand, as the last
+    /// [`Shelf::list`] and the reads after it found them: the first of them, and how many there are. They were left alone.
     pub fn strangers(&self) -> (&[Bytes], u64) {
         (&self.strangers, self.stranger_count)
     }
@@ -119,7 +122,9 @@ impl<L: Link + Drop> RedisShelf<L> {
             ≡ (if self.old.failures == 2 ^ 64 - 1 then ShelfFault.NoMemory else ShelfFault.Failed) }
         ensures failures { self.new.failures ≡ (if self.old.failures == 2 ^ 64 - 1 then self.old.failures
             else self.old.failures + 1) }
+        ensures last_fault { self.new.last_fault ≡ Some fault }
         ensures connection { self.new.connection ≡ self.old.connection }
+        ensures settings { self.new.settings ≡ self.old.settings }
     {
         self.last_fault = Some(fault);
         if self.failures == u64::MAX {
@@ -133,7 +138,10 @@ impl<L: Link + Drop> RedisShelf<L> {
     fn told(&mut self, fault: RedisFault) -> ShelfFault
         ensures rises { self.old.failures ≤ self.new.failures }
         ensures failed { (result ≡ ShelfFault.Failed) ↔ (self.old.failures < self.new.failures) }
+        ensures last_fault { result ≡ ShelfFault.Failed → self.new.last_fault ≡ Some fault }
+        ensures memory { fault ≡ RedisFault.NoMemory → result ≡ ShelfFault.NoMemory }
         ensures connection { self.new.connection ≡ self.old.connection }
+        ensures settings { self.new.settings ≡ self.old.settings }
     {
         match fault {
             RedisFault::NoMemory => ShelfFault::NoMemory,
@@ -141,27 +149,68 @@ impl<L: Link + Drop> RedisShelf<L> {
         }
     }
 
+    /// Notes a share's name under which no bytes stand, once, and no more names than are told.
+    fn note(&mut self, name: &[u8]) -> Result<(), AllocError>
+        ensures connection { self.new.connection ≡ self.old.connection }
+        ensures settings { self.new.settings ≡ self.old.settings }
+        ensures failures { self.new.failures ≡ self.old.failures }
+    {
+        for stranger in &self.strangers {
+            if stranger.as_slice() == name {
+                return Ok(());
+            }
+        }
+        if self.strangers.len() < TOLD {
+            let stranger = Bytes::from_slice(self.connection.alloc, name)?;
+            self.strangers.push(stranger)?;
+            self.stranger_count = self.stranger_count.saturating_add(1);
+        }
+        Ok(())
+    }
+
     /// The key of a share.
     fn name_of(&self, index: &[u8; 16], number: u16) -> Result<Vec<u8>, AllocError>
-        ensures { IfOk result (λ name. name.items ≡ key self.now.grid index.now number) }
+        ensures { IfOk result (λ name. name.items ≡ key self.now.settings.grid index.now number) }
     {
-        spell_key(self.connection.alloc, self.grid.as_slice(), index, number)
+        spell_key(
+            self.connection.alloc,
+            self.settings.grid.as_slice(),
+            index,
+            number,
+        )
     }
 
     /// All shares, in no order.
     fn gather(&mut self, alloc: Global) -> Result<Listed, RedisFault>
-        ensures { self.new.failures ≡ self.old.failures }
+        ensures listed { IfOk result (λ listed. (ready : Talk)
+            × IsReady self.old.connection.state self.old.settings.password
+            (L.talk self.old.connection.link) ready
+            × IsListed self.old.settings.grid ready (L.talk self.new.connection.link)
+            listed.shares.items) }
+        ensures left { IfErr result (λ fault. fault ≢ RedisFault.NoMemory
+            → IsConnectionLeft fault self.new.connection.state) }
+        ensures failures { self.new.failures ≡ self.old.failures }
+        ensures settings { self.new.settings ≡ self.old.settings }
     {
+        self.connection.ready(&self.settings)?;
         let mut listed = Listed::new(alloc);
         let mut cursor = 0;
+        let mut idle: u32 = 0;
         for _ in 0..PAGES {
+            let before = listed.shares.len();
             cursor = self.gather_page(alloc, cursor, &mut listed)?;
             if cursor == 0 {
                 return Ok(listed);
             }
+            let after = listed.shares.len();
+            idle = if after == before { idle + 1 } else { 0 };
+            if idle >= IDLE_PAGES || after > LISTED {
+                break;
+            }
         }
-        self.connection.close(RedisFault::OtherReply, None);
-        Err(RedisFault::OtherReply)
+        self.connection
+            .reject(self.settings.rest, RedisFault::Endless);
+        Err(RedisFault::Endless)
     }
 
     /// The shares in one part of the list, and where the next part begins.
@@ -171,101 +220,79 @@ impl<L: Link + Drop> RedisShelf<L> {
         cursor: u64,
         listed: &mut Listed,
     ) -> Result<u64, RedisFault>
-        ensures told { OnOk result (IsCommanded self.old.connection.state self.old.connection.password
-            (L.written self.old.connection.link) (L.written self.new.connection.link)
-            (scan_command cursor self.old.grid)) }
-        ensures given { IfOk result (λ next. (names : List Item) × (came : List ℕ)
-            × SpellsReply PAGE (page next names) came × Ends (L.heard self.new.connection.link) came
-            × IsGathered self.old.grid names listed.old.shares.items listed.new.shares.items) }
+        ensures open { OnOk result (self.new.connection.state ≡ State.Open) }
+        ensures page { IfOk result (λ next. (names : List Item) × (came : List ℕ)
+            × SpellsReply page_limits (page next names) came
+            × IsExchanged self.old.connection.state self.old.settings.password
+            (L.talk self.old.connection.link) (L.talk self.new.connection.link)
+            (scan_command cursor self.old.settings.grid) came
+            × IsGathered self.old.settings.grid names
+            listed.old.shares.items listed.new.shares.items) }
+        ensures left { IfErr result (λ fault. fault ≢ RedisFault.NoMemory
+            → IsConnectionLeft fault self.new.connection.state) }
         ensures failures { self.new.failures ≡ self.old.failures }
+        ensures settings { self.new.settings ≡ self.old.settings }
     {
-        let command = scan(self.connection.alloc, cursor, self.grid.as_slice())?;
-        let reply = self.connection.ask(PAGE, &command)?;
+        let command = scan(self.connection.alloc, cursor, self.settings.grid.as_slice())?;
+        let reply = self.connection.ask(&self.settings, PAGE, &command)?;
         let Some((next, names)) = page_in(&reply) else {
-            return Err(self.connection.reject(&reply));
+            let fault = fault_of(&reply);
+            self.connection.reject(self.settings.rest, fault);
+            return Err(fault);
         };
-        if listed.take_page(alloc, self.grid.as_slice(), names)? {
+        if listed.take_page(alloc, self.settings.grid.as_slice(), names)? {
             Ok(next)
         } else {
-            Err(self.connection.reject(&reply))
+            self.connection
+                .reject(self.settings.rest, RedisFault::OtherReply);
+            Err(RedisFault::OtherReply)
         }
     }
 
-    /// The bytes under the key of a share. None where the key has no bytes, which are no share's.
-    fn fetch(&mut self, index: &[u8; 16], number: u16) -> Result<Option<RcSlice<u8>>, RedisFault>
-        ensures told { OnOk result (IsCommanded self.old.connection.state self.old.connection.password
-            (L.written self.old.connection.link) (L.written self.new.connection.link)
-            (get_command (key self.old.grid index.now number))) }
-        ensures given { IfOk result (λ share. IsGiven (value_limits self.old.longest)
-            (L.heard self.new.connection.link) (option_map rc_slice_items share)) }
+    /// The bytes under the key of a share. None where no bytes stand there, or what are none, or where they are no bytes.
+    fn fetch(&mut self, name: &[u8]) -> Result<Option<Bytes>, RedisFault>
+        ensures given { IfOk result (λ share. IsGiven self.old.connection.state
+            self.old.settings.password (L.talk self.old.connection.link)
+            (L.talk self.new.connection.link) self.old.settings.longest
+            (get_command name.now) share) }
+        ensures some { IfOk result (λ share. IfSome share (λ bytes. 0 < length bytes)) }
+        ensures open { OnOk result (self.new.connection.state ≡ State.Open) }
+        ensures left { IfErr result (λ fault. fault ≢ RedisFault.NoMemory
+            → IsConnectionLeft fault self.new.connection.state) }
         ensures failures { self.new.failures ≡ self.old.failures }
+        ensures settings { self.new.settings ≡ self.old.settings }
     {
-        let name = self.name_of(index, number)?;
-        let command = get(self.connection.alloc, &name)?;
+        let command = get(self.connection.alloc, name)?;
         let limits = Limits {
             line: 512,
-            bulk: self.longest,
+            bulk: self.settings.longest,
             elements: 0,
         };
-        let reply = self.connection.ask(limits, &command)?;
-        let fault = fault_of(&reply);
-        match value_in(reply) {
-            Some(Some(bytes)) if !bytes.is_empty() => Ok(Some(RcSlice::from_vec(
-                bytes.into_vec(),
-            )?)),
-            Some(_) => Ok(None),
-            None => {
-                self.connection.close(fault, None);
+        let reply = self.connection.ask(&self.settings, limits, &command)?;
+        if is_other_kind(&reply) {
+            self.note(name)?;
+        }
+        match share_in(reply) {
+            Ok(share) => Ok(share),
+            Err(fault) => {
+                self.connection.reject(self.settings.rest, fault);
                 Err(fault)
             }
         }
     }
 
-    /// Puts a share's bytes under its key.
-    fn store(&mut self, index: &[u8; 16], number: u16, share: RcSlice<u8>) -> Result<(), ShelfFault>
-        ensures told { OnOk result (IsCommanded self.old.connection.state self.old.connection.password
-            (L.written self.old.connection.link) (L.written self.new.connection.link)
-            (set_command (key self.old.grid index.now number) (rc_slice_items share))) }
-        ensures left { OnErr result (IsUnsure
-            (set_command (key self.old.grid index.now number) (rc_slice_items share))
-            self.old.connection.state self.new.connection.state) }
-        ensures rises { self.old.failures ≤ self.new.failures }
-        ensures failed { IsErrOf result ShelfFault.Failed ↔ (self.old.failures < self.new.failures) }
-    {
-        if share.len() > self.longest as usize {
-            return Err(self.fail(RedisFault::TooLong));
-        }
-        let name = self.name_of(index, number)?;
-        let change = Change::put(self.connection.alloc, &name, share)?;
-        self.make(change)
-    }
-
-    /// Takes away what stands under the key of a share.
-    fn erase(&mut self, index: &[u8; 16], number: u16) -> Result<(), ShelfFault>
-        ensures told { OnOk result (IsCommanded self.old.connection.state self.old.connection.password
-            (L.written self.old.connection.link) (L.written self.new.connection.link)
-            (delete_command (key self.old.grid index.now number))) }
-        ensures left { OnErr result (IsUnsure (delete_command (key self.old.grid index.now number))
-            self.old.connection.state self.new.connection.state) }
-        ensures rises { self.old.failures ≤ self.new.failures }
-        ensures failed { IsErrOf result ShelfFault.Failed ↔ (self.old.failures < self.new.failures) }
-    {
-        let name = self.name_of(index, number)?;
-        let change = Change::remove(self.connection.alloc, &name)?;
-        self.make(change)
-    }
-
     /// Makes a change.
-    fn make(&mut self, change: Change) -> Result<(), ShelfFault>
-        ensures told { OnOk result (IsCommanded self.old.connection.state self.old.connection.password
-            (L.written self.old.connection.link) (L.written self.new.connection.link)
-            (command_of change)) }
-        ensures left { OnErr result (IsUnsure (command_of change)
-            self.old.connection.state self.new.connection.state) }
+    fn make(&mut self, change: &Change) -> Result<(), ShelfFault>
+        ensures made { OnOk result (IsChangeTold self.old.connection.state self.old.settings.password
+            (L.talk self.old.connection.link) (L.talk self.new.connection.link)
+            change.now.kind (command_of change.now)) }
+        ensures left { IsErrOf result ShelfFault.Failed → IfSome self.new.last_fault (λ fault.
+            IsConnectionLeft fault self.new.connection.state) }
         ensures rises { self.old.failures ≤ self.new.failures }
         ensures failed { IsErrOf result ShelfFault.Failed ↔ (self.old.failures < self.new.failures) }
+        ensures settings { self.new.settings ≡ self.old.settings }
     {
-        match self.connection.change(change) {
+        match self.connection.change(&self.settings, change) {
             Ok(()) => Ok(()),
             Err(ChangeFault::NotDone(fault)) => Err(self.told(fault)),
             Err(ChangeFault::Lost(fault)) => Err(self.fail(fault)),
@@ -284,7 +311,21 @@ impl<L: Link + Drop> Shelf for RedisShelf<L> {
 
     ghost failures = { λ shelf. shelf.failures };
 
-    fn list(&mut self, alloc: Global) -> Result<Vec<([u8; 16], u16)>, ShelfFault> {
+    /// The list of the server's names under the grid's id, to its end.
+    fn list(&mut self, alloc: Global) -> Result<Vec<([u8; 16], u16)>, ShelfFault>
+        ensures quiet { IsQuiet ⟦<RedisShelf<L> as Shelf>⟧.moment
+            ⟦<RedisShelf<L> as Shelf>⟧.left_since self.old self.new }
+        ensures rises { self.old.failures ≤ self.new.failures }
+        ensures failed { IsErrOf result ShelfFault.Failed ↔ (self.old.failures < self.new.failures) }
+        ensures listed { IfOk result (λ names. (ready : Talk) × (shares : List (List ℕ × ℕ))
+            × IsReady self.old.connection.state self.old.settings.password
+            (L.talk self.old.connection.link) ready
+            × IsListed self.old.settings.grid ready (L.talk self.new.connection.link) shares
+            × ((share : List ℕ × ℕ) → Contains names.items share ↔ Contains shares share)) }
+        ensures left { IsErrOf result ShelfFault.Failed → IfSome self.new.last_fault (λ fault.
+            IsConnectionLeft fault self.new.connection.state) }
+        ensures settings { self.new.settings ≡ self.old.settings }
+    {
         match self.gather(alloc) {
             Ok(listed) => {
                 let Listed {
@@ -300,19 +341,65 @@ impl<L: Link + Drop> Shelf for RedisShelf<L> {
         }
     }
 
-    fn read(&mut self, index: [u8; 16], number: u16) -> Result<Option<RcSlice<u8>>, ShelfFault> {
-        match self.fetch(&index, number) {
-            Ok(share) => Ok(share),
+    /// `GET key`.
+    fn read(&mut self, index: [u8; 16], number: u16) -> Result<Option<RcSlice<u8>>, ShelfFault>
+        ensures quiet { IsQuiet ⟦<RedisShelf<L> as Shelf>⟧.moment
+            ⟦<RedisShelf<L> as Shelf>⟧.left_since self.old self.new }
+        ensures rises { self.old.failures ≤ self.new.failures }
+        ensures failed { IsErrOf result ShelfFault.Failed ↔ (self.old.failures < self.new.failures) }
+        ensures given { IfOk result (λ share. IsGiven self.old.connection.state
+            self.old.settings.password (L.talk self.old.connection.link)
+            (L.talk self.new.connection.link) self.old.settings.longest
+            (get_command (key self.old.settings.grid index number))
+            (option_map rc_slice_items share)) }
+        ensures some { IfOk result (λ share. IfSome share (λ bytes.
+            0 < length (rc_slice_items bytes))) }
+        ensures left { IsErrOf result ShelfFault.Failed → IfSome self.new.last_fault (λ fault.
+            IsConnectionLeft fault self.new.connection.state) }
+        ensures settings { self.new.settings ≡ self.old.settings }
+    {
+        let name = self.name_of(&index, number)?;
+        match self.fetch(&name) {
+            Ok(Some(bytes)) => Ok(Some(RcSlice::from_vec(bytes.into_vec())?)),
+            Ok(None) => Ok(None),
             Err(fault) => Err(self.told(fault)),
         }
     }
 
-    fn put(&mut self, index: [u8; 16], number: u16, bytes: RcSlice<u8>) -> Result<(), ShelfFault> {
-        self.store(&index, number, bytes)
+    /// `SET key bytes`.
+    fn put(&mut self, index: [u8; 16], number: u16, bytes: RcSlice<u8>) -> Result<(), ShelfFault>
+        requires { 0 < length (rc_slice_items bytes) }
+        ensures rises { self.old.failures ≤ self.new.failures }
+        ensures failed { IsErrOf result ShelfFault.Failed ↔ (self.old.failures < self.new.failures) }
+        ensures made { OnOk result (IsChangeTold self.old.connection.state self.old.settings.password
+            (L.talk self.old.connection.link) (L.talk self.new.connection.link) Kind.Put
+            (set_command (key self.old.settings.grid index number) (rc_slice_items bytes))) }
+        ensures left { IsErrOf result ShelfFault.Failed → IfSome self.new.last_fault (λ fault.
+            fault ≢ RedisFault.TooLong → IsConnectionLeft fault self.new.connection.state) }
+        ensures settings { self.new.settings ≡ self.old.settings }
+    {
+        if bytes.len() > self.settings.longest as usize {
+            return Err(self.fail(RedisFault::TooLong));
+        }
+        let name = self.name_of(&index, number)?;
+        let change = Change::put(self.connection.alloc, &name, bytes)?;
+        self.make(&change)
     }
 
-    fn remove(&mut self, index: [u8; 16], number: u16) -> Result<(), ShelfFault> {
-        self.erase(&index, number)
+    /// `DEL key`.
+    fn remove(&mut self, index: [u8; 16], number: u16) -> Result<(), ShelfFault>
+        ensures rises { self.old.failures ≤ self.new.failures }
+        ensures failed { IsErrOf result ShelfFault.Failed ↔ (self.old.failures < self.new.failures) }
+        ensures made { OnOk result (IsChangeTold self.old.connection.state self.old.settings.password
+            (L.talk self.old.connection.link) (L.talk self.new.connection.link) Kind.Remove
+            (delete_command (key self.old.settings.grid index number))) }
+        ensures left { IsErrOf result ShelfFault.Failed → IfSome self.new.last_fault (λ fault.
+            IsConnectionLeft fault self.new.connection.state) }
+        ensures settings { self.new.settings ≡ self.old.settings }
+    {
+        let name = self.name_of(&index, number)?;
+        let change = Change::remove(self.connection.alloc, &name)?;
+        self.make(&change)
     }
 
     ghost narrows = { λ shelf t u c le left. tt };
@@ -322,7 +409,9 @@ impl<L: Link + Drop> Shelf for RedisShelf<L> {
 
 /// Shares in order, each once: a server may tell one more than once.
 fn in_order(shares: Vec<([u8; 16], u16)>) -> Result<Vec<([u8; 16], u16)>, ShelfFault>
-    ensures { IfErr result (λ fault. fault ≡ ShelfFault.NoMemory) }
+    ensures same { IfOk result (λ names. (share : List ℕ × ℕ) →
+        Contains names.items share ↔ Contains shares.items share) }
+    ensures fault { IfErr result (λ fault. fault ≡ ShelfFault.NoMemory) }
 {
     let mut shares = shares;
     shares.sort()?;

@@ -1,7 +1,8 @@
 //! A command, and its reply.
-ghost use Rattle.std.specs.Prelude.{◌≡◌, ◌≢◌, ◌<◌, ◌++◌, ℕ, List, length, IfOk, IfErr, OnOk};
+ghost use Rattle.std.specs.Prelude.{◌≡◌, ◌<◌, ◌++◌, ℕ, List, length, IfOk, IfErr, OnOk};
 ghost use Rattle.std.specs.List.{flat_map};
-ghost use Rattle.redis_shelf.specs.Told.{with_more};
+ghost use Rattle.redis_shelf.specs.Answers.{IsRefusal};
+ghost use Rattle.redis_shelf.specs.Told.{with_heard, with_exchange};
 ghost use Rattle.resp.specs.Command.{line_end};
 ghost use Rattle.resp.specs.Spelled.{SpellsReply};
 
@@ -24,11 +25,9 @@ pub(crate) fn talk<L: Link>(
     command: &[u8],
 ) -> Result<Reply, RedisFault>
     requires { 0 < limits.line }
-    ensures written { OnOk result
-        (L.written link.new ≡ with_more (L.written link.old) command.now) }
-    ensures heard { IfOk result (λ reply. (came : List ℕ) × SpellsReply limits reply came
-        × (L.heard link.new ≡ with_more (L.heard link.old) came)) }
-    ensures not_refused { IfErr result (λ fault. fault ≢ RedisFault.Refused) }
+    ensures exchanged { IfOk result (λ reply. (came : List ℕ) × SpellsReply limits reply came
+        × (L.talk link.new ≡ with_exchange (L.talk link.old) command.now came)) }
+    ensures not_refused { IfErr result (λ fault. IsRefusal fault → ⊥) }
 {
     talk_parts(alloc, link, limits, &[command])
 }
@@ -41,11 +40,10 @@ pub(crate) fn talk_parts<L: Link>(
     parts: &[&[u8]],
 ) -> Result<Reply, RedisFault>
     requires { 0 < limits.line }
-    ensures written { OnOk result (L.written link.new
-        ≡ with_more (L.written link.old) (flat_map (λ part. part.now) parts.now)) }
-    ensures heard { IfOk result (λ reply. (came : List ℕ) × SpellsReply limits reply came
-        × (L.heard link.new ≡ with_more (L.heard link.old) came)) }
-    ensures not_refused { IfErr result (λ fault. fault ≢ RedisFault.Refused) }
+    ensures exchanged { IfOk result (λ reply. (came : List ℕ) × SpellsReply limits reply came
+        × (L.talk link.new ≡ with_exchange (L.talk link.old)
+        (flat_map (λ part. part.now) parts.now) came)) }
+    ensures not_refused { IfErr result (λ fault. IsRefusal fault → ⊥) }
 {
     link.write_all(parts)?;
     let mut came = Vec::new(alloc);
@@ -73,11 +71,10 @@ fn hear_bulk<L: Link>(
     begun: &[u8],
     len: usize,
 ) -> Result<Bytes, RedisFault>
-    ensures written { L.written link.new ≡ L.written link.old }
     ensures heard { IfOk result (λ content. (length content ≡ len) × ((part : List ℕ)
         × (content ++ line_end ≡ begun.now ++ part)
-        × (L.heard link.new ≡ with_more (L.heard link.old) part))) }
-    ensures not_refused { IfErr result (λ fault. fault ≢ RedisFault.Refused) }
+        × (L.talk link.new ≡ with_heard (L.talk link.old) part))) }
+    ensures not_refused { IfErr result (λ fault. IsRefusal fault → ⊥) }
 {
     let mut content = Vec::new(alloc);
     content.extend_from_slice(begun)?;
@@ -95,7 +92,7 @@ fn hear_bulk<L: Link>(
 /// Refuses what stands behind a bulk string's content where it isn't the end of the line and no more.
 fn check_end(end: &[u8]) -> Result<(), RedisFault>
     ensures end { OnOk result (end.now ≡ line_end) }
-    ensures not_refused { IfErr result (λ fault. fault ≢ RedisFault.Refused) }
+    ensures not_refused { IfErr result (λ fault. IsRefusal fault → ⊥) }
 {
     if end == b"\r\n".as_slice() {
         return Ok(());
@@ -108,10 +105,9 @@ fn check_end(end: &[u8]) -> Result<(), RedisFault>
 
 /// Reads once, behind what came before.
 fn hear<L: Link>(link: &mut L, came: &mut Vec<u8>) -> Result<(), RedisFault>
-    ensures written { L.written link.new ≡ L.written link.old }
     ensures heard { OnOk result ((part : List ℕ) × (came.new.items ≡ came.old.items ++ part)
-        × (L.heard link.new ≡ with_more (L.heard link.old) part)) }
-    ensures not_refused { IfErr result (λ fault. fault ≢ RedisFault.Refused) }
+        × (L.talk link.new ≡ with_heard (L.talk link.old) part)) }
+    ensures not_refused { IfErr result (λ fault. IsRefusal fault → ⊥) }
 {
     let start = came.len();
     came.resize(start + ROOM, 0)?;

@@ -1,3 +1,4 @@
+-- Read Command for what is sent, Spelled and Verdict for what comes.
 pub mod Command
 pub mod Spelled
 pub mod Reading

@@ -1,3 +1,4 @@
+-- Read Lives and Callers first: runs between crashes, and what callers are told in them. CutOff and Stores say what a crash leaves.
 pub mod CutOff
 pub mod Resumed
 pub mod LeftIn

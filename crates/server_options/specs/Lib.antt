@@ -1,1 +1,2 @@
+-- One file.
 pub mod Given

@@ -1,1 +1,4 @@
+-- Independent of each other.
+pub mod Kinds
+pub mod Prefix
 pub mod Status

@@ -45,5 +45,5 @@ status_of ImageUnwritten = 27
 status_of NotWell = 28
 status_of RedisUnknown = 29
 status_of (Redis fault) = 29
-status_of RedisUnread = 29
+status_of (RedisUnread fault) = 29
 status_of PasswordUnread = 30

@@ -1,9 +1,8 @@
 //! Looking through the folders of servers.
 use crate::fault::ProgramFault;
 use crate::folders::{named, names_in, settings_in};
-use folder_shelf::{FolderFault, Settings, read_name, unsealed};
+use folder_shelf::{FolderFault, LONGEST_FILE, Settings, read_file, read_name, share_in};
 use log::{Log, warn};
-use std::fs;
 use std::io::ErrorKind;
 use std::rt::Files;
 
@@ -167,14 +166,12 @@ impl Contents {
         rt: &R,
         path: &str,
     ) -> Result<(), FolderFault> {
-        match fs::read(rt, path) {
+        match read_file(rt, path, LONGEST_FILE) {
             Ok(text) => {
-                if let Some(bytes) = unsealed(text) {
-                    if !bytes.is_empty() {
-                        self.shares = self.shares.saturating_add(1);
-                        self.bytes = self.bytes.saturating_add(bytes.len() as u64);
-                        return Ok(());
-                    }
+                if let Some(bytes) = share_in(text) {
+                    self.shares = self.shares.saturating_add(1);
+                    self.bytes = self.bytes.saturating_add(bytes.len() as u64);
+                    return Ok(());
                 }
             }
             // who serves the folder took it away

@@ -69,8 +69,8 @@ pub enum ProgramFault {
     /// As many folders are wanted as the grid has servers.
     #[error("{0} folders are given, and its grid has {1} servers: each wants one, in their order")]
     OtherCount(usize, u16),
-    /// An image could not be read.
-    #[error("the image can't be read")]
+    /// An image could not be read, or is no file: it is read twice.
+    #[error("the image can't be read: it has to be a file")]
     ImageUnread,
     /// An image has a fault at this byte.
     #[error("it is no image of so many servers: the fault is at byte {0}")]
@@ -88,8 +88,8 @@ pub enum ProgramFault {
     #[error("the Redis server can't be used: {0}")]
     Redis(RedisFault),
     /// A Redis server that answered failed while its shares were read.
-    #[error("the Redis server failed while its shares were read")]
-    RedisUnread,
+    #[error("the Redis server failed while its shares were read: {0}")]
+    RedisUnread(RedisFault),
     /// The file of the Redis servers' password could not be read.
     #[error("the Redis password file can't be read")]
     PasswordUnread,
@@ -107,7 +107,7 @@ impl ProgramFault {
             ProgramFault::OtherCount(_, _) => true,
             ProgramFault::RedisUnknown => true,
             ProgramFault::Redis(_) => true,
-            ProgramFault::RedisUnread => true,
+            ProgramFault::RedisUnread(_) => true,
             _ => false,
         }
     }
@@ -147,7 +147,7 @@ impl ProgramFault {
             ProgramFault::NotWell => 28,
             ProgramFault::RedisUnknown => 29,
             ProgramFault::Redis(_) => 29,
-            ProgramFault::RedisUnread => 29,
+            ProgramFault::RedisUnread(_) => 29,
             ProgramFault::PasswordUnread => 30,
         }
     }

@@ -1,7 +1,10 @@
 //! Folders of servers: what stands in them before they are opened, and opening them.
 use crate::fault::ProgramFault;
-use crate::server_shelf::ServerShelf;
-use folder_shelf::{FolderFault, FolderLock, FolderShelf, Settings, check_settings, read_settings};
+use crate::locked_shelf::LockedShelf;
+use folder_shelf::{
+    FileShelf, FolderFault, FolderLock, FolderShelf, SETTINGS_TEXT, Settings, check_settings,
+    read_file, read_settings,
+};
 use kept_store::KeptStore;
 use log::{Log, info, warn};
 use share_store::Store;
@@ -15,11 +18,14 @@ use std::{fs, io};
 /// How many bytes a folder's disk is to have room for at least when it is opened.
 const PROBE: usize = 65_536;
 
-/// A store that answers from memory, and keeps its shares in a folder too where it has one.
-pub type FolderStore<R> = KeptStore<ServerShelf<R>>;
+/// The shelf in a folder whose lock this process holds.
+pub type OurShelf<R> = LockedShelf<FileShelf<R>, FolderLock>;
+
+/// A store that answers from memory, and keeps its shares in a folder too.
+pub type FolderStore<R> = KeptStore<OurShelf<R>>;
 
 /// A store whose shares are in a folder alone.
-pub type DiskStore<R> = ShelfStore<ServerShelf<R>>;
+pub type DiskStore<R> = ShelfStore<OurShelf<R>>;
 
 /// What stands in a folder before it is opened.
 #[derive(Clone, Copy, Debug, PartialEq, Eq)]
@@ -55,8 +61,9 @@ fn settings_text_in<R: Files + AllocGlobal>(
     folder: &str,
 ) -> Result<Option<Vec<u8>>, FolderFault> {
     let path = format!(in rt.alloc(); "{folder}/grid")?;
-    match fs::read(rt, path.as_str()) {
-        Ok(text) => Ok(Some(text)),
+    match read_file(rt, path.as_str(), SETTINGS_TEXT) {
+        Ok(Some(text)) => Ok(Some(text)),
+        Ok(None) => Err(FolderFault::SettingsRotten),
         Err(error) if error.kind() == ErrorKind::NotFound => Ok(None),
         Err(error) => Err(FolderFault::from(error)),
     }
@@ -190,7 +197,7 @@ pub fn open_folder<R: Files<File = File> + AllocGlobal + Clone + Drop + Log + Ep
 ) -> Result<FolderStore<R>, ProgramFault> {
     match open_store(rt, folder, opening) {
         Ok(store) => {
-            log_opened(rt, folder, store.held(), store.shelf());
+            log_opened(rt, folder, store.held(), store.shelf().shelf());
             Ok(store)
         }
         Err(fault) => Err(named(rt, folder, fault)),
@@ -206,10 +213,39 @@ pub fn open_on_disk<R: Files<File = File> + AllocGlobal + Clone + Drop + Log + E
 ) -> Result<DiskStore<R>, ProgramFault> {
     match open_disk_store(rt, folder, opening) {
         Ok(store) => {
-            log_opened(rt, folder, store.held(), store.shelf());
+            log_opened(rt, folder, store.held(), store.shelf().shelf());
             Ok(store)
         }
         Err(fault) => Err(named(rt, folder, fault)),
+    }
+}
+
+/// Opens a folder that is only to be read, as [`open_on_disk`] does: nothing is written.
+pub fn open_to_read<R: Files<File = File> + AllocGlobal + Clone + Drop + Log + Eprint>(
+    rt: &R,
+    folder: &str,
+    settings: &Settings,
+) -> Result<DiskStore<R>, ProgramFault> {
+    match open_store_to_read(rt, folder, settings) {
+        Ok(store) => {
+            log_opened(rt, folder, store.held(), store.shelf().shelf());
+            Ok(store)
+        }
+        Err(fault) => Err(named(rt, folder, fault)),
+    }
+}
+
+/// The store over a folder that is only to be read.
+fn open_store_to_read<R: Files<File = File> + AllocGlobal + Clone + Drop>(
+    rt: &R,
+    folder: &str,
+    settings: &Settings,
+) -> Result<DiskStore<R>, ProgramFault> {
+    let lock = FolderLock::take(rt, folder)?;
+    let shelf = FolderShelf::open_to_read(rt.clone()?, folder, settings)?;
+    match ShelfStore::open(rt.alloc(), LockedShelf::new(lock, shelf), u64::MAX) {
+        Ok(store) => Ok(store),
+        Err((fault, _shelf)) => Err(ProgramFault::from(fault)),
     }
 }
 
@@ -218,13 +254,11 @@ fn log_opened<R: Files + AllocGlobal + Clone + Drop + Log>(
     rt: &R,
     folder: &str,
     held: u64,
-    shelf: &ServerShelf<R>,
+    shelf: &FileShelf<R>,
 ) {
     info!(rt; "{folder}: {held} bytes of shares");
-    if let Some(shelf) = shelf.folder() {
-        log_each(rt, "rotten and left alone", shelf.rotten());
-        log_each(rt, "no share and left alone", shelf.strangers());
-    }
+    log_each(rt, "rotten and left alone", shelf.rotten());
+    log_each(rt, "no share and left alone", shelf.strangers());
 }
 
 /// Logs files of a folder.
@@ -251,7 +285,10 @@ fn open_disk_store<R: Files<File = File> + AllocGlobal + Clone + Drop>(
     opening: &Opening,
 ) -> Result<DiskStore<R>, ProgramFault> {
     let shelf = open_roomy(rt, folder, opening)?;
-    Ok(ShelfStore::open(rt.alloc(), shelf, opening.room)?)
+    match ShelfStore::open(rt.alloc(), shelf, opening.room) {
+        Ok(store) => Ok(store),
+        Err((fault, _shelf)) => Err(ProgramFault::from(fault)),
+    }
 }
 
 /// The shelf in a folder whose disk has room.
@@ -259,7 +296,7 @@ fn open_roomy<R: Files<File = File> + AllocGlobal + Clone + Drop>(
     rt: &R,
     folder: &str,
     opening: &Opening,
-) -> Result<ServerShelf<R>, ProgramFault> {
+) -> Result<OurShelf<R>, ProgramFault> {
     match open_shelf(rt, folder, opening) {
         Ok(shelf) => {
             if is_full(rt, folder)? {
@@ -284,10 +321,10 @@ fn open_shelf<R: Files<File = File> + AllocGlobal + Clone + Drop>(
     rt: &R,
     folder: &str,
     opening: &Opening,
-) -> Result<ServerShelf<R>, FolderFault> {
+) -> Result<OurShelf<R>, FolderFault> {
     let lock = FolderLock::take(rt, folder)?;
     let shelf = FolderShelf::open(rt.clone()?, folder, &opening.settings, opening.synced)?;
-    Ok(ServerShelf::in_folder(lock, shelf))
+    Ok(LockedShelf::new(lock, shelf))
 }
 
 /// Whether a folder's disk has no room for some bytes: they are written to an unfinished file, which is taken away.

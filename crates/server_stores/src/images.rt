@@ -4,10 +4,10 @@ ghost use Rattle.std.specs.Prelude.{◌≡◌, ◌<◌, ◌≤◌, All, IfOk, Is
 
 use crate::fault::ProgramFault;
 use crate::folders::{
-    DiskStore, Opening, is_full, look_at_new, look_at_old, named, open_on_disk, settings_in,
+    DiskStore, Opening, OurShelf, is_full, look_at_new, look_at_old, named, open_on_disk,
+    open_to_read, settings_in,
 };
 use crate::forgetful_store::forgetful_stores;
-use crate::server_shelf::ServerShelf;
 use folder_shelf::{FolderFault, Settings};
 use grid::{Grid, GridFault};
 use log::{Log, info};
@@ -46,7 +46,7 @@ pub fn write_image<R: Files<File = File> + AllocGlobal + Clone + Drop + Log + Pr
     for (place, folder) in (0..first.servers).zip(folders) {
         look_at_old(rt, *folder, &Settings { place, ..first })?;
     }
-    let mut grid = Grid::new(open_all(rt, folders, &first, true)?);
+    let mut grid = Grid::new(open_each_to_read(rt, folders, &first)?);
     put_image(rt, folders, &mut grid)
 }
 
@@ -98,6 +98,41 @@ fn open_all<R: Files<File = File> + AllocGlobal + Clone + Drop + Log + Eprint>(
     Ok(stores)
 }
 
+/// Opens these folders as those of a grid's servers, in their order, where none of their stores holds a byte.
+fn open_all_empty<R: Files<File = File> + AllocGlobal + Clone + Drop + Log + Eprint>(
+    rt: &R,
+    folders: &[&str],
+    first: &Settings,
+    synced: bool,
+) -> Result<Vec<DiskStore<R>>, ProgramFault>
+    requires { length folders.now ≡ first.now.servers }
+    ensures all { IfOk result (λ stores. vec_len stores ≡ first.now.servers) }
+    ensures empty { IfOk result (λ stores. All (λ store. ⟦<ShelfStore<OurShelf<R>> as Store>⟧.held store ≡ 0) stores.items) }
+{
+    let stores = open_all(rt, folders, first, synced)?;
+    if !hold_nothing(&stores) {
+        return Err(tell_filled(rt, folders, &stores));
+    }
+    Ok(stores)
+}
+
+/// Opens these folders as those of a grid's servers, in their order, to be read.
+fn open_each_to_read<R: Files<File = File> + AllocGlobal + Clone + Drop + Log + Eprint>(
+    rt: &R,
+    folders: &[&str],
+    first: &Settings,
+) -> Result<Vec<DiskStore<R>>, ProgramFault>
+    requires { length folders.now ≡ first.now.servers }
+    ensures { IfOk result (λ stores. vec_len stores ≡ first.now.servers) }
+{
+    let mut stores = Vec::with_capacity(rt.alloc(), folders.len())?;
+    for place in 0..first.servers {
+        let settings = Settings { place, ..*first };
+        stores.push(open_to_read(rt, folders[usize::from(place)], &settings)?)?;
+    }
+    Ok(stores)
+}
+
 /// Lays an image into new folders, as those of a grid with this secret. Nothing is written before each folder was found
 /// new and the image was read to its end. Until the last share stands, the folders have no settings: so what a crash
 /// leaves of a grid is not served.
@@ -114,18 +149,26 @@ pub fn restore<R: Files<File = File> + AllocGlobal + Clone + Drop + Log + Eprint
         return Err(ProgramFault::Arguments);
     }
     look_at_each(rt, folders)?;
+    if !is_file(rt, wanted.file) {
+        return Err(ProgramFault::ImageUnread);
+    }
     try_image(rt, wanted.file, servers)?;
     let shares = wanted.shares;
     let first = Settings::new(0, servers, shares.needed, shares.made, secret);
-    let stores = open_all(rt, folders, &first, wanted.synced)?;
-    if !hold_nothing(&stores) {
-        return Err(tell_filled(rt, folders, &stores));
-    }
+    let stores = open_all_empty(rt, folders, &first, wanted.synced)?;
     move_settings(rt, folders, "grid", "restoring")?;
     let grid = lay_image(rt, wanted, stores)?;
     move_settings(rt, folders, "restoring", "grid")?;
     log_restored(rt, folders, grid.stores());
     Ok(())
+}
+
+/// Whether an image is a file: it is read twice, which a pipe or a terminal isn't.
+fn is_file<R: Files>(rt: &R, path: &str) -> bool {
+    match fs::metadata(rt, path) {
+        Ok(found) => found.is_file(),
+        Err(_) => false,
+    }
 }
 
 /// Refuses a folder that isn't new, by its name. Nothing is written.
@@ -189,7 +232,7 @@ fn why_not_read(fault: GridFault) -> ProgramFault {
 /// Whether no store holds a byte.
 fn hold_nothing<R: Files + AllocGlobal + Clone + Drop>(stores: &[DiskStore<R>]) -> bool
     ensures { IsTrue result →
-        All (λ store. ⟦<ShelfStore<ServerShelf<R>> as Store>⟧.held store ≡ 0) stores.now }
+        All (λ store. ⟦<ShelfStore<OurShelf<R>> as Store>⟧.held store ≡ 0) stores.now }
 {
     for store in stores {
         if store.held() != 0 {
@@ -221,7 +264,7 @@ fn lay_image<R: Files + AllocGlobal + Clone + Drop + Eprint>(
 ) -> Result<Grid<DiskStore<R>>, ProgramFault>
     requires some { 0 < vec_len stores }
     requires few { vec_len stores ≤ 256 }
-    requires empty { All (λ store. ⟦<ShelfStore<ServerShelf<R>> as Store>⟧.held store ≡ 0) stores.items }
+    requires empty { All (λ store. ⟦<ShelfStore<OurShelf<R>> as Store>⟧.held store ≡ 0) stores.items }
 {
     let mut reader = open_image(rt, wanted.file)?;
     match Grid::read_image(rt.alloc(), stores, &mut reader) {

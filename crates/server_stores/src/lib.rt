@@ -5,12 +5,16 @@
 mod fault;
 /// How many files and sockets the program may have open.
 pub mod handles;
-/// What a server keeps its shares on beside memory.
-mod server_shelf;
+/// A shelf that this process alone uses.
+mod locked_shelf;
 /// A store of one of two kinds.
 pub mod either_store;
 /// Folders of servers.
 pub mod folders;
+/// Files of a few bytes.
+pub mod small_files;
+/// Bytes as text.
+mod escaped;
 /// Stores on Redis servers.
 mod redis_stores;
 /// The stores of the gateway.

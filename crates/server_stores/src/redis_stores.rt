@@ -1,5 +1,11 @@
 //! Stores on Redis servers.
+ghost use Rattle.std.specs.Prelude.{◌≡◌, IfOk};
+ghost use Rattle.std.specs.Option.{option_map};
+ghost use Rattle.server_stores.specs.Prefix.{prefix};
+
+use crate::escaped::Escaped;
 use crate::fault::ProgramFault;
+use crate::small_files::read_at_most;
 use log::{Log, info, warn};
 use octets::Bytes;
 use redis_shelf::{RedisFault, RedisShelf, Settings, TcpLink, Times};
@@ -8,7 +14,6 @@ use share_shelf::{OpenFault, Shelf, ShelfFault};
 use share_store::{Store, StoreFault};
 use shelf_store::ShelfStore;
 use std::alloc::{AllocError, Global};
-use std::fs;
 use std::net::{Net, SocketAddr, ToSocketAddrs};
 use std::rt::Files;
 use std::time::{Clock, Duration};
@@ -39,7 +44,11 @@ pub struct RedisOpening<'a> {
     pub room: u64,
 }
 
-/// The bytes of a file but for a line's end behind them, and none where there is no such file.
+/// How many bytes a password may have, with a line's end behind it.
+const LONGEST_PASSWORD: usize = 65_536;
+
+/// The bytes of a file but for a line's end behind them, and none where there is no such file. A file of more than 65,536
+/// bytes isn't read to its end.
 pub fn read_password<R: AllocGlobal + Files>(
     rt: &R,
     path: Option<&str>,
@@ -47,9 +56,12 @@ pub fn read_password<R: AllocGlobal + Files>(
     let Some(path) = path else {
         return Ok(None);
     };
-    let Ok(mut password) = fs::read(rt, path) else {
+    let Ok(mut password) = read_at_most(rt, path, LONGEST_PASSWORD) else {
         return Err(ProgramFault::PasswordUnread);
     };
+    if password.len() > LONGEST_PASSWORD {
+        return Err(ProgramFault::PasswordUnread);
+    }
     if password.last() == Some(&b'\n') {
         let _ = password.pop();
     }
@@ -85,9 +97,12 @@ fn log_opened<R: Net + Clock + Drop + Log>(
     shelf: &RedisShelf<TcpLink<R>>,
 ) {
     info!(rt; "redis:{address}: {held} bytes of shares");
-    let strangers = shelf.strangers();
-    let count = strangers.1;
-    if count > 0 {
+    let (names, count) = shelf.strangers();
+    for name in names {
+        let told = Escaped(name.as_slice());
+        warn!(rt; "redis:{address}: no share and left alone: {told}");
+    }
+    if count > names.len() as u64 {
         warn!(rt; "redis:{address}: {count} names that are no share's are left alone");
     }
 }
@@ -118,17 +133,20 @@ fn open_shelf<R: Net + Clock + Drop>(
 ) -> Result<RedisStore<R>, ProgramFault> {
     match ShelfStore::open(alloc, shelf, room) {
         Ok(store) => Ok(store),
-        Err(fault) => Err(why_not_opened(fault)),
+        Err((fault, shelf)) => Err(why_not_opened(fault, shelf.last_fault())),
     }
 }
 
-/// Why a store was not opened over a Redis server that had answered.
-fn why_not_opened(fault: OpenFault) -> ProgramFault {
+/// Why a store was not opened over a Redis server that had answered, by the fault in which its shelf failed last.
+fn why_not_opened(fault: OpenFault, last: Option<RedisFault>) -> ProgramFault {
     match fault {
         OpenFault::Shelf(ShelfFault::NoMemory) => ProgramFault::NoMemory,
         OpenFault::Store(StoreFault::NoMemory) => ProgramFault::NoMemory,
         OpenFault::Store(StoreFault::Full) => ProgramFault::NoRoom,
-        _ => ProgramFault::RedisUnread,
+        _ => match last {
+            Some(last) => ProgramFault::RedisUnread(last),
+            None => ProgramFault::RedisUnread(RedisFault::OtherReply),
+        },
     }
 }
 
@@ -152,12 +170,16 @@ fn reach<R: AllocGlobal + Net + Clock + Clone + Drop>(
 fn why_not_reached(fault: Option<RedisFault>) -> ProgramFault {
     match fault {
         Some(fault) => ProgramFault::Redis(fault),
-        None => ProgramFault::RedisUnread,
+        None => ProgramFault::Redis(RedisFault::Link),
     }
 }
 
 /// What a shelf has to know of its server.
-fn settings_of(alloc: Global, opening: &RedisOpening<'_>) -> Result<Settings, AllocError> {
+fn settings_of(alloc: Global, opening: &RedisOpening<'_>) -> Result<Settings, AllocError>
+    ensures grid { IfOk result (λ settings. settings.grid ≡ prefix opening.now.place.name.now) }
+    ensures password { IfOk result (λ settings. settings.password
+        ≡ option_map (λ password. password.now) opening.now.password) }
+{
     let password = match opening.password {
         Some(password) => Some(Bytes::from_slice(alloc, password)?),
         None => None,
@@ -171,7 +193,9 @@ fn settings_of(alloc: Global, opening: &RedisOpening<'_>) -> Result<Settings, Al
 }
 
 /// The bytes with which the names of a store's shares begin: `wozhinnam:NAME:`.
-fn names_begin(alloc: Global, name: &str) -> Result<Bytes, AllocError> {
+fn names_begin(alloc: Global, name: &str) -> Result<Bytes, AllocError>
+    ensures { IfOk result (λ begin. begin ≡ prefix name.now) }
+{
     let text = format!(in alloc; "wozhinnam:{name}:")?;
     Ok(Bytes::from_vec(text.into_bytes()))
 }

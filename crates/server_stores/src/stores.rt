@@ -1,23 +1,27 @@
 //! The stores of the gateway.
+ghost use Rattle.std.specs.Prelude.{IfOk};
+ghost use Rattle.server_stores.specs.Kinds.{IsOfKind, IsOnRedis};
+
 use crate::either_store::EitherStore;
 use crate::fault::ProgramFault;
 use crate::folders::{
     DiskStore, FolderStore, Found, Opening, look, named, open_folder, open_on_disk,
 };
 use crate::redis_stores::{RedisOpening, RedisStore, open_on_redis, read_password};
-use crate::server_shelf::ServerShelf;
 use folder_shelf::Settings;
-use kept_store::KeptStore;
 use log::{Log, info};
 use server_options::{Options, RedisPlace, StoreWanted};
-use std::alloc::Global;
+use share_store::MemStore;
 use std::fs::File;
-use std::net::Net;
+use std::net::{Net, SocketAddr, ToSocketAddrs};
 use std::rt::Files;
 use std::time::Clock;
 
-/// A server's store: over memory and perhaps a folder, on a disk alone, or on a Redis server.
-pub type ServerStore<R> = EitherStore<FolderStore<R>, EitherStore<DiskStore<R>, RedisStore<R>>>;
+/// A server's store: in memory alone, in memory and in a folder, on a disk alone, or on a Redis server.
+pub type ServerStore<R> = EitherStore<
+    MemStore,
+    EitherStore<FolderStore<R>, EitherStore<DiskStore<R>, RedisStore<R>>>,
+>;
 
 /// The stores that are wanted, opened in their order: the settings are those of the grid's first server. Each folder
 /// is looked at before one is opened, so that none is begun where another is refused.
@@ -27,6 +31,7 @@ pub fn open_stores<R: Files<File = File> + AllocGlobal + Net + Clock + Clone + D
     first: &Settings,
 ) -> Result<Vec<ServerStore<R>>, ProgramFault> {
     look_at_each(rt, options, first)?;
+    look_for_twins(rt, &options.stores)?;
     let password = read_password(rt, options.redis_password_file)?;
     let mut stores = Vec::with_capacity(rt.alloc(), options.stores.len())?;
     for (place, wanted) in (0..first.servers).zip(&options.stores) {
@@ -84,6 +89,64 @@ fn look_at_one<R: Files + AllocGlobal + Clone + Drop + Log + Eprint>(
     }
 }
 
+/// Refuses two stores of one name on one Redis server, whatever the server is called: they would have their shares in the
+/// same place.
+fn look_for_twins<R: Net + AllocGlobal>(
+    rt: &R,
+    stores: &[StoreWanted<'_>],
+) -> Result<(), ProgramFault> {
+    for at in 0..stores.len() {
+        if let StoreWanted::Redis(place, _) = &stores[at] {
+            if has_twin(rt, place, &stores[at + 1..]) {
+                return Err(ProgramFault::Stores);
+            }
+        }
+    }
+    Ok(())
+}
+
+/// Whether one of these stores has the same name on the same Redis server.
+fn has_twin<R: Net + AllocGlobal>(
+    rt: &R,
+    place: &RedisPlace<'_>,
+    others: &[StoreWanted<'_>],
+) -> bool {
+    for other in others {
+        if let StoreWanted::Redis(other, _) = other {
+            if other.name == place.name && is_one_server(rt, place.address, other.address) {
+                return true;
+            }
+        }
+    }
+    false
+}
+
+/// Whether two names of servers lead to one address. A host that isn't known leads to none.
+fn is_one_server<R: Net + AllocGlobal>(rt: &R, first: &str, second: &str) -> bool {
+    let Ok(addresses) = first.to_socket_addrs(rt) else {
+        return false;
+    };
+    for address in addresses {
+        if leads_to(rt, second, address) {
+            return true;
+        }
+    }
+    false
+}
+
+/// Whether a server's name leads to this address.
+fn leads_to<R: Net + AllocGlobal>(rt: &R, name: &str, address: SocketAddr) -> bool {
+    let Ok(addresses) = name.to_socket_addrs(rt) else {
+        return false;
+    };
+    for other in addresses {
+        if other == address {
+            return true;
+        }
+    }
+    false
+}
+
 /// What stores are opened with, wherever they have their shares.
 #[derive(Clone, Copy)]
 struct Asked<'a> {
@@ -106,25 +169,24 @@ impl Asked<'_> {
     }
 }
 
-/// Opens one store.
+/// Opens one store, of the kind that is wanted.
 fn open_wanted<R: Files<File = File> + AllocGlobal + Net + Clock + Clone + Drop + Log + Eprint>(
     rt: &R,
     wanted: &StoreWanted<'_>,
     asked: &Asked<'_>,
-) -> Result<ServerStore<R>, ProgramFault> {
+) -> Result<ServerStore<R>, ProgramFault>
+    ensures { IfOk result (λ store. IsOfKind wanted.now store) }
+{
     match wanted {
-        StoreWanted::Memory(room) => match memory_store(rt.alloc(), *room) {
-            Ok(store) => Ok(EitherStore::First(store)),
-            Err(fault) => Err(fault),
-        },
+        StoreWanted::Memory(room) => Ok(EitherStore::First(MemStore::new(rt.alloc(), *room))),
         StoreWanted::Folder(folder, room) => {
             match open_folder(rt, *folder, &asked.opening(*room)) {
-                Ok(store) => Ok(EitherStore::First(store)),
+                Ok(store) => Ok(EitherStore::Second(EitherStore::First(store))),
                 Err(fault) => Err(fault),
             }
         }
         StoreWanted::Disk(folder, room) => match open_on_disk(rt, *folder, &asked.opening(*room)) {
-            Ok(store) => Ok(EitherStore::Second(EitherStore::First(store))),
+            Ok(store) => Ok(EitherStore::Second(EitherStore::Second(EitherStore::First(store)))),
             Err(fault) => Err(fault),
         },
         StoreWanted::Redis(place, room) => open_redis(rt, *place, *room, asked.password),
@@ -137,22 +199,16 @@ fn open_redis<R: Files + AllocGlobal + Net + Clock + Clone + Drop + Log + Eprint
     place: RedisPlace<'_>,
     room: u64,
     password: Option<&[u8]>,
-) -> Result<ServerStore<R>, ProgramFault> {
+) -> Result<ServerStore<R>, ProgramFault>
+    ensures { IfOk result IsOnRedis }
+{
     let opening = RedisOpening {
         place,
         password,
         room,
     };
     match open_on_redis(rt, &opening) {
-        Ok(store) => Ok(EitherStore::Second(EitherStore::Second(store))),
+        Ok(store) => Ok(EitherStore::Second(EitherStore::Second(EitherStore::Second(store)))),
         Err(fault) => Err(fault),
     }
-}
-
-/// A store in memory alone.
-fn memory_store<R: Files + AllocGlobal + Clone + Drop>(
-    alloc: Global,
-    room: u64,
-) -> Result<FolderStore<R>, ProgramFault> {
-    Ok(KeptStore::open(alloc, ServerShelf::nothing(), room)?)
 }

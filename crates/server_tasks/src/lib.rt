@@ -7,22 +7,27 @@ ghost use Rattle.std.specs.FinMap as map;
 ghost use Rattle.grid.specs.GridState.{states};
 ghost use Rattle.gate_core.specs.Held.{AreParameters};
 
+mod serving_runtime;
+
+use crate::serving_runtime::ServingRuntime;
 use folder_shelf::Settings;
 use gate_core::{Gateway, GatewayFault};
+use gate_flow::Lobby;
 use gate_poll::{Limits, ServeFault, serve_on};
 use log::{Log, info};
 use mio::net::TcpListener;
 use server_board::Board;
 use server_options::{Options, Refusal, Shares, Task, read_words};
+use server_stores::small_files::read_at_most;
 use server_stores::{ProgramFault, ServerStore, check, handles, open_stores, restore, write_image};
 use share_store::Store;
 use std::alloc::Global;
+use std::env;
 use std::fs::File;
 use std::io::ErrorKind;
 use std::net::{Net, SocketAddr, ToSocketAddrs};
 use std::rt::{Env, Files};
 use std::time::{Clock, CpuClock, Duration};
-use std::{env, fs};
 
 /// How many bytes a secret may have.
 const MOST_SECRET: usize = 256;
@@ -65,10 +70,15 @@ pub fn run<
     }
 }
 
-/// The words of the command line, the program's name first.
-fn arguments_of(rt: &(impl Env + AllocGlobal)) -> Result<Vec<String>, ProgramFault> {
-    let Ok(arguments) = env::args(rt) else {
-        return Err(ProgramFault::NoMemory);
+/// The words of the command line, the program's name first. `Arguments` where one of them is no UTF-8.
+fn arguments_of(rt: &(impl Env + Eprint + AllocGlobal)) -> Result<Vec<String>, ProgramFault> {
+    let arguments = match env::args(rt) {
+        Ok(arguments) => arguments,
+        Err(error) if error.kind() == ErrorKind::OutOfMemory => return Err(ProgramFault::NoMemory),
+        Err(_) => {
+            let _ = eprintln!(rt; "wozhinnam: an argument is no UTF-8");
+            return Err(ProgramFault::Arguments);
+        }
     };
     let mut words = Vec::new(rt.alloc());
     for argument in arguments {
@@ -94,9 +104,9 @@ fn serve<
     if let Some(fault) = few {
         return Err(fault);
     }
-    let mut gateway = open_gateway(rt, options)?;
+    let mut lobby = Lobby::new(open_gateway(rt, options)?);
     let listeners = listen_for(rt, options)?;
-    serve_with(rt, options, listeners, &mut gateway)
+    serve_with(rt, options, listeners, &mut lobby)
 }
 
 /// Where connections are accepted, and control requests if they are anywhere.
@@ -107,7 +117,9 @@ struct Listeners {
 }
 
 /// Listens where it is asked for, and prints the addresses.
-fn listen_for<R: Print + Net>(rt: &R, options: &Options<'_>) -> Result<Listeners, ProgramFault> {
+fn listen_for<R: Print + Net>(rt: &R, options: &Options<'_>) -> Result<Listeners, ProgramFault>
+    ensures { IfOk result (λ listeners. is_some listeners.control ≡ is_some options.now.control) }
+{
     let connections = listen(rt, options.listen, "listening")?;
     let control = listen_for_control(rt, options)?;
     tell(rt, "listening on", &connections)?;
@@ -124,7 +136,9 @@ fn listen_for<R: Print + Net>(rt: &R, options: &Options<'_>) -> Result<Listeners
 fn listen_for_control<R: Net>(
     rt: &R,
     options: &Options<'_>,
-) -> Result<Option<TcpListener>, ProgramFault> {
+) -> Result<Option<TcpListener>, ProgramFault>
+    ensures { IfOk result (λ listener. is_some listener ≡ is_some options.now.control) }
+{
     match options.control {
         Some(address) => match listen(rt, address, "control") {
             Ok(listener) => Ok(Some(listener)),
@@ -150,17 +164,18 @@ fn serve_with<
     rt: &R,
     options: &Options<'_>,
     listeners: Listeners,
-    gateway: &mut Gateway<ServerStore<R>>,
+    lobby: &mut Lobby<ServerStore<R>>,
 ) -> Result<(), ProgramFault> {
     let Listeners {
         connections,
         control,
     } = listeners;
-    info!(rt; "started: at most {} connections", options.connections);
+    let serving = &ServingRuntime::new(rt);
+    info!(serving; "started: at most {} connections", options.connections);
     let limits = Limits::new(options.connections, Duration::from_secs(options.idle));
-    match serve_on(rt, connections, control, &limits, gateway, &mut Board) {
+    match serve_on(serving, connections, control, &limits, lobby, &mut Board) {
         Ok(counts) => {
-            info!(rt; "stopped: {} connections were opened", counts.opened);
+            info!(serving; "stopped: {} connections were opened", counts.opened);
             Ok(())
         }
         Err(ServeFault::NoMemory) => Err(ProgramFault::NoMemory),
@@ -221,7 +236,7 @@ fn read_secret<R: AllocGlobal + Files>(rt: &R, path: Option<&str>) -> Result<Vec
     let Some(path) = path else {
         return Ok(Vec::new(rt.alloc()));
     };
-    let Ok(secret) = fs::read(rt, path) else {
+    let Ok(secret) = read_at_most(rt, path, MOST_SECRET) else {
         return Err(ProgramFault::SecretUnread);
     };
     if secret.len() > MOST_SECRET {

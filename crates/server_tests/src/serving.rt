@@ -7,7 +7,7 @@ use gate_core::Tally;
 use gate_poll::Counts;
 use server_board::figures::StoreFigures;
 use server_board::{Asked, Method, asked_by, metrics_text, status_text};
-use server_options::{RedisPlace, Shares, StoreWanted, Task, read_store, read_words};
+use server_options::{Options, RedisPlace, Shares, StoreWanted, Task, read_store, read_words};
 use server_stores::folders::{Found, Opening, look, open_folder, open_on_disk};
 use server_stores::{ProgramFault, check, handles};
 use share_store::Store;
@@ -67,6 +67,85 @@ fn options_have_defaults(rt: HostRuntime) -> Result<(), Fail> {
     assert!(rt; options.redis_password_file.is_none());
     assert_eq!(rt; options.connections, 900);
     assert_eq!(rt; options.idle, 60);
+    Ok(())
+}
+
+/// What `serve` is asked for with one option.
+fn served_with(alloc: Global, words: &[String]) -> Result<Options<'_>, Fail> {
+    match read_words(alloc, words) {
+        Ok(Task::Serve(options)) => Ok(options),
+        _ => Err(Fail::from("no options")),
+    }
+}
+
+#[test]
+fn each_text_that_is_given_is_taken(rt: HostRuntime) -> Result<(), Fail> {
+    for value in ["127.0.0.1:1", "[::1]:2"] {
+        let words = words_of(rt.alloc(), &["serve", "--listen", value])?;
+        assert!(rt; served_with(rt.alloc(), &words)?.listen == value);
+        let words = words_of(rt.alloc(), &["serve", "--control", value])?;
+        assert!(rt; served_with(rt.alloc(), &words)?.control == Some(value));
+        let words = words_of(rt.alloc(), &["serve", "--secret-file", value])?;
+        assert!(rt; served_with(rt.alloc(), &words)?.secret_file == Some(value));
+        let words = words_of(rt.alloc(), &["serve", "--redis-password-file", value])?;
+        assert!(rt; served_with(rt.alloc(), &words)?.redis_password_file == Some(value));
+    }
+    Ok(())
+}
+
+#[test]
+fn each_number_that_is_given_is_taken(rt: HostRuntime) -> Result<(), Fail> {
+    for (text, value) in [("7", 7), ("11", 11)] {
+        let words = words_of(rt.alloc(), &["serve", "--connections", text])?;
+        assert_eq!(rt; served_with(rt.alloc(), &words)?.connections, value);
+        let words = words_of(rt.alloc(), &["serve", "--idle", text])?;
+        assert_eq!(rt; served_with(rt.alloc(), &words)?.idle, value as u64);
+        let words = words_of(rt.alloc(), &["serve", "--servers", text])?;
+        assert_eq!(rt; served_with(rt.alloc(), &words)?.stores.len(), value);
+        let words = words_of(rt.alloc(), &["serve", "--servers", "2", "--room", text])?;
+        assert_eq!(rt;
+            served_with(rt.alloc(), &words)?.stores.as_slice(),
+            [StoreWanted::Memory(value as u64); 2].as_slice()
+        );
+    }
+    let words = words_of(rt.alloc(), &["serve", "--shares", "2,5", "--no-sync"])?;
+    let options = served_with(rt.alloc(), &words)?;
+    assert_eq!(rt; options.shares, Shares { needed: 2, made: 5 });
+    assert!(rt; !options.synced);
+    Ok(())
+}
+
+#[test]
+fn each_verb_is_its_task(rt: HostRuntime) -> Result<(), Fail> {
+    let words = words_of(rt.alloc(), &["check", "/a", "/b"])?;
+    let Ok(Task::Check(folders)) = read_words(rt.alloc(), &words) else {
+        return Err(Fail::from("no folders to check"));
+    };
+    assert_eq!(rt; folders.as_slice(), ["/a", "/b"].as_slice());
+    let words = words_of(rt.alloc(), &["image", "/a"])?;
+    let Ok(Task::Image(folders)) = read_words(rt.alloc(), &words) else {
+        return Err(Fail::from("no folders of an image"));
+    };
+    assert_eq!(rt; folders.as_slice(), ["/a"].as_slice());
+    let words = words_of(
+        rt.alloc(),
+        &[
+            "restore",
+            "--secret-file",
+            "s",
+            "--no-sync",
+            "image",
+            "/a",
+            "/b",
+        ],
+    )?;
+    let Ok(Task::Restore(wanted)) = read_words(rt.alloc(), &words) else {
+        return Err(Fail::from("no image to restore"));
+    };
+    assert!(rt; wanted.file == "image");
+    assert_eq!(rt; wanted.folders.as_slice(), ["/a", "/b"].as_slice());
+    assert!(rt; wanted.secret_file == Some("s"));
+    assert!(rt; !wanted.synced);
     Ok(())
 }
 

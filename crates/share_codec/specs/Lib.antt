@@ -1,3 +1,4 @@
+-- Read Params, Segments, Ueb and Shares first: how a file is encoded; then Meets and Causes: what a good share is.
 pub mod Params
 pub mod Segments
 pub mod Tags

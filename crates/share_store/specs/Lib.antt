@@ -1,3 +1,4 @@
+-- Read Shares first, then Put, Looked and History. Stored and the laws are how the maps are kept.
 pub mod History
 pub mod Looked
 pub mod MapLaws

@@ -1,5 +1,5 @@
 -- Shares, a shelf and the index from one state to the next.
-use Rattle.std.proofs.Common.{Result, Ok, ◌≡◌, ◌<◌, ◌≤◌, ℕ, Bool, true, false, cond, List, [], length, Option, Some, None, is_some, refl, sym, ap, subst, ◌∙◌, arith, inl, inr}
+use Rattle.std.proofs.Common.{Result, Ok, Err, ◌≡◌, ◌<◌, ◌≤◌, ℕ, Bool, true, false, cond, List, [], length, Option, Some, None, is_some, refl, sym, ap, subst, ◌∙◌, arith, inl, inr}
 use Rattle.std.specs.Prelude.{unwrap_or, nat_lt}
 use Rattle.std.proofs.lemmas.Bool.{cases_lt, lt-ltb, ltb-true}
 use Rattle.std.proofs.lemmas.List.{length-replicate}
@@ -151,6 +151,13 @@ absent index key b o is found off = sym found ∙ by_case o (sym is ∙ off)
     by_case (Some x) e = cc
 
 -- ---- a byte of a share
+
+-- a call that was answered counted no failure
+pub calm : {X E : Type 0} (r : Result X E) (x : X) (e : E) (a b : ℕ) → r ≡ Ok x → (a < b → r ≡ Err e) → a ≤ b → b ≡ a
+calm r x e a b is failed rises = elim (cases_lt a b) [
+  | inl more ↦ let other : r ≡ Err e = failed more in absurd (let both : ◌≡◌ (Ok x) (Err e) = sym is ∙ other in cc)
+  | inr less ↦ omega arith
+]
 
 -- a call that gave something didn't fail
 pub no_failure : {X E : Type 0} (r : Result (Option X) E) (x : X) (a b : ℕ) → r ≡ Ok (Some x) → (a < b → r ≡ Ok None) → a ≤ b → b ≡ a

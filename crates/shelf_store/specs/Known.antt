@@ -1,6 +1,7 @@
 -- What an index knows of shares.
-use Rattle.std.proofs.Common.{◌≡◌, ◌∙◌}
-use Rattle.share_store.specs.Shares.{Shares, bytes_of}
+use Rattle.std.proofs.Common.{◌≡◌, ◌⊎◌, ◌∙◌}
+use Rattle.std.specs.FinMap.{remove}
+use Rattle.share_store.specs.Shares.{Shares, ShareKey, bytes_of}
 use Rattle.share_store.specs.Stored.{shares_in}
 use Rattle.share_store.specs.Stored.{blank}
 use Rattle.shelf_store.specs.Sizes.{sizes_of}
@@ -10,6 +11,10 @@ use Rattle.shelf_store.specs.declared.index.Index.{Index}
 -- the shares that stand, each byte of them 0
 abbrev pub known : Index → Shares
 known index = shares_in blank index.lengths.indexes
+
+-- The index is as it was, or without this share.
+abbrev pub ForgetsOnly : ShareKey → Index → Index → Type 0
+ForgetsOnly key old new = (new ≡ old) ⊎ (known new ≡ remove (known old) key)
 
 pub held_as : (index : Index) (m : Shares) → sizes_of (known index) ≡ sizes_of m → index.held ≡ bytes_of m
 held_as index m is = index.summed ∙ bytes_as (known index) m is

@@ -1,3 +1,4 @@
+-- Read Known first: what an index knows; then Doubt. The rest is for private clauses.
 pub mod Doubt
 pub mod Known
 pub mod SizeLaws

@@ -1,19 +1,57 @@
 //! Stores opened over shelves that hold shares.
-ghost use Rattle.std.specs.Prelude.{◌≡◌, ◌<◌, ◌+◌, ℕ, [], List, Some, None, IsTrue, IfOk, OnOk, IsErrOf, length};
+ghost use Rattle.std.specs.Prelude.{◌≡◌, ◌<◌, ◌≤◌, ◌+◌, ◌↔◌, ℕ, [], List, Some, None, IsTrue, IfOk, IfErr, IfSome, IfNone, OnOk, MatchResult, IsErrOf, length};
+ghost use Rattle.std.specs.Option.{option_map};
 ghost use Rattle.std.specs.FinMap as map;
+ghost use Rattle.std.specs.Rc.{rc_slice_items};
 ghost use Rattle.share_store.specs.Put.{put_once};
 ghost use Rattle.share_store.specs.Shares.{Shares, ShareKey, bytes_of};
 ghost use Rattle.share_shelf.specs.Left.{Keeps, IsQuiet};
 ghost use Rattle.shelf_store.specs.Doubt.{in_doubt};
 ghost use Rattle.shelf_store.specs.Known.{known};
+ghost use Rattle.shelf_store.specs.Sizes.{sizes_of};
 ghost use Rattle.share_store.specs.Stored.{blank};
-ghost use Rattle.share_shelf.specs.declared.open_fault.OpenFault.TheVariants.{Store as StoreRefused};
+ghost use Rattle.share_shelf.specs.declared.open_fault.OpenFault.TheVariants.{Shelf as ShelfRefused, Store as StoreRefused};
+ghost use Rattle.share_shelf.specs.declared.fault.ShelfFault.{ShelfFault};
 
 use crate::ShelfStore;
 use crate::index::Index;
-use share_shelf::{OpenFault, Shelf};
+use share_shelf::{OpenFault, Shelf, ShelfFault};
 use share_store::{Store, StoreFault};
 use std::alloc::Global;
+use std::rc::RcSlice;
+
+/// Takes into the index what a shelf gave of a share that it lists, by its length: nothing where it gave nothing, and
+/// nothing more where the share is there already.
+fn take_given(
+    taken: &mut Index,
+    index: [u8; 16],
+    number: u16,
+    given: &Option<RcSlice<u8>>,
+) -> Result<(), OpenFault>
+    ensures room { taken.new.room + taken.new.held ≡ taken.old.room + taken.old.held }
+    ensures nothing { IfNone given.now ((result ≡ Ok tt) × (taken.new ≡ taken.old)) }
+    ensures taken { IfSome given.now (λ bytes. OnOk result (known taken.new
+        ≡ put_once (known taken.old) (index, number) (blank (length (rc_slice_items bytes))))) }
+    ensures shelf { (fault : ShelfFault) → IsErrOf result (ShelfRefused fault) → ⊥ }
+    ensures not_down { IsErrOf result (StoreRefused StoreFault.Down) → ⊥ }
+    ensures empty { IsErrOf result OpenFault.Empty → option_map rc_slice_items given.now ≡ Some [] }
+    ensures full { IsErrOf result (StoreRefused StoreFault.Full) →
+        (map.get (known taken.old) (index, number) ≡ None)
+        × IfSome given.now (λ bytes. taken.old.room < length (rc_slice_items bytes)) }
+{
+    let Some(bytes) = given else {
+        return Ok(());
+    };
+    if bytes.is_empty() {
+        return Err(OpenFault::Empty);
+    }
+    if taken.get(&index, number).is_some() {
+        return Ok(());
+    }
+    let size = bytes.len() as u64;
+    taken.put(index, number, size)?;
+    Ok(())
+}
 
 /// Takes a share of a shelf that lists it into the index, by its length. What the shelf doesn't give is left out, and
 /// what it lists twice is taken once.
@@ -39,19 +77,38 @@ fn take_in<H: Shelf>(
         (m : Shares) → Keeps H.moment H.left_since shelf.old m →
         (bytes : List ℕ) → map.get m (index, number) ≡ Some bytes →
         (map.get (known taken.old) (index, number) ≡ None) × (taken.old.room < length bytes) }
+    ensures failed { (result ≡ Err (ShelfRefused ShelfFault.Failed))
+        ↔ (H.failures shelf.old < H.failures shelf.new) }
+    ensures rises { H.failures shelf.old ≤ H.failures shelf.new }
 {
-    let Some(bytes) = shelf.read(index, number)? else {
-        return Ok(());
-    };
-    if bytes.is_empty() {
-        return Err(OpenFault::Empty);
+    let given = shelf.read(index, number)?;
+    take_given(taken, index, number, &given)
+}
+
+/// The lengths of all shares of a shelf that it lists and gives, with room for so many bytes, these among them.
+fn take_all<H: Shelf>(alloc: Global, shelf: &mut H, room: u64) -> Result<Index, OpenFault>
+    ensures honest { H.honest shelf.new ≡ H.honest shelf.old }
+    ensures quiet { IsQuiet H.moment H.left_since shelf.old shelf.new }
+    ensures room { IfOk result (λ taken. taken.room + taken.held ≡ room) }
+    ensures sizes { IsTrue (H.honest shelf.old) →
+        (m : Shares) → Keeps H.moment H.left_since shelf.old m →
+        IfOk result (λ taken. sizes_of (known taken) ≡ sizes_of m) }
+    ensures not_down { IsErrOf result (StoreRefused StoreFault.Down) → ⊥ }
+    ensures empty { IsErrOf result OpenFault.Empty → IsTrue (H.honest shelf.old) →
+        (m : Shares) → Keeps H.moment H.left_since shelf.old m →
+        (key : ShareKey) × (map.get m key ≡ Some []) }
+    ensures full { IsErrOf result (StoreRefused StoreFault.Full) → IsTrue (H.honest shelf.old) →
+        (m : Shares) → Keeps H.moment H.left_since shelf.old m → room < bytes_of m }
+    ensures failed { (result ≡ Err (ShelfRefused ShelfFault.Failed))
+        ↔ (H.failures shelf.old < H.failures shelf.new) }
+    ensures rises { H.failures shelf.old ≤ H.failures shelf.new }
+{
+    let mut taken = Index::new(alloc, room);
+    let names = shelf.list(alloc)?;
+    for name in &names {
+        take_in(shelf, &mut taken, name.0, name.1)?;
     }
-    if taken.get(&index, number).is_some() {
-        return Ok(());
-    }
-    let size = bytes.len() as u64;
-    taken.put(index, number, size)?;
-    Ok(())
+    Ok(taken)
 }
 
 impl<H: Shelf + Drop> ShelfStore<H> {
@@ -61,37 +118,43 @@ impl<H: Shelf + Drop> ShelfStore<H> {
     ///
     /// Refused with `Shelf` where the shelf refused to be read, with `Store(Full)` where its shares are more than
     /// `room` bytes, with `Store(NoMemory)` where there was no memory for the index, and with `Empty` where a share has no
-    /// bytes.
-    pub fn open(alloc: Global, shelf: H, room: u64) -> Result<ShelfStore<H>, OpenFault>
+    /// bytes. The shelf is given back then.
+    pub fn open(alloc: Global, shelf: H, room: u64) -> Result<ShelfStore<H>, (OpenFault, H)>
         // After a restart, what is read is what a crash left.
         requires { IsTrue (H.honest shelf) → (m : Shares) × Keeps H.moment H.left_since shelf m }
         ensures up { IfOk result (λ store. in_doubt store.doubt ≡ None) }
         ensures none_failed { IfOk result (λ store. store.failures ≡ 0) }
         ensures room { IfOk result (λ store. store.index.room + store.index.held ≡ room) }
-        ensures quiet { IfOk result (λ store. IsQuiet H.moment H.left_since shelf store.shelf) }
-        ensures same_honest { IfOk result (λ store. H.honest store.shelf ≡ H.honest shelf) }
+        ensures quiet { MatchResult result
+            (λ store. IsQuiet H.moment H.left_since shelf store.shelf)
+            (λ refused. IsQuiet H.moment H.left_since shelf refused.1) }
+        ensures same_honest { MatchResult result (λ store. H.honest store.shelf ≡ H.honest shelf)
+            (λ refused. H.honest refused.1 ≡ H.honest shelf) }
         ensures shares { IsTrue (H.honest shelf) →
             (m : Shares) → Keeps H.moment H.left_since shelf m →
             IfOk result (λ store. ⟦<ShelfStore<H> as Store>⟧.shares store ≡ m) }
-        ensures not_down { IsErrOf result (StoreRefused StoreFault.Down) → ⊥ }
-        ensures empty { IsErrOf result OpenFault.Empty → IsTrue (H.honest shelf) →
+        ensures not_down { IfErr result (λ refused.
+            refused.0 ≡ StoreRefused StoreFault.Down → ⊥) }
+        ensures failed { IfErr result (λ refused. (refused.0 ≡ ShelfRefused ShelfFault.Failed)
+            ↔ (H.failures shelf < H.failures refused.1)) }
+        ensures empty { IfErr result (λ refused. refused.0 ≡ OpenFault.Empty →
+            IsTrue (H.honest shelf) →
             (m : Shares) → Keeps H.moment H.left_since shelf m →
-            (key : ShareKey) × (map.get m key ≡ Some []) }
-        ensures full { IsErrOf result (StoreRefused StoreFault.Full) → IsTrue (H.honest shelf) →
-            (m : Shares) → Keeps H.moment H.left_since shelf m → room < bytes_of m }
+            (key : ShareKey) × (map.get m key ≡ Some [])) }
+        ensures full { IfErr result (λ refused. refused.0 ≡ StoreRefused StoreFault.Full →
+            IsTrue (H.honest shelf) →
+            (m : Shares) → Keeps H.moment H.left_since shelf m → room < bytes_of m) }
     {
         let mut shelf = shelf;
-        let mut taken = Index::new(alloc, room);
-        let names = shelf.list(alloc)?;
-        for name in &names {
-            take_in(&mut shelf, &mut taken, name.0, name.1)?;
+        match take_all(alloc, &mut shelf, room) {
+            Ok(index) => Ok(ShelfStore {
+                alloc,
+                index,
+                shelf,
+                doubt: None,
+                failures: 0,
+            }),
+            Err(fault) => Err((fault, shelf)),
         }
-        Ok(ShelfStore {
-            alloc,
-            index: taken,
-            shelf,
-            doubt: None,
-            failures: 0,
-        })
     }
 }

@@ -1,5 +1,5 @@
 //! A store whose bytes are on a shelf.
-ghost use Rattle.std.specs.Prelude.{◌≡◌, ◌<◌, ◌≤◌, ◌+◌, ◌-◌, ◌^◌, ◌==◌, ◌↔◌, [], All, None, Some, true, false, not, length, is_some, IsTrue, IsSome, IfOk, IsOkAnd, IfSome, OnOk, OnErr, IsErrOf, if◌then◌else◌, slice_get};
+ghost use Rattle.std.specs.Prelude.{◌≡◌, ◌<◌, ◌≤◌, ◌+◌, ◌-◌, ◌^◌, ◌==◌, ◌↔◌, [], All, None, Some, true, false, not, length, is_some, IsTrue, IsSome, IfOk, IsOkAnd, IfSome, IfNone, OnOk, OnErr, IsErrOf, if◌then◌else◌, slice_get};
 ghost use Rattle.std.specs.Option.{ForSome, option_map};
 ghost use Rattle.std.specs.FinMap as map;
 ghost use Rattle.std.specs.Rc.{rc_slice_items};
@@ -11,7 +11,7 @@ ghost use Rattle.share_store.specs.Stored.{entry_of};
 ghost use Rattle.share_store.specs.Toggle.{has_byte, with_toggle};
 ghost use Rattle.share_shelf.specs.Left.{Keeps, IsQuiet, LeavesOnly};
 ghost use Rattle.shelf_store.specs.Doubt.{in_doubt, as_before};
-ghost use Rattle.shelf_store.specs.Known.{known, held_as};
+ghost use Rattle.shelf_store.specs.Known.{known, held_as, ForgetsOnly};
 ghost use Rattle.share_store.specs.Stored.{blank};
 ghost use Rattle.shelf_store.specs.SizeLaws.{some_as};
 ghost use Rattle.shelf_store.specs.Step.{IsInStep, IsInStep-prop, Crashes};
@@ -126,8 +126,25 @@ impl<H: Shelf> ShelfStore<H> {
         Ok(Some(bytes))
     }
 
+    /// Takes a share out of the index that the shelf doesn't give, so that it can be put again, and counts that as a
+    /// failure. An honest shelf gives each.
+    fn forget(&mut self, index: &[u8; 16], number: u16) -> Result<(), AllocError>
+        requires { IsTrue (H.honest self.old.shelf) → ⊥ }
+        ensures gone { known self.new.index
+            ≡ map.remove (known self.old.index) (index.now, number) }
+        ensures room { self.new.index.room + self.new.index.held
+            ≡ self.old.index.room + self.old.index.held }
+        ensures counted { OnOk result (self.new.failures ≡ self.old.failures + 1) }
+        ensures same { OnErr result (self.new.failures ≡ self.old.failures) }
+        ensures shelf { self.new.shelf ≡ self.old.shelf }
+        ensures doubt { self.new.doubt ≡ self.old.doubt }
+    {
+        self.index.remove(index, number);
+        self.count()
+    }
+
     /// The bytes of a share that the index has, `size` of them. `None` where the shelf failed or gave as many not, which
-    /// counts as a failure.
+    /// counts as a failure. What it gave not is taken out of the index.
     fn whole(
         &mut self,
         index: [u8; 16],
@@ -157,27 +174,47 @@ impl<H: Shelf> ShelfStore<H> {
         ensures stands { IsTrue (H.honest self.old.shelf) →
             ⟦<ShelfStore<H> as Store>⟧.shares self.new
             ≡ ⟦<ShelfStore<H> as Store>⟧.shares self.old }
-        ensures index { self.new.index ≡ self.old.index }
         ensures doubt { self.new.doubt ≡ self.old.doubt }
+
+        // What the shelf gave not leaves the index, and nothing else does.
+        ensures forgets { H.failures self.new.shelf ≡ H.failures self.old.shelf →
+            IfOk result (λ bytes. IfNone bytes
+            (map.get (known self.new.index) (index, number) ≡ None)) }
+        ensures forgets_only { ForgetsOnly (index, number) self.old.index self.new.index }
+        ensures kept_honest { IsTrue (H.honest self.old.shelf) →
+            self.new.index ≡ self.old.index }
+        ensures kept_failed { H.failures self.old.shelf < H.failures self.new.shelf →
+            self.new.index ≡ self.old.index }
+        ensures kept_given { IfOk result (λ bytes. IfSome bytes (λ b.
+            self.new.index ≡ self.old.index)) }
+        ensures room { self.new.index.room + self.new.index.held
+            ≡ self.old.index.room + self.old.index.held }
     {
         match self.stood(index, number) {
             Ok(Some(bytes)) => {
                 if bytes.len() as u64 == size {
                     return Ok(Some(bytes));
                 }
+                self.forget(&index, number)?;
+                Ok(None)
             }
-            Ok(None) => {}
-            Err(ShelfFault::Failed) => {}
-            Err(ShelfFault::NoMemory) => return Err(AllocError),
+            Ok(None) => {
+                self.forget(&index, number)?;
+                Ok(None)
+            }
+            Err(ShelfFault::Failed) => {
+                self.count()?;
+                Ok(None)
+            }
+            Err(ShelfFault::NoMemory) => Err(AllocError),
         }
-        self.count()?;
-        Ok(None)
     }
 
     /// The bytes of the share that stands there, by one read of the shelf. `None` where none stands, and then the shelf
     /// isn't asked. Where the shelf failed, or gave not as many bytes as the index has, that counts as a failure, and the
-    /// answer is `None`; over an honest shelf nothing else does. Refused where there was no memory to lend them, or a
-    /// failure could not be counted.
+    /// answer is `None`; over an honest shelf nothing else does. What the shelf gave not, or not so many bytes of, leaves
+    /// the index, so that it can be put again. Refused where there was no memory to lend them, or a failure could not be
+    /// counted.
     pub fn look(&mut self, index: [u8; 16], number: u16) -> Result<Option<RcSlice<u8>>, AllocError>
         ensures looked { Looked ⟦<ShelfStore<H> as Store>⟧.honest ⟦<ShelfStore<H> as Store>⟧.shares
             ⟦<ShelfStore<H> as Store>⟧.room ⟦<ShelfStore<H> as Store>⟧.failures self.old self.new }
@@ -198,8 +235,21 @@ impl<H: Shelf> ShelfStore<H> {
         ensures absent { map.get (known self.old.index) (index, number) ≡ None →
             (result ≡ Ok None) × (self.new ≡ self.old) }
         ensures quiet { IsQuiet H.moment H.left_since self.old.shelf self.new.shelf }
-        ensures index { self.new.index ≡ self.old.index }
         ensures doubt { self.new.doubt ≡ self.old.doubt }
+
+        // What the shelf gave not leaves the index, and nothing else does.
+        ensures forgets { H.failures self.new.shelf ≡ H.failures self.old.shelf →
+            IfOk result (λ bytes. IfNone bytes
+            (map.get (known self.new.index) (index, number) ≡ None)) }
+        ensures forgets_only { ForgetsOnly (index, number) self.old.index self.new.index }
+        ensures kept_honest { IsTrue (H.honest self.old.shelf) →
+            self.new.index ≡ self.old.index }
+        ensures kept_failed { H.failures self.old.shelf < H.failures self.new.shelf →
+            self.new.index ≡ self.old.index }
+        ensures kept_given { IfOk result (λ bytes. IfSome bytes (λ b.
+            self.new.index ≡ self.old.index)) }
+        ensures room { self.new.index.room + self.new.index.held
+            ≡ self.old.index.room + self.old.index.held }
     {
         match self.index.get(&index, number) {
             None => Ok(None),
@@ -540,6 +590,16 @@ impl<H: Shelf> Store for ShelfStore<H> {
         ensures counts_only { IsTrue (H.honest self.old.shelf) →
             H.failures self.new.shelf ≡ H.failures self.old.shelf →
             self.new.failures ≡ self.old.failures }
+        ensures forgets { H.failures self.new.shelf ≡ H.failures self.old.shelf →
+            IfOk result (λ bytes. IfNone bytes
+            (map.get (known self.new.index) (index, number) ≡ None)) }
+        ensures forgets_only { ForgetsOnly (index, number) self.old.index self.new.index }
+        ensures kept_honest { IsTrue (H.honest self.old.shelf) →
+            self.new.index ≡ self.old.index }
+        ensures kept_failed { H.failures self.old.shelf < H.failures self.new.shelf →
+            self.new.index ≡ self.old.index }
+        ensures kept_given { IfOk result (λ bytes. IfSome bytes (λ b.
+            self.new.index ≡ self.old.index)) }
     {
         self.look(index, number)
     }

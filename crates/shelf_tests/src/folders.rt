@@ -3,7 +3,7 @@ use crate::shelf_calls::calls;
 use case_lines::{Case, NoAnswer, debug, done, fixed};
 use failures::{opens, puts};
 use folder_shelf::{
-    FolderShelf, Settings, name_of, read_name, read_settings, seal_of, settings_text,
+    FileShelf, FolderShelf, Settings, name_of, read_name, read_settings, seal_of, settings_text,
 };
 use mem_files::MemFiles;
 use std::alloc::Global;
@@ -19,7 +19,7 @@ mod mem_files;
 #[derive(Drop)]
 pub struct Folder {
     files: MemFiles,
-    shelf: Option<FolderShelf<MemFiles>>,
+    shelf: Option<FileShelf<MemFiles>>,
 }
 
 /// The storage index of bytes from this one on.
@@ -119,6 +119,8 @@ fn asked(alloc: Global, folder: &mut Folder, case: &Case<'_>) -> Result<String, 
     match case.word(1)? {
         "crash" => done(alloc, folder.files.crash()),
         "write" => write(alloc, &folder.files, case),
+        "make" => done(alloc, fs::create_dir(&folder.files, case.word(2)?)),
+        "lose" => done(alloc, folder.files.lose_folder(case.word(2)?)),
         "stands" => {
             let found = fs::metadata(&folder.files, case.word(2)?);
             debug(alloc, &found.is_ok())
@@ -155,7 +157,7 @@ fn open(alloc: Global, folder: &mut Folder, case: &Case<'_>) -> Result<String, N
 /// The answer of the shelf. `of` makes calls of shares under the index from the byte at place 2 on.
 fn of_shelf(
     alloc: Global,
-    shelf: &mut FolderShelf<MemFiles>,
+    shelf: &mut FileShelf<MemFiles>,
     case: &Case<'_>,
 ) -> Result<String, NoAnswer> {
     match case.word(1)? {

@@ -1,5 +1,6 @@
 //! Shelves on servers of the tests' own: one that answers what it was told to, and one that keeps what stands.
-use crate::shelf_calls::calls;
+use crate::shelf_calls::call;
+use crate::texts::add;
 use case_lines::{Case, NoAnswer, debug, fixed};
 use octets::Bytes;
 use redis_shelf::{Link, LinkFault, RedisShelf, Settings};
@@ -7,6 +8,8 @@ use std::alloc::{AllocError, Global};
 
 /// A server in memory, of which a call fails.
 mod server;
+/// A server whose list of names doesn't end.
+mod endless;
 
 /// The storage index of all shares.
 const INDEX: [u8; 16] = [15; 16];
@@ -132,6 +135,7 @@ pub fn answer(
             fixed(alloc, "ok")
         }
         "told" => told(alloc, held.take()),
+        "endless" => endless::listed(alloc),
         "whichever-fails" => {
             server::whichever_fails(alloc, case.number(2)?, case.word(3)? == "done")
         }
@@ -150,7 +154,17 @@ fn asked(
 ) -> Result<String, NoAnswer> {
     match case.word(1)? {
         "strangers" => debug(alloc, &shelf.strangers().1),
-        _ => calls(alloc, shelf, INDEX, case, 1),
+        _ => {
+            let mut answers = String::new(alloc);
+            for at in 1..case.len() {
+                if case.word(at)? == "fault" {
+                    add(&mut answers, &debug(alloc, &shelf.last_fault())?)?;
+                } else if let Some(answer) = call(alloc, shelf, INDEX, case, at)? {
+                    add(&mut answers, &answer)?;
+                }
+            }
+            Ok(answers)
+        }
     }
 }
 

@@ -37,7 +37,7 @@ pub fn calls<H: Shelf>(
 }
 
 /// The answer to the call that begins at a place, if one does.
-fn call<H: Shelf>(
+pub fn call<H: Shelf>(
     alloc: Global,
     shelf: &mut H,
     index: [u8; 16],

@@ -18,7 +18,10 @@ fn over_failing(
 ) -> Result<ShelfStore<FailShelf>, OpenFault> {
     let (at, for_good, is_done) = failure;
     inner.settled();
-    ShelfStore::open(alloc, FailShelf::new(inner, at, for_good, is_done), room)
+    match ShelfStore::open(alloc, FailShelf::new(inner, at, for_good, is_done), room) {
+        Ok(store) => Ok(store),
+        Err((fault, _shelf)) => Err(fault),
+    }
 }
 
 /// A store over a copy of the shelf in memory, with the room and the failure that stand from place 2 on.

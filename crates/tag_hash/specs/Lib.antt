@@ -1,3 +1,4 @@
+-- Read Netstring, Tagged and Pair first; Use and Collisions are the premise. Lanes is how the code computes the same.
 pub mod Collisions
 pub mod Decimal
 pub mod Faults

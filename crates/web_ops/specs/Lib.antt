@@ -1,3 +1,4 @@
+-- Read Answers first: what each request is answered, over Replies and Uploads. Replied says the same over any stores.
 pub mod Bodies
 pub mod Encoding
 pub mod Replies

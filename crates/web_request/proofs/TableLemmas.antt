@@ -6,8 +6,8 @@ use Rattle.caps.specs.CapTexts.{IsCapText}
 use Rattle.caps.specs.Reading.{cap_reading}
 use Rattle.caps.specs.declared.cap.Cap.{Cap}
 use Rattle.caps.specs.declared.fault.CapFault.{CapFault}
-use Rattle.path_walk.specs.Names.{names_of}
-use Rattle.path_walk.specs.declared.fault.PathFault.{PathFault}
+use Rattle.path_names.specs.Names.{names_of}
+use Rattle.path_names.specs.declared.fault.PathFault.{PathFault}
 use Rattle.web_request.specs.Targets.{origin_of, path_of, query_text, resource_of, below_uri}
 use Rattle.web_request.specs.Queries.{query_of}
 use Rattle.web_request.specs.Actions.{is_absent_or_empty, is_text, is_text_in_any_case, verify_of, checked_by, check_of, read_of, upload_action, node_action, action_of}

@@ -3,7 +3,7 @@ use Rattle.std.specs.Prelude.{ℕ, ◌+◌, Bool, true, false, ◌&&◌, ◌||�
 use Rattle.std.specs.List.{list_all, list_any, find}
 use Rattle.std.specs.Str.{is_utf8}
 use Rattle.caps.specs.Reading.{cap_reading}
-use Rattle.path_walk.specs.Names.{texts, has_bad_escape, max_names, is_empty, first_or_empty}
+use Rattle.path_names.specs.Names.{texts, has_bad_escape, max_names, is_empty, first_or_empty}
 use Rattle.web_request.specs.Targets.{origin_of, path_of, query_text, resource_of, below_uri}
 use Rattle.web_request.specs.Queries.{query_of}
 use Rattle.web_request.specs.Actions.{is_absent_or_empty, is_text, is_text_in_any_case, verify_of}

@@ -1,3 +1,4 @@
+-- Read Table first: what a request is, row by row; Requests and Faults say it by order of work.
 pub mod Targets
 pub mod Queries
 pub mod Actions

@@ -3,9 +3,9 @@ use Rattle.std.specs.Prelude.{ℕ, Bool, List, Option, Some, None, Result, Ok, E
 use Rattle.caps.specs.Reading.{cap_reading}
 use Rattle.caps.specs.declared.cap.Cap.{Cap}
 use Rattle.caps.specs.declared.fault.CapFault.{CapFault}
-use Rattle.path_walk.specs.Names.{names_of}
-use Rattle.path_walk.specs.declared.fault.PathFault.{PathFault}
-use Rattle.path_walk.specs.declared.fault.PathFault.TheVariants as path
+use Rattle.path_names.specs.Names.{names_of}
+use Rattle.path_names.specs.declared.fault.PathFault.{PathFault}
+use Rattle.path_names.specs.declared.fault.PathFault.TheVariants as path
 use Rattle.web_request.specs.Targets.{origin_of, path_of, query_text, resource_of, below_uri}
 use Rattle.web_request.specs.Queries.{query_of}
 use Rattle.web_request.specs.Actions.{action_of}

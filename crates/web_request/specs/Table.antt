@@ -2,7 +2,7 @@
 use Rattle.std.specs.Prelude.{◌≡◌, ℕ, Bool, true, false, List, bytes_eq, codes, Some, Ok}
 use Rattle.caps.specs.CapTexts.{IsCapText}
 use Rattle.caps.specs.declared.cap.Cap.{Cap}
-use Rattle.path_walk.specs.Names.{names_of}
+use Rattle.path_names.specs.Names.{names_of}
 use Rattle.web_request.specs.Targets.{origin_of, path_of, query_text, resource_of, below_uri}
 use Rattle.web_request.specs.Queries.{query_of}
 use Rattle.web_request.specs.Actions.{is_absent_or_empty, is_text, is_text_in_any_case, verify_of}

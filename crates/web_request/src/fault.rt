@@ -2,7 +2,7 @@
 ghost use Rattle.std.specs.Prelude.{◌≡◌};
 
 use crate::request::Resource;
-use path_walk::PathFault;
+use path_names::PathFault;
 use std::alloc::AllocError;
 use thiserror::Error;
 

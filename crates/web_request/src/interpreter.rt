@@ -1,6 +1,6 @@
 //! From a head and a body to the request that they are.
 ghost use Rattle.std.specs.Prelude.{◌≡◌, ◌≢◌, IfOk, IfErr, Ok, Err};
-ghost use Rattle.path_walk.specs.Names.{names_of};
+ghost use Rattle.path_names.specs.Names.{names_of};
 ghost use Rattle.web_request.specs.Queries.{query_of};
 ghost use Rattle.web_request.specs.Actions.{action_of};
 ghost use Rattle.web_request.specs.Requests.{node_of, request_for, interpreted};
@@ -15,7 +15,7 @@ use crate::request::{Request, Resource};
 use crate::target::{below_uri, cut_at_question, origin_of, resource_of};
 use caps::{Cap, CapFault};
 use octets::Bytes;
-use path_walk::{Names, names};
+use path_names::{Names, names};
 use std::alloc::Global;
 
 /// The request that a head and a body are, or the first fault of [`WebFault`] that holds. The body is moved; it is

@@ -2,7 +2,7 @@
 
 use caps::Cap;
 use octets::Bytes;
-use path_walk::Names;
+use path_names::Names;
 
 /// What a request asks for.
 #[derive(Debug, Drop)]

@@ -14,10 +14,13 @@ ghost use Rattle.server_stores.specs.Status.{status_of};
 
 use server_stores::ProgramFault;
 use server_tasks::run;
+use std::fs;
 use std::process::ExitCode;
+use std::rt::Files;
 
 /// Does what the words ask for, tells the fault that ended it on standard error, and exits with its status.
 fn main(rt: HostRuntime) -> ExitCode {
+    let _standard = occupied(&rt);
     let outcome = run(&rt);
     if let Err(fault) = &outcome {
         if !fault.is_told() {
@@ -25,6 +28,17 @@ fn main(rt: HostRuntime) -> ExitCode {
         }
     }
     code_of(&outcome)
+}
+
+/// Handles that take the numbers of standard input, output and error where these were closed before the start. Else the
+/// next file or socket that is opened takes such a number, and what is printed goes into it. They are for reading alone, so
+/// what is printed to a closed output fails.
+fn occupied<R: Files>(rt: &R) -> [Option<R::File>; 3] {
+    [
+        fs::open(rt, "/dev/null").ok(),
+        fs::open(rt, "/dev/null").ok(),
+        fs::open(rt, "/dev/null").ok(),
+    ]
 }
 
 /// The exit code for an outcome: 0, or the status of its fault.

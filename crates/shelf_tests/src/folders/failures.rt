@@ -2,19 +2,19 @@
 use super::index_from;
 use super::mem_files::MemFiles;
 use case_lines::{Case, NoAnswer, fixed};
-use folder_shelf::{FolderFault, FolderShelf, Settings};
+use folder_shelf::{FileShelf, FolderFault, FolderShelf, Settings};
 use share_shelf::Shelf;
 use std::alloc::Global;
 use std::rc::RcSlice;
 
 /// The shelf in the folder `/d`.
-fn opened(files: &MemFiles) -> Result<FolderShelf<MemFiles>, FolderFault> {
+fn opened(files: &MemFiles) -> Result<FileShelf<MemFiles>, FolderFault> {
     let settings = Settings::new(3, 10, 3, 10, b"swordfish");
     FolderShelf::open(files.clone()?, "/d", &settings, true)
 }
 
 /// Puts share 7.
-fn put(alloc: Global, shelf: &mut FolderShelf<MemFiles>, bytes: &[u8]) -> Result<(), FolderFault> {
+fn put(alloc: Global, shelf: &mut FileShelf<MemFiles>, bytes: &[u8]) -> Result<(), FolderFault> {
     let share = RcSlice::from_vec(bytes.to_vec(alloc)?)?;
     if share.as_slice().is_empty() {
         return Err(FolderFault::Failed);

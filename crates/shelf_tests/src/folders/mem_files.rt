@@ -79,6 +79,10 @@ impl State {
         }
     }
 
+    fn lose_folder(&mut self, path: &str) {
+        self.folders.retain(|folder| folder.as_str() != path);
+    }
+
     fn forget(&mut self, path: &str) {
         self.names.retain(|name| name.path.as_str() != path);
     }
@@ -155,6 +159,12 @@ impl MemFiles {
         Ok(())
     }
 
+    /// Somebody takes an empty folder away.
+    pub(super) fn lose_folder(&self, path: &str) -> io::Result<()> {
+        self.state.try_borrow_mut()?.lose_folder(path);
+        Ok(())
+    }
+
     /// The machine crashes.
     pub(super) fn crash(&self) -> io::Result<()> {
         self.state.try_borrow_mut()?.crash(self.alloc)
@@ -191,8 +201,13 @@ impl Files for MemFiles {
             None
         } else {
             match state.node_of(path) {
+                Ok(_) if how.asks_create_new() => {
+                    return Err(io::Error::from(ErrorKind::AlreadyExists));
+                }
                 Ok(node) => Some(node),
-                Err(_) if how.asks_create() => Some(state.create(self.alloc, path)?),
+                Err(_) if how.asks_create() || how.asks_create_new() => {
+                    Some(state.create(self.alloc, path)?)
+                }
                 Err(error) => return Err(error),
             }
         };
@@ -240,8 +255,11 @@ impl Files for MemFiles {
         if state.is_folder(path) {
             return Ok(Metadata::of_dir());
         }
-        state.node_of(path)?;
-        Ok(Metadata::of_file(0))
+        let node = state.node_of(path)?;
+        match state.nodes.get(node) {
+            Some(node) => Ok(Metadata::of_file(node.bytes.len() as u64)),
+            None => Err(io::Error::from(ErrorKind::NotFound)),
+        }
     }
 
     fn symlink_metadata(&self, path: &str) -> io::Result<Metadata> {
@@ -256,8 +274,19 @@ impl Files for MemFiles {
         let mut guard = self.state.try_borrow_mut()?;
         let state = &mut *guard;
         state.step()?;
-        let node = state.node_of(from)?;
+        if !state.is_folder(folder_of(to)) {
+            return Err(io::Error::from(ErrorKind::NotFound));
+        }
         let path = String::from_str(self.alloc, to)?;
+        if state.is_folder(from) {
+            state.lose_folder(from);
+            state.folders.push(path)?;
+            return Ok(());
+        }
+        let node = state.node_of(from)?;
+        if state.is_folder(to) {
+            return Err(io::Error::from(ErrorKind::IsADirectory));
+        }
         state.forget(to);
         state.forget(from);
         state.names.push(Name { path, node })?;
@@ -268,6 +297,9 @@ impl Files for MemFiles {
         let mut guard = self.state.try_borrow_mut()?;
         let state = &mut *guard;
         state.step()?;
+        if state.is_folder(path) {
+            return Err(io::Error::from(ErrorKind::IsADirectory));
+        }
         state.node_of(path)?;
         state.forget(path);
         Ok(())

@@ -10,7 +10,8 @@ use shelf_store::ShelfStore;
 use std::alloc::Global;
 use std::rc::RcSlice;
 
-/// A shelf that gives so many shares as they are, and then for each so many bytes, each 0, or none.
+/// A shelf that gives so many shares as they are, and then for each so many bytes, each 0, or none, until one is put: from
+/// then on it is sound.
 #[derive(Drop)]
 struct RottingShelf {
     alloc: Global,
@@ -46,6 +47,7 @@ impl Shelf for RottingShelf {
     }
 
     fn put(&mut self, index: [u8; 16], number: u16, bytes: RcSlice<u8>) -> Result<(), ShelfFault> {
+        self.sound = u64::MAX;
         self.inner.put(index, number, bytes)
     }
 
@@ -72,7 +74,7 @@ fn over_rotting(
     inner: MemShelf,
     room: u64,
     rot: (u64, Option<usize>),
-) -> Result<ShelfStore<RottingShelf>, OpenFault> {
+) -> Result<ShelfStore<RottingShelf>, (OpenFault, RottingShelf)> {
     let (sound, left) = rot;
     let shelf = RottingShelf {
         alloc,
@@ -96,6 +98,6 @@ pub(super) fn answer(
     let inner = left_now(alloc, shelf)?;
     match over_rotting(alloc, inner, room, (sound, left)) {
         Ok(mut store) => calls(alloc, &mut store, case, 5),
-        Err(fault) => debug(alloc, &fault),
+        Err((fault, _shelf)) => debug(alloc, &fault),
     }
 }

@@ -1,4 +1,4 @@
-use Rattle.std.proofs.Common.{◌≡◌, refl}
+use Rattle.std.proofs.Common.{refl}
 use Rattle.gate_core.specs.Held.{connection_at}
 use Rattle.gate_flow.proofs.Leading.{bytes_led, bytes_open, refused_led, bytes_refused, call_fault}
 use Rattle.gate_flow.proofs.calls.bring.Goals as goal

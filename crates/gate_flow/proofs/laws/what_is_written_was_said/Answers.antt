@@ -1,4 +1,3 @@
-use Rattle.std.proofs.Common.{List, ℕ}
 use Rattle.gate_core.specs.Settings.{under}
 use Rattle.gate_core.specs.Events.{secret_of}
 use Rattle.gate_core.specs.Held.{waiting}

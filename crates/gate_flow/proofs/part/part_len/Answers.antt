@@ -1,8 +1,6 @@
-use Rattle.std.proofs.Common.{◌≡◌, ◌≤◌, ◌<◌, ◌+◌, ◌-◌, ℕ, List, length, take, drop, false, true, refl, sym, ◌∙◌, ap, subst, arith, inl, inr, ⊎_elim}
+use Rattle.std.proofs.Common.{◌≡◌, ◌≤◌, ◌+◌, ◌-◌, ℕ, List, length, take, drop, false, refl, sym, ◌∙◌, subst, arith, inl, inr, ⊎_elim}
 use Rattle.http_edge.specs.Line.{ends_in_empty_line}
-use Rattle.gate_flow.specs.Parts.{IsPart}
 use Rattle.gate_flow.proofs.Blanks.{none_yet}
-use Rattle.memchr.specs.Find.{NoneBefore}
 use Rattle.std.proofs.lemmas.Bool.Decides.{leb_tells}
 use Rattle.std.proofs.lemmas.List.{length-drop, length-take-le}
 use Rattle.gate_flow.proofs.part.part_len.Goals as goal

@@ -1,30 +1,71 @@
-use Rattle.std.proofs.Common.{◌≡◌, ◌∙◌, ℕ, Option, None, Some, Err, length, sym, ap, arith}
+use Rattle.std.proofs.Common.{◌≡◌, ◌∙◌, ℕ, Option, None, Some, length, sym, ap, subst}
+use Rattle.std.specs.Prelude.{IsTrue}
 use Rattle.std.proofs.lemmas.List.{length-replicate}
 use Rattle.std.specs.Option.{option_map}
 use Rattle.std.specs.FinMap.{get}
 use Rattle.std.specs.Rc.{rc_slice_items}
 use Rattle.share_store.specs.Shares.{Shares, ShareKey}
-use Rattle.shelf_store.specs.Doubt.{in_doubt, as_before}
+use Rattle.share_store.specs.Stored.{blank}
 use Rattle.shelf_store.specs.Known.{known}
+use Rattle.shelf_store.specs.Sizes.{sizes_of}
 use Rattle.shelf_store.specs.SizeLaws.{as_long}
+use Rattle.shelf_store.proofs.Changes.{standing, IsHonest}
+use Rattle.shelf_store.proofs.Steps.{at_doubt}
+use Rattle.shelf_store.proofs.shelf_store.ShelfStore.whole.Given.{Over}
 use Rattle.shelf_store.proofs.shelf_store.ShelfStore.whole.Goals as goal
-use Rattle.shelf_store.proofs.shelf_store.ShelfStore.whole.Goals.{in-Ok-Some+else-len-size, in-Ok-None, in-Err-Failed}
+use Rattle.shelf_store.proofs.shelf_store.ShelfStore.whole.Goals.{Else-len-size, In-Ok-None}
 
-pub returns-clause-counts_only : goal.returns-clause-counts_only
-returns-clause-counts_only g c h same =
-    let key : ShareKey = (c.args.index, c.args.number) in
+-- what stands is as long as the index has it
+long : (i m : Shares) (key : ShareKey) (size : ℕ) → sizes_of i ≡ sizes_of m → get i key ≡ Some (blank size) → option_map length (get m key) ≡ Some size
+long i m key size is at = sym (as_long i m is key) ∙ ap (option_map length) at ∙ ap Some (length-replicate size 0)
+
+-- an honest shelf gives no other number of bytes
+other : (g : Over) → (c : Else-len-size g) → IsHonest c.args.self.now → ⊥
+other g c h =
     let self = c.args.self.now in
-    let m : Shares = as_before (in_doubt self.doubt) (g.H.Shelf.shares self.shelf) in
-    let long : option_map length (get m key) ≡ Some c.args.size = sym (as_long (known self.index) m (self.in_step.sizes h) key) ∙ ap (option_map length) c.requires ∙ ap Some (length-replicate c.args.size 0) in
-    absurd (elim c.match-stood.branch [
-      | in-Ok-Some+else-len-size w ↦
-          let both : Some (length (rc_slice_items w.in-Ok-Some.bytes)) ≡ Some c.args.size =
-          ap (λ o. option_map length (option_map rc_slice_items o)) (sym w.in-Ok-Some.field-0-is) ∙ ap (option_map length) (w.in-Ok-Some.ensures.given h) ∙ long in
-          let as_known : length (rc_slice_items w.in-Ok-Some.bytes) ≡ c.args.size = cc in
-          w.if-len-size.false (w.len.ensures ∙ as_known)
-      | in-Ok-None w ↦
-          let both : ◌≡◌ {A = Option ℕ} None (Some c.args.size) =
-          ap (λ o. option_map length (option_map rc_slice_items o)) (sym w.in-Ok-None.field-0-is) ∙ ap (option_map length) (w.in-Ok-None.ensures.given h) ∙ long in
-          cc
-      | in-Err-Failed w ↦ omega (arith, w.in-Err-Failed.ensures.failed.0 (ap Err w.in-Err-Failed.field-0-is), ap g.H.Shelf.failures c.count.ensures.shelf, same)
-    ])
+    let stands : option_map length (get (standing self) (c.args.index, c.args.number)) ≡ Some c.args.size = long (known self.index) (standing self) (c.args.index, c.args.number) c.args.size (self.in_step.sizes h) c.requires in
+    let both : Some (length (rc_slice_items c.in-Ok-Some.bytes)) ≡ Some c.args.size =
+    ap (λ o. option_map length (option_map rc_slice_items o)) (sym c.in-Ok-Some.field-0-is) ∙ ap (option_map length) (c.in-Ok-Some.ensures.given h) ∙ stands in
+    let as_known : length (rc_slice_items c.in-Ok-Some.bytes) ≡ c.args.size = cc in
+    c.if-len-size.false (c.len.ensures ∙ as_known)
+
+-- and not none
+none : (g : Over) → (c : In-Ok-None g) → IsHonest c.args.self.now → ⊥
+none g c h =
+    let self = c.args.self.now in
+    let stands : option_map length (get (standing self) (c.args.index, c.args.number)) ≡ Some c.args.size = long (known self.index) (standing self) (c.args.index, c.args.number) c.args.size (self.in_step.sizes h) c.requires in
+    let both : ◌≡◌ {A = Option ℕ} None (Some c.args.size) =
+    ap (λ o. option_map length (option_map rc_slice_items o)) (sym c.in-Ok-None.field-0-is) ∙ ap (option_map length) (c.in-Ok-None.ensures.given h) ∙ stands in
+    cc
+
+pub forget-requires : goal.forget-requires
+forget-requires g c h = other g (goal.at.forget-requires g c).Else-len-size (subst IsTrue c.stood.ensures.honest h)
+
+pub forget-requires-in-Ok-None : goal.forget-requires-in-Ok-None
+forget-requires-in-Ok-None g c h = none g (goal.at.forget-requires-in-Ok-None g c).In-Ok-None (subst IsTrue c.stood.ensures.honest h)
+
+pub returns-in_err-forget-in-Ok-Some-clause-kept_honest : goal.returns-in_err-forget-in-Ok-Some-clause-kept_honest
+returns-in_err-forget-in-Ok-Some-clause-kept_honest g c h = absurd (other g (goal.at.returns-in_err-forget-in-Ok-Some-clause-kept_honest g c).Else-len-size h)
+
+pub returns-in_ok-forget-in-Ok-Some-clause-counts_only : goal.returns-in_ok-forget-in-Ok-Some-clause-counts_only
+returns-in_ok-forget-in-Ok-Some-clause-counts_only g c h = absurd (other g (goal.at.returns-in_ok-forget-in-Ok-Some-clause-counts_only g c).Else-len-size h)
+
+pub returns-in_ok-forget-in-Ok-Some-clause-kept_honest : goal.returns-in_ok-forget-in-Ok-Some-clause-kept_honest
+returns-in_ok-forget-in-Ok-Some-clause-kept_honest g c h = absurd (other g (goal.at.returns-in_ok-forget-in-Ok-Some-clause-kept_honest g c).Else-len-size h)
+
+pub returns-in_ok-forget-in-Ok-Some-clause-forgets : goal.returns-in_ok-forget-in-Ok-Some-clause-forgets
+returns-in_ok-forget-in-Ok-Some-clause-forgets g c same =
+    ap (λ (m : Shares). get m (c.args.index, c.args.number)) c.forget.ensures.gone ∙ at_doubt (c.args.index, c.args.number) None (known c.stood.new.self.index)
+
+pub returns-in_err-forget-in-Ok-None-clause-kept_honest : goal.returns-in_err-forget-in-Ok-None-clause-kept_honest
+returns-in_err-forget-in-Ok-None-clause-kept_honest g c h = absurd (none g (goal.at.returns-in_err-forget-in-Ok-None-clause-kept_honest g c).In-Ok-None h)
+
+pub returns-in_ok-forget-in-Ok-None-clause-counts_only : goal.returns-in_ok-forget-in-Ok-None-clause-counts_only
+returns-in_ok-forget-in-Ok-None-clause-counts_only g c h = absurd (none g (goal.at.returns-in_ok-forget-in-Ok-None-clause-counts_only g c).In-Ok-None h)
+
+pub returns-in_ok-forget-in-Ok-None-clause-kept_honest : goal.returns-in_ok-forget-in-Ok-None-clause-kept_honest
+returns-in_ok-forget-in-Ok-None-clause-kept_honest g c h = absurd (none g (goal.at.returns-in_ok-forget-in-Ok-None-clause-kept_honest g c).In-Ok-None h)
+
+pub returns-in_ok-forget-in-Ok-None-clause-forgets : goal.returns-in_ok-forget-in-Ok-None-clause-forgets
+returns-in_ok-forget-in-Ok-None-clause-forgets g c same =
+    ap (λ (m : Shares). get m (c.args.index, c.args.number)) c.forget-in-Ok-None.ensures.gone ∙ at_doubt (c.args.index, c.args.number) None (known c.stood.new.self.index)

@@ -1,0 +1,107 @@
+#!/bin/sh
+# `wozhinnam serve`, the built program: each exit status that a run can have, curl and wget at once (clients.sh), chunked
+# uploads, `Expect: 100-continue`, the control requests, and a stop. It needs curl, wget and python3, and takes a minute.
+# usage: bench/checks/serve.sh PROGRAM
+set -eu
+program=${1:?usage: bench/checks/serve.sh PROGRAM}
+here=$(cd "$(dirname "$0")" && pwd)
+. "$here/../tools/server.sh"
+
+# a run that ends by itself: its status, and a line on standard error
+ends() {
+    wanted=$1
+    shift
+    status=0
+    timeout 20 "$program" "$@" > "$folder/nothing" 2> "$folder/why" || status=$?
+    test "$status" = "$wanted" || fail "$* ends with $status and not $wanted"
+    test -s "$folder/why" || fail "$* doesn't say why"
+    test ! -s "$folder/nothing" || fail "$* prints something"
+}
+
+# statuses
+start
+ends 2 serve --shares 4,3
+ends 2 serve --servers 0
+ends 2 serve --port 80
+ends 2
+ends 3 serve --listen nobody.invalid:80
+ends 3 serve --listen 127.0.0.1
+ends 4 serve --listen "$(address 'listening on')"
+ends 6 serve --listen 203.0.113.1:80
+if test "$(id -u)" = 0 && test "$(cat /proc/sys/net/ipv4/ip_unprivileged_port_start)" -gt 80; then
+    chmod 711 "$folder"
+    install -m 755 "$program" "$folder/program"
+    status=0
+    setpriv --reuid=65534 --regid=65534 --clear-groups --no-new-privs timeout 20 "$folder/program" serve --listen 127.0.0.1:80 \
+        > "$folder/nothing" 2> "$folder/why" || status=$?
+    test "$status" = 5 || fail "no right to listen ends with $status"
+fi
+ends 7 serve --secret-file "$folder/none"
+head -c 257 /dev/zero > "$folder/long"
+ends 8 serve --secret-file "$folder/long"
+status=0
+(ulimit -n 100 && timeout 20 "$program" serve --connections 100) > "$folder/nothing" 2> "$folder/why" || status=$?
+test "$status" = 9 || fail "few handles end with $status"
+status=0
+timeout 20 "$program" serve --listen 127.0.0.1:0 > /dev/full 2> "$folder/why" || status=$?
+test "$status" = 11 || fail "a full output ends with $status"
+# a closed output: nothing that is printed may go to a file or a socket that was opened under its number
+status=0
+timeout 20 "$program" serve --listen 127.0.0.1:0 >&- 2> "$folder/why" || status=$?
+test "$status" = 11 || fail "a closed output ends with $status"
+status=0
+timeout 20 "$program" serve --port "$(printf '\377')" > "$folder/nothing" 2> "$folder/why" || status=$?
+test "$status" = 2 || fail "a word that is no UTF-8 ends with $status"
+grep -q UTF-8 "$folder/why" || fail 'a word that is no UTF-8 is not told'
+
+# curl and wget, eight runs at once
+runs=
+for at in $(seq 8); do
+    "$here/clients.sh" "$base" > "$folder/clients$at" 2>&1 &
+    runs="$runs $!"
+done
+for run in $runs; do
+    wait "$run" || fail "$(cat "$folder"/clients*)"
+done
+
+# chunked, and with `Expect`
+head -c 3000000 /dev/urandom > "$folder/file"
+cap=$($curl -T "$folder/file" "$base/uri")
+test "$($curl -T - "$base/uri" < "$folder/file")" = "$cap" || fail 'another cap for a chunked upload'
+test "$($curl -H 'Expect: 100-continue' -T "$folder/file" "$base/uri")" = "$cap" || fail 'another cap with Expect'
+$curl -o "$folder/back" "$base/uri/$cap"
+cmp "$folder/file" "$folder/back" || fail 'other bytes'
+
+# what was asked on the wrong port
+test "$($curl -o "$folder/back" -w '%{http_code}' -X POST "$base/stop")" != 200 || fail 'a stop on the port of the gateway'
+test "$($curl -o "$folder/back" -w '%{http_code}' "$control/uri/URI:LIT:mzxw6")" = 404 || fail 'a file on the control port'
+
+# control
+$curl "$control/status" | python3 -c '
+import json, sys
+status = json.load(sys.stdin)
+connections = status["connections"]
+assert connections["opened"] >= 8 * 39, connections
+assert connections["failed"] == connections["late"] == 0, connections
+assert status["received"] > 8 * 1000000 and status["sent"] > 8 * 1000000, status
+' || fail 'the status'
+$curl "$control/metrics" | grep -q '^wozhinnam_connections_opened_total [1-9]' || fail 'the metrics'
+for status in 200 206 400 404; do
+    before=$($curl "$control/metrics" | sed -n "s/^wozhinnam_replies_total{status=\"$status\"} //p")
+    case $status in
+    200) $curl -o /dev/null "$base/uri/URI:LIT:my" ;;
+    206) $curl -o /dev/null -r 0-0 "$base/uri/URI:LIT:my" ;;
+    400) $curl -o /dev/null "$base/uri/URI:none" ;;
+    404) $curl -o /dev/null "$base/elsewhere" ;;
+    esac
+    after=$($curl "$control/metrics" | sed -n "s/^wozhinnam_replies_total{status=\"$status\"} //p")
+    test "$after" = "$((before + 1))" || fail "the replies of status $status: $before, then $after"
+done
+test "$($curl -o "$folder/back" -w '%{http_code}' "$control/stop")" = 405 || fail 'a stop by GET'
+test "$($curl -X POST "$control/stop")" = stopping || fail 'the stop'
+status=0
+wait "$server" || status=$?
+server=
+test "$status" = 0 || fail "the program's status is $status"
+grep -q 'URI:' "$folder/words" && fail 'a cap in the log'
+echo 'serve: all as it is to be'

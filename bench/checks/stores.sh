@@ -1,0 +1,206 @@
+#!/bin/sh
+# `wozhinnam` over folders, the built program: each exit status that a folder or an image can give, that the folder is
+# named, that files are read after a restart, `check`, `image` and `restore`, rotten files and strangers, and a disk that
+# fills (a file system in memory, where this user may mount one). It needs curl, and takes half a minute.
+# usage: bench/checks/stores.sh PROGRAM
+set -eu
+program=${1:?usage: bench/checks/stores.sh PROGRAM}
+here=$(cd "$(dirname "$0")" && pwd)
+. "$here/../tools/server.sh"
+end() {
+    kill_server
+    umount "$folder/disk" 2> /dev/null || true
+    finish
+}
+trap end EXIT
+
+stores() {
+    for at in "$@"; do
+        printf ' --store dir:%s/%s' "$folder" "$at"
+    done
+}
+# a run that ends by itself: its status, and that it names what is refused
+ends() {
+    wanted=$1
+    named=$2
+    shift 2
+    status=0
+    timeout 60 "$program" "$@" > "$folder/given" 2> "$folder/why" || status=$?
+    test "$status" = "$wanted" || fail "$* ends with $status and not $wanted"
+    test -z "$named" || grep -q -e "$named" "$folder/why" || fail "$* doesn't name $named"
+}
+three='--shares 2,3'
+
+# words
+for store in disk:/a dir: mem: mem:1k dir:/a:1k; do
+    ends 2 --store serve --store "$store"
+done
+
+# folders that can't be opened
+echo text > "$folder/file"
+mkdir "$folder/strange"
+echo text > "$folder/strange/README"
+ends 12 "$folder/none/a" serve $(stores none/a)
+ends 13 "$folder/file" serve $(stores file)
+ends 16 "$folder/strange" serve $(stores strange)
+test "$(ls "$folder/strange")" = README || fail 'a folder that was refused was written'
+if test "$(id -u)" = 0 && command -v setpriv > "$folder/nothing"; then
+    mkdir "$folder/roots"
+    chmod 755 "$folder"
+    status=0
+    setpriv --reuid 65534 --regid 65534 --clear-groups "$program" serve $(stores roots) > "$folder/given" 2> "$folder/why" || status=$?
+    test "$status" = 14 || fail "a folder of another user ends with $status"
+fi
+
+# a grid of three, two of them in folders that are made
+start $three $(stores a b c)
+for at in 1 2 3; do
+    head -c 20000 /dev/urandom > "$folder/file$at"
+    $curl -T "$folder/file$at" "$base/uri" > "$folder/cap$at"
+done
+ends 15 "$folder/a" serve $three $(stores a b c)
+ends 15 "$folder/a" image "$folder/a" "$folder/b" "$folder/c"
+stop
+start $three $(stores a b c)
+for at in 1 2 3; do
+    $curl -o "$folder/back" "$base/uri/$(cat "$folder/cap$at")"
+    cmp "$folder/file$at" "$folder/back" || fail 'other bytes after a restart'
+done
+stop
+
+# another grid's, or in another order
+ends 18 "$folder/b" serve $three $(stores b a c)
+ends 19 "$folder/a" serve --shares 1,3 $(stores a b c)
+ends 19 "$folder/a" serve $three $(stores a b)
+ends 19 "$folder/a" serve $three --secret-file "$folder/file" $(stores a b c)
+ends 8 '' serve $three --secret-file /dev/zero $(stores a b c)
+ends 22 "$folder/a" serve $three $(stores a:10 b c)
+
+# images
+ends 0 '' check "$folder/a" "$folder/b" "$folder/c"
+ends 28 "$folder/a" check "$folder/a" "$folder/a"
+ends 18 "$folder/b" image "$folder/b" "$folder/a" "$folder/c"
+ends 24 "$folder/a" image "$folder/a" "$folder/b"
+ends 12 "$folder/none" image "$folder/none"
+ends 0 '' image "$folder/a" "$folder/b" "$folder/c"
+mv "$folder/given" "$folder/image"
+ends 23 "$folder/c" restore $three "$folder/image" "$folder/x" "$folder/y" "$folder/c"
+ends 25 '' restore $three "$folder/none" "$folder/x" "$folder/y" "$folder/z"
+mkfifo "$folder/pipe"
+ends 25 'has to be a file' restore $three "$folder/pipe" "$folder/x" "$folder/y" "$folder/z"
+ends 26 '' restore $three "$folder/image" "$folder/x" "$folder/y"
+head -c 30000 "$folder/image" > "$folder/cut"
+ends 26 '' restore $three "$folder/cut" "$folder/x" "$folder/y" "$folder/z"
+test ! -e "$folder/x" || fail 'an image that was refused was written'
+ends 0 '' restore $three "$folder/image" "$folder/x" "$folder/y" "$folder/z"
+ends 0 '' image "$folder/x" "$folder/y" "$folder/z"
+cmp "$folder/given" "$folder/image" || fail 'another image'
+start $three $(stores x y z)
+$curl -o "$folder/back" "$base/uri/$(cat "$folder/cap2")"
+cmp "$folder/file2" "$folder/back" || fail 'other bytes after a restore'
+stop
+status=0
+"$program" image "$folder/x" "$folder/y" "$folder/z" > /dev/full 2> "$folder/why" || status=$?
+test "$status" = 27 || fail "an image on a full disk ends with $status"
+# a closed output: an image is not written into a folder's file in its place
+cp "$folder/x/lock" "$folder/lock"
+status=0
+"$program" image "$folder/x" "$folder/y" "$folder/z" >&- 2> "$folder/why" || status=$?
+test "$status" = 27 || fail "an image on a closed output ends with $status"
+cmp "$folder/x/lock" "$folder/lock" || fail 'an image was written into the lock of a folder'
+
+# rotten files and strangers
+share=$(find "$folder/x" -name '*.[0-2]' | head -n 1)
+printf 'z' | dd of="$share" bs=1 seek=5 conv=notrunc 2> "$folder/nothing"
+echo text > "$folder/y/3/README"
+cp "$share" "$folder/rotten"
+ends 28 "$share" check "$folder/x" "$folder/y" "$folder/z"
+start $three $(stores x y z)
+grep -q "$share" "$folder/words" || fail 'a rotten file is not named'
+grep -q "$folder/y/3/README" "$folder/words" || fail "a stranger's file is not named"
+for at in 1 2 3; do
+    $curl -o "$folder/back" "$base/uri/$(cat "$folder/cap$at")"
+    cmp "$folder/file$at" "$folder/back" || fail 'other bytes with a share rotten'
+done
+stop
+cmp "$share" "$folder/rotten" || fail 'a rotten file was touched'
+
+# what has a share's name and is no file of one is named and left alone, until its share is put again
+rm "$folder/y/3/README"
+odd_grid() {
+    for at in x y z; do
+        printf ' --store dir:%s/%s%s' "$folder" "$at" "$1"
+    done
+}
+for kind in pipe device sparse folder; do
+    for how in '' ':1000000000,disk'; do
+        rm -f "$share"
+        case $kind in
+            pipe) mkfifo "$share" ;;
+            device) ln -s /dev/zero "$share" ;;
+            sparse) truncate -s 100G "$share" ;;
+            folder) mkdir "$share" ;;
+        esac
+        ends 28 "$share" check "$folder/x" "$folder/y" "$folder/z"
+        start $three $(odd_grid "$how")
+        grep -q "rotten and left alone: $share" "$folder/words" || fail "a $kind under a share's name is not named"
+        for at in 1 2 3; do
+            $curl -o "$folder/back" "$base/uri/$(cat "$folder/cap$at")"
+            cmp "$folder/file$at" "$folder/back" || fail "other bytes beside a $kind"
+            $curl -T "$folder/file$at" "$base/uri" | cmp - "$folder/cap$at" || fail "no upload beside a $kind"
+        done
+        stop
+        test -f "$share" && test ! -L "$share" || fail "a share was not put in the place of a $kind"
+        rm -rf "$folder"/x/new/*.folder
+    done
+done
+ends 0 '' check "$folder/x" "$folder/y" "$folder/z"
+
+# files that are lost while they are served from the disk: what a read found missing is put by the next upload
+start $three $(odd_grid ':1000000000,disk')
+rm "$folder"/[xyz]/[0-9]*/*.[0-2]
+$curl -o "$folder/back" "$base/uri/$(cat "$folder/cap1")"
+$curl -T "$folder/file1" "$base/uri" | cmp - "$folder/cap1" || fail 'no upload of a file that was lost'
+$curl -o "$folder/back" "$base/uri/$(cat "$folder/cap1")"
+cmp "$folder/file1" "$folder/back" || fail 'an upload mends nothing that was lost'
+rm -r "$folder/x/new" "$folder/y/new" "$folder/z/new"
+for at in 2 3; do
+    $curl -o "$folder/back" "$base/uri/$(cat "$folder/cap$at")"
+    $curl -T "$folder/file$at" "$base/uri" | cmp - "$folder/cap$at" || fail 'no upload where new/ is gone'
+done
+stop
+start $three $(odd_grid '')
+for at in 1 2 3; do
+    $curl -o "$folder/back" "$base/uri/$(cat "$folder/cap$at")"
+    cmp "$folder/file$at" "$folder/back" || fail 'other bytes after shares were put again'
+done
+stop
+printf 'z' | dd of="$folder/z/grid" bs=1 seek=20 conv=notrunc 2> "$folder/nothing"
+ends 17 "$folder/z" serve $three $(stores x y z)
+
+# a disk that fills
+mkdir "$folder/disk"
+if mount -t tmpfs -o size=600k tmpfs "$folder/disk" 2> "$folder/nothing"; then
+    dd if=/dev/zero of="$folder/disk/fill" bs=1k count=700 2> "$folder/nothing" || true
+    ends 20 "$folder/disk/s" serve --shares 1,1 $(stores disk/s)
+    rm "$folder/disk/fill"
+    start --shares 1,1 $(stores disk/s)
+    $curl -T "$folder/file1" "$base/uri" > "$folder/cap"
+    dd if=/dev/zero of="$folder/disk/fill" bs=1k count=700 2> "$folder/nothing" || true
+    for _ in 1 2; do
+        said=$($curl -o "$folder/nothing" -w '%{http_code}' -T "$folder/file2" "$base/uri")
+        test "$said" = 503 || fail "an upload to a full disk is answered $said"
+    done
+    $curl -o "$folder/back" "$base/uri/$(cat "$folder/cap")"
+    cmp "$folder/file1" "$folder/back" || fail 'other bytes from a full disk'
+    stop
+    rm "$folder/disk/fill"
+    start --shares 1,1 $(stores disk/s)
+    $curl -o "$folder/back" "$base/uri/$(cat "$folder/cap")"
+    cmp "$folder/file1" "$folder/back" || fail 'other bytes after a full disk'
+    $curl -T "$folder/file2" "$base/uri" > "$folder/cap"
+    stop
+else
+    echo 'no file system in memory can be mounted: a disk that fills is not tried'
+fi
+echo 'as it should be'

@@ -1,0 +1,294 @@
+#!/usr/bin/env python3
+"""Loads on `wozhinnam serve`, the built program, on the loopback, with times and memory; each takes a minute or two at most.
+
+usage: bench/times/loads.py PROGRAM [open|readers|many_readers|slow_readers|untaken|came|million|pipelined|cut ..]
+
+open          10,000 connections, a reply on each
+readers       8 readers of 4 MiB beside small GETs; many_readers: 200 of them; slow_readers: 200 that take 10 KB a second
+untaken       200 GETs of one file of 4 MiB, of 200 files, and of 100 bytes of one, each on its own connection, of which nothing is read
+came          100,000 connections that come and go, one after the other; million: 1,000,000
+pipelined     500 GETs of a file of 4 MiB on one connection, written before anything is read
+cut           a minute of connections that send and take a part of something and are cut, some by a reset, beside small GETs
+"""
+
+import os
+import random
+import resource
+import socket
+import struct
+import sys
+import threading
+import time
+
+sys.path.insert(0, os.path.join(os.path.dirname(os.path.abspath(__file__)), "../tools"))
+
+from server import fail, wozhinnam
+
+SMALL = b"GET /uri/URI:LIT:mzxw6 HTTP/1.1\r\nHost: g\r\n\r\n"
+REPLY = b"HTTP/1.1 200 OK\r\nContent-Type: application/octet-stream\r\nContent-Length: 3\r\n\r\nfoo"
+LONG = 4_194_304
+SECONDS = 120
+
+
+def served(program, connections):
+    return wozhinnam(program, "--connections", str(connections), control=True)
+
+
+def taken(stream, count):
+    """So many bytes of a stream, which are dropped but for the first 300."""
+    first = b""
+    while count > 0:
+        got = stream.recv(min(count, 1 << 20))
+        if not got:
+            fail("a connection ended %d bytes too early" % count)
+        if len(first) < 300:
+            first += got[:300]
+        count -= len(got)
+    return first
+
+
+def small(stream):
+    """The time of a small GET."""
+    began = time.monotonic()
+    stream.sendall(SMALL)
+    if taken(stream, len(REPLY))[:len(REPLY)] != REPLY:
+        fail("another reply")
+    return time.monotonic() - began
+
+
+def stored(server, number=0):
+    """The request for a stored file of 4 MiB, which begins with this number, and how long its reply is."""
+    with server.connect() as stream:
+        stream.sendall(b"PUT /uri HTTP/1.1\r\nHost: g\r\nConnection: close\r\nContent-Length: %d\r\n\r\n" % LONG)
+        stream.sendall((struct.pack(">Q", number) + bytes(range(251)) * (LONG // 251 + 1))[:LONG])
+        reply = b""
+        while got := stream.recv(65536):
+            reply += got
+    cap = reply.split(b"\r\n\r\n", 1)[1]
+    head = b"HTTP/1.1 200 OK\r\nContent-Type: application/octet-stream\r\nContent-Length: %d\r\n\r\n" % LONG
+    return b"GET /uri/%s HTTP/1.1\r\nHost: g\r\n\r\n" % cap, len(head) + LONG
+
+
+def times(name, taken_by):
+    ordered = sorted(taken_by)
+    at = lambda share: ordered[min(len(ordered) - 1, int(share * len(ordered)))] * 1000
+    print("%s: %d, median %.3f ms, 99 of 100 %.2f ms, longest %.1f ms" % (name, len(ordered), at(0.5), at(0.99), ordered[-1] * 1000))
+
+
+def open_ones(program):
+    count = 10_000
+    server = served(program, count + 100)
+    small(server.connect())
+    before = server.memory()
+    began = time.monotonic()
+    streams = [server.connect() for _ in range(count)]
+    opened = time.monotonic() - began
+    began = time.monotonic()
+    for stream in streams:
+        stream.sendall(SMALL)
+    for stream in streams:
+        taken(stream, len(REPLY))
+    answered = time.monotonic() - began
+    print("%d connections: opened in %.2f s, a reply on each in %.2f s, %d bytes of memory each" % (count, opened, answered, (server.memory() - before) // count))
+    times("small GETs on one of them", [small(streams[0]) for _ in range(2000)])
+    for stream in streams:
+        stream.close()
+    server.stop()
+
+
+def readers(program, count):
+    server = served(program, count + 100)
+    request, length = stored(server)
+    quick = server.connect()
+    times("small GETs alone", [small(quick) for _ in range(2000)])
+    over = time.monotonic() + 15
+    replies = []
+
+    def read():
+        stream = server.connect()
+        while time.monotonic() < over:
+            stream.sendall(request)
+            taken(stream, length)
+            replies.append(1)
+        stream.close()
+
+    threads = [threading.Thread(target=read) for _ in range(count)]
+    for thread in threads:
+        thread.start()
+    time.sleep(1)
+    began = time.monotonic()
+    waits = []
+    while time.monotonic() < over - 1:
+        waits.append(small(quick))
+        time.sleep(0.001)
+    times("small GETs beside %d readers of 4 MiB" % count, waits)
+    for thread in threads:
+        thread.join(SECONDS)
+    print("replies of 4 MiB a second: %.1f; memory at most %d MB" % (len(replies) / (time.monotonic() - began + 1), server.memory("VmHWM") >> 20))
+    server.stop()
+
+
+def slow_readers(program):
+    """200 readers of a file of 4 MiB that take 10 KB a second each."""
+    server = served(program, 300)
+    request, _ = stored(server)
+    quick = server.connect()
+    times("small GETs alone", [small(quick) for _ in range(2000)])
+    over = time.monotonic() + 20
+
+    def read():
+        stream = socket.socket()
+        stream.setsockopt(socket.SOL_SOCKET, socket.SO_RCVBUF, 4096)
+        stream.connect(server.address)
+        stream.sendall(request)
+        while time.monotonic() < over:
+            stream.recv(1000)
+            time.sleep(0.1)
+        stream.close()
+
+    threads = [threading.Thread(target=read) for _ in range(200)]
+    for thread in threads:
+        thread.start()
+    waits = []
+    while time.monotonic() < over - 1:
+        waits.append(small(quick))
+        time.sleep(0.001)
+    times("small GETs beside 200 readers of 10 KB a second", waits)
+    for thread in threads:
+        thread.join(SECONDS)
+    print("memory at most %d MB" % (server.memory("VmHWM") >> 20))
+    server.stop()
+
+
+def untaken(program):
+    """What waits untaken on 200 connections."""
+    server = served(program, 500)
+    requests = [stored(server, number)[0] for number in range(200)]
+    ranged = requests[0].replace(b"\r\n\r\n", b"\r\nRange: bytes=2000000-2000099\r\n\r\n")
+    for name, asked in (("one file of 4 MiB", requests[:1] * 200), ("200 files of 4 MiB", requests), ("100 bytes of 4 MiB", [ranged] * 200)):
+        before = server.memory()
+        streams = []
+        for request in asked:
+            stream = socket.socket()
+            stream.setsockopt(socket.SOL_SOCKET, socket.SO_RCVBUF, 4096)
+            stream.connect(server.address)
+            stream.sendall(request)
+            streams.append(stream)
+        quick = server.connect()
+        small(quick)
+        print("200 GETs of %s that nobody takes: %.1f MB of memory beside" % (name, (server.memory() - before) / 1e6))
+        for stream in streams + [quick]:
+            stream.close()
+        time.sleep(1)
+    server.stop()
+
+
+def cut(program):
+    """Connections that end at any place, with what waits left unread."""
+    server = served(program, 300)
+    request, length = stored(server)
+    put = b"PUT /uri HTTP/1.1\r\nHost: g\r\nContent-Length: 100000\r\n\r\n" + bytes(100_000)
+    quick = server.connect()
+    small(quick)
+    memory, handles = server.memory(), server.handles()
+    over = time.monotonic() + 60
+    counts = []
+
+    def come(seed):
+        chance = random.Random(seed)
+        count = 0
+        while time.monotonic() < over:
+            stream = server.connect()
+            stream.settimeout(0.05)
+            sent = chance.choice([request, put, SMALL * 50, b"GET /uri/%00 HTTP/1.1\r\n\r\n", b"\x00" * 20_000])
+            try:
+                stream.sendall(sent[:chance.randrange(1, len(sent) + 1)])
+                if chance.random() < 0.5:
+                    stream.recv(chance.randrange(1, 65_536))
+            except OSError:
+                pass
+            if chance.random() < 0.5:
+                stream.setsockopt(socket.SOL_SOCKET, socket.SO_LINGER, struct.pack("ii", 1, 0))
+            stream.close()
+            count += 1
+        counts.append(count)
+
+    threads = [threading.Thread(target=come, args=(seed,)) for seed in range(16)]
+    for thread in threads:
+        thread.start()
+    waits = []
+    while time.monotonic() < over:
+        waits.append(small(quick))
+        time.sleep(0.005)
+    for thread in threads:
+        thread.join(SECONDS)
+    times("small GETs beside %d connections that were cut" % sum(counts), waits)
+    time.sleep(15)
+    small(quick)
+    print("15 s later: %d KiB of memory more than before, %d handles more" % ((server.memory() - memory) >> 10, server.handles() - handles))
+    server.stop()
+
+
+def came(program, most, seconds):
+    server = served(program, 1000)
+    marks = []
+    began = time.monotonic()
+    for at in range(most):
+        if at % (most // 4) == 0:
+            marks.append(server.memory())
+        with server.connect() as stream:
+            small(stream)
+        if time.monotonic() - began > seconds:
+            break
+    marks.append(server.memory())
+    print("%d connections one after the other: %.0f µs each; memory that stays: %d bytes each, at each quarter: %s KiB" % (
+        at + 1, (time.monotonic() - began) / (at + 1) * 1e6, (marks[-1] - marks[1]) // max(1, at - most // 4), [m >> 10 for m in marks]))
+    server.stop()
+
+
+def pipelined(program):
+    server = served(program, 100)
+    request, length = stored(server)
+    before = server.memory("VmHWM")
+    stream = server.connect()
+    count = 500
+    sender = threading.Thread(target=lambda: stream.sendall(request * count))
+    sender.start()
+    time.sleep(1)
+    held = server.memory("VmHWM") - before
+    began = time.monotonic()
+    for at in range(count):
+        taken(stream, length)
+        if time.monotonic() - began > SECONDS:
+            break
+    print("%d of %d pipelined GETs of 4 MiB: %.1f a second; memory beside: %.1f MB before any was read, %.1f MB at most" % (
+        at + 1, count, (at + 1) / (time.monotonic() - began), held / 1e6, (server.memory("VmHWM") - before) / 1e6))
+    stream.close()
+    sender.join(10)
+    server.stop()
+
+
+LOADS = {
+    "open": open_ones,
+    "readers": lambda program: readers(program, 8),
+    "many_readers": lambda program: readers(program, 200),
+    "slow_readers": slow_readers,
+    "untaken": untaken,
+    "came": lambda program: came(program, 100_000, SECONDS),
+    "million": lambda program: came(program, 1_000_000, 600),
+    "pipelined": pipelined,
+    "cut": cut,
+}
+
+
+def main():
+    if len(sys.argv) < 2 or any(name not in LOADS for name in sys.argv[2:]):
+        sys.exit(__doc__)
+    _, most = resource.getrlimit(resource.RLIMIT_NOFILE)
+    resource.setrlimit(resource.RLIMIT_NOFILE, (most, most))
+    for name in sys.argv[2:] or LOADS:
+        print("%s" % name, flush=True)
+        LOADS[name](sys.argv[1])
+
+
+main()

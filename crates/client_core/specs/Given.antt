@@ -1,0 +1,16 @@
+-- What a client makes of the answer to a read.
+use Rattle.std.specs.Prelude.{◌≡◌, ℕ, List, Result, Ok, Err}
+use Rattle.caps.specs.Fields.{ReadValue}
+use Rattle.cap_binding.specs.Binds.{Binds}
+use Rattle.client_core.specs.declared.exchange.Answer.{Answer}
+use Rattle.client_core.specs.declared.exchange.LinkFault.{LinkFault}
+
+-- it carries out the read, and its bytes are bound
+abbrev pub IsBoundAnswer : ReadValue → Result Answer LinkFault → List ℕ → Type 0
+IsBoundAnswer f (Ok answer) bytes = (answer.status ≡ 200) × (bytes ≡ answer.body) × Binds f bytes
+IsBoundAnswer f (Err fault) bytes = ⊥
+
+-- there is none, it doesn't carry out the read, or its bytes aren't bound
+abbrev pub IsUnboundAnswer : ReadValue → Result Answer LinkFault → Type 0
+IsUnboundAnswer f (Ok answer) = answer.status ≡ 200 → Binds f answer.body → ⊥
+IsUnboundAnswer f (Err fault) = Unit {0}

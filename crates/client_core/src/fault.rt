@@ -1,0 +1,69 @@
+//! Why a call is refused.
+ghost use Rattle.std.specs.Prelude.{◌≡◌};
+ghost use Rattle.client_core.specs.declared.fault.ClientFault.TheVariants as fault;
+
+use crate::exchange::LinkFault;
+use caps::CapFault;
+use octets::Text;
+use std::alloc::{AllocError, AllocFailed};
+use thiserror::Error;
+
+/// Why a call is refused. None of these holds a cap.
+#[derive(Debug, Drop, Error)]
+pub enum ClientFault {
+    /// There is no answer.
+    #[error("{0}")]
+    Link(LinkFault),
+    /// The gateway answered with this status, which isn't 200.
+    #[error("the gateway refused it with status {0}")]
+    Refused(u16),
+    /// The bytes that came aren't those that the cap was made for, or the cap that came isn't of the bytes that went.
+    #[error("what the gateway gave is not what was asked for")]
+    NotBound,
+    /// What was asked for as a file is none: it is a directory's cap, or one that reads nothing.
+    #[error("not a file")]
+    NotFile,
+    /// What was to be walked through or listed is no directory.
+    #[error("not a directory")]
+    NotDirectory,
+    /// A directory on the way has no child of this name.
+    #[error("no such child")]
+    NoChild(Text),
+    /// Memory was refused.
+    #[error("out of memory")]
+    NoMemory,
+}
+
+impl From<AllocError> for ClientFault {
+    ghost from_gives = { λ _ made. made ≡ fault.NoMemory };
+
+    fn from(_error: AllocError) -> ClientFault {
+        ClientFault::NoMemory
+    }
+}
+
+impl<T: Drop> From<AllocFailed<T>> for ClientFault {
+    ghost from_gives = { λ _ made. made ≡ fault.NoMemory };
+
+    fn from(_failed: AllocFailed<T>) -> ClientFault {
+        ClientFault::NoMemory
+    }
+}
+
+impl From<LinkFault> for ClientFault {
+    fn from(fault: LinkFault) -> ClientFault {
+        match fault {
+            LinkFault::NoMemory => ClientFault::NoMemory,
+            _ => ClientFault::Link(fault),
+        }
+    }
+}
+
+impl From<CapFault> for ClientFault {
+    fn from(fault: CapFault) -> ClientFault {
+        match fault {
+            CapFault::NoMemory => ClientFault::NoMemory,
+            _ => ClientFault::NotBound,
+        }
+    }
+}

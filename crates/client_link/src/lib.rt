@@ -1,0 +1,15 @@
+//! A connection to a gateway, over any stream: requests written, replies read (RFC 9112).
+//!
+//! Nothing of what comes is taken on trust: a reply is a head of `httparse`'s grammar with one framing by `http1`'s rules, a
+//! body of no more bytes than were asked for, or it is refused, and the connection with it.
+#![tactic(auto)]
+
+/// Connections.
+mod link;
+/// Reading replies.
+mod reply;
+/// Connections that are opened again.
+mod redial;
+
+pub use link::Link;
+pub use redial::{Dial, Redialing};

@@ -1,0 +1,136 @@
+//! Why a task isn't done.
+ghost use Rattle.std.specs.Prelude.{◌≡◌};
+ghost use Rattle.client_tasks.specs.Causes.{client_cause, tree_cause, cause};
+
+use client_core::ClientFault;
+use client_tree::{LocalFault, TreeFault};
+use std::alloc::{AllocError, AllocFailed};
+use thiserror::Error;
+
+/// Why a task isn't done. None of these holds a cap, so no message tells one.
+#[derive(Debug, Drop, Error)]
+pub enum TaskFault {
+    /// A word of the command line is none of the program's: it was told already.
+    #[error("bad arguments")]
+    Words,
+    /// The gateway's URL is none that can be asked.
+    #[error("the gateway's URL is to be http://HOST or http://HOST:PORT")]
+    BadUrl,
+    /// What was given as a cap is none.
+    #[error("no cap")]
+    NoCap,
+    /// The gateway's side, or a tree's.
+    #[error("{0}")]
+    Tree(TreeFault),
+    /// A check found shares that are missing or not good: it was told already.
+    #[error("not all is well")]
+    NotWell,
+    /// Something was passed over: it was told already.
+    #[error("not all was stored")]
+    PassedOver,
+    /// A file couldn't be read.
+    #[error("the file can't be read")]
+    Unread,
+    /// A file or a folder couldn't be written.
+    #[error("it can't be written")]
+    Unwritten,
+    /// A file is longer than what a gateway stores.
+    #[error("more than 16,777,216 bytes")]
+    TooLong,
+    /// Standard output is closed.
+    #[error("standard output is closed")]
+    NotPrinted,
+    /// Memory was refused.
+    #[error("out of memory")]
+    NoMemory,
+}
+
+impl TaskFault {
+    /// Whether it was told already where it came.
+    pub fn is_told(&self) -> bool {
+        match self {
+            TaskFault::Words | TaskFault::NotWell | TaskFault::PassedOver => true,
+            _ => false,
+        }
+    }
+
+    /// The status with which the program exits.
+    pub fn status(&self) -> u8
+        ensures { result ≡ cause self.now }
+    {
+        match self {
+            TaskFault::Words => 2,
+            TaskFault::BadUrl => 2,
+            TaskFault::NoCap => 3,
+            TaskFault::Tree(fault) => tree_status(fault),
+            TaskFault::NotWell => 7,
+            TaskFault::PassedOver => 8,
+            TaskFault::Unread => 8,
+            TaskFault::Unwritten => 8,
+            TaskFault::TooLong => 8,
+            TaskFault::NotPrinted => 8,
+            TaskFault::NoMemory => 8,
+        }
+    }
+}
+
+/// The status where a tree isn't written or stored whole.
+fn tree_status(fault: &TreeFault) -> u8
+    ensures { result ≡ tree_cause fault.now }
+{
+    match fault {
+        TreeFault::Client(fault) => client_status(fault),
+        TreeFault::BadName(_) => 8,
+        TreeFault::SameName(_) => 8,
+        TreeFault::BadChildren => 8,
+        TreeFault::Local(_) => 8,
+        TreeFault::TooMany => 8,
+        TreeFault::TooDeep => 8,
+        TreeFault::NoMemory => 8,
+    }
+}
+
+/// The status of what the gateway gave, or didn't give.
+fn client_status(fault: &ClientFault) -> u8
+    ensures { result ≡ client_cause fault.now }
+{
+    match fault {
+        ClientFault::Link(_) => 4,
+        ClientFault::Refused(status) => { if *status == 410 { 7 } else { 5 } }
+        ClientFault::NotBound => 6,
+        ClientFault::NotFile => 3,
+        ClientFault::NotDirectory => 3,
+        ClientFault::NoChild(_) => 3,
+        ClientFault::NoMemory => 8,
+    }
+}
+
+impl From<AllocError> for TaskFault {
+    fn from(_error: AllocError) -> TaskFault {
+        TaskFault::NoMemory
+    }
+}
+
+impl<T: Drop> From<AllocFailed<T>> for TaskFault {
+    fn from(_failed: AllocFailed<T>) -> TaskFault {
+        TaskFault::NoMemory
+    }
+}
+
+impl From<TreeFault> for TaskFault {
+    fn from(fault: TreeFault) -> TaskFault {
+        TaskFault::Tree(fault)
+    }
+}
+
+impl From<ClientFault> for TaskFault {
+    fn from(fault: ClientFault) -> TaskFault {
+        TaskFault::Tree(TreeFault::Client(fault))
+    }
+}
+
+impl From<LocalFault> for TaskFault {
+    fn from(_fault: LocalFault) -> TaskFault {
+        TaskFault::Unwritten
+    }
+}

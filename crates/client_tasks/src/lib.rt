@@ -1,0 +1,27 @@
+//! What `woz` does: it puts and gets files and folders, lists, checks and repairs what caps are of, over a gateway that it
+//! trusts in nothing.
+#![tactic(auto)]
+
+/// Why a task isn't done.
+mod fault;
+/// The gateway: its URL, and connections to it.
+mod gateway;
+/// Caps and paths as they are given.
+mod given;
+/// Folders and files on a disk.
+mod disk;
+/// What is told of files that pass.
+mod progress;
+/// Writing what caps are of.
+mod getting;
+/// Storing files and folders.
+mod putting;
+/// Listing directories.
+mod listing;
+/// Checking and repairing.
+mod checking;
+/// Reading the words, and doing what they ask for.
+mod tasks;
+
+pub use fault::TaskFault;
+pub use tasks::run;

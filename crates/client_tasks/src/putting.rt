@@ -1,0 +1,100 @@
+//! Storing files and folders.
+
+use crate::disk::{DiskSource, MOST_BYTES, read_short};
+use crate::fault::TaskFault;
+use crate::getting::{MOST_DEPTH, MOST_NODES};
+use crate::given::read_cap;
+use crate::progress::Progress;
+use caps::{Cap, print};
+use client_core::{Exchange, put_file};
+use client_tree::{child_of, directory_of, put_tree};
+use octets::Text;
+use std::alloc::Global;
+use std::io::{ErrorKind, Read};
+use std::rt::Files;
+
+/// Stores a file, or with `-` standard input, and prints its cap.
+pub fn put_one<R: Files + AllocGlobal + Print + Input, E: Exchange>(
+    rt: &R,
+    gateway: &mut E,
+    path: &str,
+) -> Result<(), TaskFault> {
+    let bytes = if path == "-" {
+        read_input(rt)?
+    } else {
+        match read_short(rt, path) {
+            Ok(bytes) => bytes,
+            Err(error) => {
+                return Err(match error.kind() {
+                    ErrorKind::FileTooLarge => TaskFault::TooLong,
+                    ErrorKind::OutOfMemory => TaskFault::NoMemory,
+                    _ => TaskFault::Unread,
+                });
+            }
+        }
+    };
+    let (cap, _) = put_file(rt.alloc(), gateway, bytes)?;
+    print_cap(rt, &cap)
+}
+
+/// All of standard input, if it is no longer than what a gateway stores.
+fn read_input<R: Input + AllocGlobal>(rt: &R) -> Result<Vec<u8>, TaskFault> {
+    let mut bytes = Vec::new(rt.alloc());
+    let mut reader = rt.reader().take(MOST_BYTES + 1);
+    match reader.read_to_end(&mut bytes) {
+        Ok(_) if bytes.len() as u64 <= MOST_BYTES => Ok(bytes),
+        Ok(_) => Err(TaskFault::TooLong),
+        Err(_) => Err(TaskFault::Unread),
+    }
+}
+
+/// Stores a folder, and prints its cap. `PassedOver` where something in it is neither a file nor a folder; the cap is of the
+/// rest then.
+pub fn put_folder<R: Files + AllocGlobal + Print + Eprint + Clone + Drop, E: Exchange>(
+    rt: &R,
+    gateway: &mut E,
+    path: &str,
+    told: bool,
+) -> Result<(), TaskFault> {
+    let mut source = DiskSource::new(rt, path, Progress::new(told));
+    let stored = put_tree(rt.alloc(), gateway, &mut source, MOST_DEPTH, MOST_NODES);
+    let passed_over = source.end();
+    print_cap(rt, &stored?)?;
+    if passed_over {
+        return Err(TaskFault::PassedOver);
+    }
+    Ok(())
+}
+
+/// Makes a directory of children that are given as `NAME=CAP`, and prints its cap.
+pub fn make_folder<R: Files + AllocGlobal + Print, E: Exchange>(
+    rt: &R,
+    gateway: &mut E,
+    given: &[&str],
+) -> Result<(), TaskFault> {
+    let alloc = rt.alloc();
+    let mut children = Vec::with_capacity(alloc, given.len())?;
+    for text in given {
+        let Some((name, cap)) = text.split_once('=') else {
+            return Err(TaskFault::NoCap);
+        };
+        let cap = read_cap(rt, cap)?;
+        children.push(child_of(alloc, &name_of(alloc, name)?, cap)?)?;
+    }
+    let cap = directory_of(alloc, gateway, &children)?;
+    print_cap(rt, &cap)
+}
+
+/// A name that owns its text.
+fn name_of(alloc: Global, name: &str) -> Result<Text, TaskFault> {
+    Ok(Text::from_string(String::from_str(alloc, name)?))
+}
+
+/// Prints a cap on a line of standard output, on which alone caps are printed.
+pub fn print_cap<R: Print + AllocGlobal>(rt: &R, cap: &Cap) -> Result<(), TaskFault> {
+    let text = print(rt.alloc(), cap)?;
+    match println!(rt; "{text}") {
+        Ok(()) => Ok(()),
+        Err(_) => Err(TaskFault::NotPrinted),
+    }
+}

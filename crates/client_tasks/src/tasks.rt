@@ -1,0 +1,180 @@
+//! Reading the words, and doing what they ask for.
+
+use crate::checking::{check, read_all, repair};
+use crate::fault::TaskFault;
+use crate::gateway::{Dialer, read_url};
+use crate::getting::{get_to_file, get_to_folder, get_to_output};
+use crate::given::{read_cap, read_names};
+use crate::listing::{list, list_json};
+use crate::putting::{make_folder, put_folder, put_one};
+use client_core::{Exchange, walk};
+use client_link::Redialing;
+use client_options::{Node, Options, Task, read_words};
+use std::env;
+use std::env::VarError;
+use std::net::Net;
+use std::rt::{Env, Files};
+
+/// Where a gateway is that isn't named.
+const DEFAULT_URL: &str = "http://127.0.0.1:3456";
+
+/// Does what the words of the command line ask for, up to the first fault. Progress is told where standard error is a
+/// terminal.
+pub fn run<R: Env + Print + Eprint + Input + AllocGlobal + Files + Net + Clone + Drop>(
+    rt: &R,
+    is_terminal: bool,
+) -> Result<(), TaskFault> {
+    let words = arguments_of(rt)?;
+    match read_words(rt.alloc(), &words) {
+        Ok(options) => run_with(rt, &options, is_terminal),
+        Err(error) => {
+            if error.kind() == clap::error::ErrorKind::OutOfMemory {
+                return Err(TaskFault::NoMemory);
+            }
+            let _ = error.print(rt);
+            match error.exit_code() {
+                0 => Ok(()),
+                _ => Err(TaskFault::Words),
+            }
+        }
+    }
+}
+
+/// The words of the command line, the program's name first.
+fn arguments_of(rt: &(impl Env + AllocGlobal)) -> Result<Vec<String>, TaskFault> {
+    let Ok(arguments) = env::args(rt) else {
+        return Err(TaskFault::NoMemory);
+    };
+    let mut words = Vec::new(rt.alloc());
+    for argument in arguments {
+        words.push(argument)?;
+    }
+    Ok(words)
+}
+
+/// Does a task over the gateway that is named.
+fn run_with<R: Env + Print + Eprint + Input + AllocGlobal + Files + Net + Clone + Drop>(
+    rt: &R,
+    options: &Options<'_>,
+    is_terminal: bool,
+) -> Result<(), TaskFault> {
+    let url = url_of(rt, options)?;
+    let place = read_url(rt.alloc(), url.as_str())?;
+    let dialer = Dialer::new(rt, place.address.as_str());
+    let mut gateway = Redialing::new(rt.alloc(), place.host.as_str(), dialer);
+    do_task(
+        rt,
+        &mut gateway,
+        &options.task,
+        is_terminal && !options.quiet,
+    )
+}
+
+/// The gateway's URL: that of the words, or else of the environment.
+fn url_of<R: Env + AllocGlobal>(rt: &R, options: &Options<'_>) -> Result<String, TaskFault> {
+    if let Some(url) = options.gateway {
+        return Ok(String::from_str(rt.alloc(), url)?);
+    }
+    match env::var(rt, "WOZHINNAM_URL") {
+        Ok(url) => Ok(url),
+        Err(VarError::NotPresent) => Ok(String::from_str(rt.alloc(), DEFAULT_URL)?),
+        Err(VarError::NotUnicode) => Err(TaskFault::BadUrl),
+        Err(VarError::OutOfMemory) => Err(TaskFault::NoMemory),
+    }
+}
+
+/// Does a task.
+fn do_task<R: Print + Eprint + Input + AllocGlobal + Files + Clone + Drop, E: Exchange>(
+    rt: &R,
+    gateway: &mut E,
+    task: &Task<'_>,
+    told: bool,
+) -> Result<(), TaskFault> {
+    match task {
+        Task::Put { what, recursive } => {
+            if *recursive {
+                put_folder(rt, gateway, *what, told)
+            } else {
+                put_one(rt, gateway, *what)
+            }
+        }
+        Task::Get {
+            node,
+            file,
+            recursive,
+        } => get(rt, gateway, node, *file, *recursive, told),
+        Task::List { node, json } => list_node(rt, gateway, node, *json),
+        Task::Check {
+            node,
+            verify,
+            read,
+            recursive,
+        } => check_node(rt, gateway, node, *verify, *read, *recursive, told),
+        Task::Repair { node, recursive } => {
+            let cap = read_cap(rt, node.cap)?;
+            let names = read_names(rt.alloc(), node.path)?;
+            let end = walk(rt.alloc(), gateway, &cap, &names)?;
+            repair(rt, gateway, end, *recursive)
+        }
+        Task::Mkdir(children) => make_folder(rt, gateway, children),
+    }
+}
+
+/// Writes what a cap and a path are of.
+fn get<R: Print + Eprint + AllocGlobal + Files + Drop, E: Exchange>(
+    rt: &R,
+    gateway: &mut E,
+    node: &Node<'_>,
+    file: Option<&str>,
+    recursive: bool,
+    told: bool,
+) -> Result<(), TaskFault> {
+    let cap = read_cap(rt, node.cap)?;
+    let names = read_names(rt.alloc(), node.path)?;
+    match file {
+        None => get_to_output(rt, gateway, &cap, &names),
+        Some(path) => {
+            if recursive {
+                get_to_folder(rt, gateway, &cap, &names, path, told)
+            } else {
+                get_to_file(rt, gateway, &cap, &names, path)
+            }
+        }
+    }
+}
+
+/// Lists what a cap and a path are of.
+fn list_node<R: Print + AllocGlobal + Files, E: Exchange>(
+    rt: &R,
+    gateway: &mut E,
+    node: &Node<'_>,
+    json: bool,
+) -> Result<(), TaskFault> {
+    let cap = read_cap(rt, node.cap)?;
+    let names = read_names(rt.alloc(), node.path)?;
+    if json {
+        list_json(rt, gateway, &cap, &names)
+    } else {
+        list(rt, gateway, &cap, &names)
+    }
+}
+
+/// Checks what a cap and a path are of.
+fn check_node<R: Print + Eprint + AllocGlobal + Files + Drop, E: Exchange>(
+    rt: &R,
+    gateway: &mut E,
+    node: &Node<'_>,
+    verify: bool,
+    read: bool,
+    recursive: bool,
+    told: bool,
+) -> Result<(), TaskFault> {
+    let cap = read_cap(rt, node.cap)?;
+    let names = read_names(rt.alloc(), node.path)?;
+    let end = walk(rt.alloc(), gateway, &cap, &names)?;
+    if read {
+        read_all(rt, gateway, &end, recursive, told)
+    } else {
+        check(rt, gateway, end, verify, recursive)
+    }
+}

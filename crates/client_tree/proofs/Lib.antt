@@ -1,0 +1,3 @@
+pub mod Running
+pub mod Bound
+pub mod Below

@@ -1,0 +1,6 @@
+-- Read Trees first, then Placed and Stored. Runs is what several files leave, one after the other.
+pub mod FileNames
+pub mod Runs
+pub mod Trees
+pub mod Placed
+pub mod Stored

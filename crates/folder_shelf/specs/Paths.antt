@@ -1,0 +1,17 @@
+-- The paths of files.
+use Rattle.std.specs.Prelude.{◌≡◌, ◌≢◌, ◌⊎◌, ℕ, ◌/◌, List, [], ◌∷◌, ◌++◌, codes, decimal, slice_index}
+use Rattle.folder_shelf.specs.Names.{file_name, IsPlace}
+
+-- the number of a share's folder: the first four bits of its storage index
+abbrev pub folder_number : List ℕ → ℕ
+folder_number index = slice_index index 0 / 16
+
+-- where a share's file stands: TOP/FOLDER/NAME
+abbrev pub share_path : List ℕ → List ℕ → ℕ → List ℕ
+share_path top index number = top ++ codes "/" ++ decimal (folder_number index) ++ codes "/" ++ file_name index number
+
+-- A name in a folder was taken in: a share's that belongs there is put behind the shares that there were, and another adds none.
+abbrev pub TakesName : ℕ → List ℕ → List (List ℕ × ℕ) → List (List ℕ × ℕ) → Type 0
+TakesName folder name old new =
+    ((index : List ℕ) × (number : ℕ) × (name ≡ file_name index number) × (folder_number index ≡ folder) × (new ≡ old ++ (index, number) ∷ []))
+    ⊎ (((index : List ℕ) (number : ℕ) → IsPlace index number → folder_number index ≡ folder → name ≢ file_name index number) × (new ≡ old))

@@ -1,0 +1,18 @@
+-- What was asked of a file system.
+use Rattle.std.specs.Prelude.{ℕ, List, ◌∷◌, Option, Some, None}
+
+-- a file has these bytes, a file is gone, a file had these bytes or was none, and a folder had these names
+pub data FileStep : Type 0 where
+  wrote : List ℕ → List ℕ → FileStep
+  removed : List ℕ → FileStep
+  read : List ℕ → Option (List ℕ) → FileStep
+  named : List ℕ → List (List ℕ) → FileStep
+
+-- one after the other, the last one first, where they are known
+abbrev pub Steps : Type 0
+Steps = Option (List FileStep)
+
+-- and one more
+abbrev pub with_file_step : Steps → FileStep → Steps
+with_file_step None step = None
+with_file_step (Some steps) step = Some (step ∷ steps)

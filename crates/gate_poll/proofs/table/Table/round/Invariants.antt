@@ -1,0 +1,9 @@
+use Rattle.gate_turns.specs.Lanes.{turns_due}
+use Rattle.gate_poll.specs.Table.{Serves}
+use Rattle.gate_poll.proofs.table.Table.round.Given as goal
+
+abbrev pub invariant-turns : goal.invariant-turns
+invariant-turns g l = Serves l.fn.self l.self l.fn.lobby l.lobby
+
+abbrev pub decreases-turns : goal.decreases-turns
+decreases-turns g l = turns_due l.self.turns.lanes

@@ -1,0 +1,55 @@
+-- What a connection does in its turn.
+use Rattle.std.specs.Prelude.{◌≡◌, ℕ, ◌+◌, ◌⊎◌, ⊤, Bool, true, Option, Some, None}
+use Rattle.gate_core.specs.Held.{State}
+use Rattle.gate_flow.specs.declared.want.Want.{Want}
+use Rattle.gate_flow.specs.declared.want.Want.TheVariants.{Read, Advance, Write, Nothing}
+use Rattle.gate_flow.specs.Hosted.{IsHosted}
+use Rattle.gate_turns.specs.declared.seat.End.{End}
+use Rattle.gate_turns.specs.declared.seat.End.TheVariants.{Again, Blocked, Over}
+use Rattle.gate_turns.specs.declared.seat.Side.{Side}
+use Rattle.gate_turns.specs.declared.seat.Side.TheVariants as side
+use Rattle.gate_turns.specs.declared.seat.Place.{Place}
+use Rattle.gate_turns.specs.declared.seat.Place.TheVariants.{Queued, Turn, Awaits}
+use Rattle.gate_poll.specs.declared.peer.Peer.{Peer}
+
+-- something is still to be said, or its flow wants to read and it is only waited until it ends its side
+abbrev pub owes_at : Want → Bool → Bool
+owes_at Read lingers = lingers
+owes_at Advance lingers = true
+owes_at Write lingers = true
+owes_at Nothing lingers = true
+
+abbrev pub owes : Peer → Bool
+owes peer = owes_at peer.flow.want peer.lingers
+
+-- it waits for a side of its socket that its flow wants; one that is only waited for waits for bytes
+abbrev pub WaitsFor : Side → Peer → Type 0
+WaitsFor side.Read peer = (peer.flow.want ≡ Read) ⊎ (peer.lingers ≡ true)
+WaitsFor side.Write peer = peer.flow.want ≡ Write
+
+abbrev pub EndsFor : End → Peer → Type 0
+EndsFor Again peer = ⊤
+EndsFor (Blocked side) peer = WaitsFor side peer
+EndsFor Over peer = ⊤
+
+abbrev pub EndsForSome : Option End → Peer → Type 0
+EndsForSome None peer = ⊤
+EndsForSome (Some end) peer = EndsFor end peer
+
+abbrev pub StandsFor : Place → Peer → Type 0
+StandsFor (Queued lane) peer = ⊤
+StandsFor Turn peer = ⊤
+StandsFor (Awaits side) peer = WaitsFor side peer
+
+-- it waits for no side of its socket
+abbrev pub IsGoing : End → Type 0
+IsGoing Again = ⊤
+IsGoing (Blocked side) = ⊥
+IsGoing Over = ⊤
+
+-- A connection went on, and ends its turn so or not: the calls of the gateway were of its own, and where it waits for a side
+-- of its socket its flow wants that side.
+pub record IsStepped (old new : Peer) (end : Option End) (g h : State) : Type 0 where
+  pub id : new.flow.id ≡ old.flow.id
+  pub waits : EndsForSome end new
+  pub hosted : IsHosted old.flow.id (old.flow.id + 1) g h

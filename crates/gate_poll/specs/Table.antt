@@ -1,0 +1,86 @@
+-- What is kept of connections, and what the loop does to the gateway.
+use Rattle.std.specs.Prelude.{◌≡◌, ◌≢◌, ℕ, ◌≤◌, ⊤, true, false, List, Option, Some, None}
+use Rattle.std.specs.Ordering.{nat_cmp}
+use Rattle.std.specs.Map.{lookup}
+use Rattle.std.specs.BTreeMap.{is_at}
+use Rattle.gate_core.specs.Held.{State}
+use Rattle.gate_flow.specs.Hosted.{IsHosted, IsOwnId}
+use Rattle.gate_turns.specs.declared.seat.Seat.{Seat}
+use Rattle.gate_turns.specs.declared.seat.Turned.{Turned}
+use Rattle.gate_turns.specs.Turns.{TurnsState, seat_at}
+use Rattle.gate_poll.specs.declared.peer.Peer.{Peer}
+use Rattle.gate_poll.specs.declared.table.Table.{Table}
+use Rattle.gate_poll.specs.Peers.{owes, EndsFor, StandsFor}
+
+-- the connection under an id
+abbrev pub peer_in : List (ℕ × Peer) → ℕ → Option Peer
+peer_in peers id = lookup (is_at (nat_cmp id)) peers
+
+-- the other connections are as they were
+abbrev pub OthersKept : ℕ → List (ℕ × Peer) → List (ℕ × Peer) → Type 0
+OthersKept id old new = (other : ℕ) → other ≢ id → peer_in new other ≡ peer_in old other
+
+-- A connection is kept under the id that its flow has, which was given before. It waits for the side of its socket that its
+-- flow wants, and its seat says whether something is owed to it.
+pub record IsSeatOf (next id : ℕ) (peer : Peer) (seat : Seat) : Type 0 where
+  pub own : IsOwnId 1 next id
+  pub same : peer.flow.id ≡ id
+  pub waits : StandsFor seat.place peer
+  pub owed : seat.owed ≡ owes peer
+
+-- an id has a connection exactly where it has a seat
+abbrev pub HasSeat : ℕ → ℕ → Option Peer → Option Seat → Type 0
+HasSeat next id None None = ⊤
+HasSeat next id None (Some seat) = ⊥
+HasSeat next id (Some peer) None = ⊥
+HasSeat next id (Some peer) (Some seat) = IsSeatOf next id peer seat
+
+-- the connection under an id is one of those whose ids were given, and its flow has that id
+abbrev pub IsOwnPeer : ℕ → ℕ → Option Peer → Type 0
+IsOwnPeer next id None = ⊤
+IsOwnPeer next id (Some peer) = IsOwnId 1 next id × (peer.flow.id ≡ id)
+
+abbrev pub AreOwnPeers : ℕ → List (ℕ × Peer) → Type 0
+AreOwnPeers next peers = (id : ℕ) → IsOwnPeer next id (peer_in peers id)
+
+-- Each connection has a seat, and nobody has its turn. So many ids were given.
+pub record AreKept (next : ℕ) (peers : List (ℕ × Peer)) (turns : TurnsState) : Type 0 where
+  pub first : 1 ≤ next
+  pub each : (id : ℕ) → HasSeat next id (peer_in peers id) (seat_at turns id)
+  pub idle : turns.turn ≡ None
+
+abbrev pub IsTableKept : Table → Type 0
+IsTableKept table = AreKept table.ids.next table.peers.entries table.turns
+
+-- Each connection has a seat, and one of them has its turn.
+pub record IsTurnOf (id next : ℕ) (peers : List (ℕ × Peer)) (turns : TurnsState) : Type 0 where
+  pub first : 1 ≤ next
+  pub each : (other : ℕ) → HasSeat next other (peer_in peers other) (seat_at turns other)
+  pub turn : turns.turn ≡ Some id
+
+-- Each connection but one has a seat, and nobody has its turn.
+pub record AreKeptBut (id next : ℕ) (peers : List (ℕ × Peer)) (turns : TurnsState) : Type 0 where
+  pub first : 1 ≤ next
+  pub each : (other : ℕ) → other ≢ id → HasSeat next other (peer_in peers other) (seat_at turns other)
+  pub own : IsOwnPeer next id (peer_in peers id)
+  pub gone : seat_at turns id ≡ None
+  pub idle : turns.turn ≡ None
+
+-- The socket of a connection was called in its turn: it waits for what its turn says.
+pub record IsSocketCalled (id : ℕ) (turned : Turned) (old new : List (ℕ × Peer)) : Type 0 where
+  pub before : Peer
+  pub after : Peer
+  pub was : peer_in old id ≡ Some before
+  pub found : peer_in new id ≡ Some after
+  pub same : after.flow.id ≡ before.flow.id
+  pub waits : EndsFor turned.end after
+  pub owed : turned.owed ≡ owes after
+
+-- The gateway was served for connections that are kept: it was led by calls of ids that were given.
+pub record ArePeersServed (before next : ℕ) (peers : List (ℕ × Peer)) (turns : TurnsState) (g h : State) : Type 0 where
+  pub kept : AreKept next peers turns
+  pub next_is : before ≤ next
+  pub hosted : IsHosted 1 next g h
+
+abbrev pub Serves : Table → Table → State → State → Type 0
+Serves old new g h = ArePeersServed old.ids.next new.ids.next new.peers.entries new.turns g h

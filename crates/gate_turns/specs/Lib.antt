@@ -1,0 +1,7 @@
+-- Read in this order: one seat, its lanes, then all of them together.
+pub mod Seat
+pub mod Lanes
+pub mod Before
+pub mod Door
+pub mod Ending
+pub mod Turns
