@@ -103,9 +103,13 @@ umount /srv/grid/1
 systemctl start wozhinnam
 sleep 2
 ! curl -s "$at/uri/URI:LIT:"
-test "$(systemctl show wozhinnam -p ExecMainStatus --value)" = 14
+test "$(systemctl show wozhinnam -p ExecMainStatus --value)" = 31
 test -z "$(ls /srv/grid/1)"
+# an empty disk in its place is meant
 disk 1
+sed -i 's|"MORE=|&--new /srv/grid/1/store |' /etc/systemd/system/wozhinnam.service.d/override.conf
+systemctl daemon-reload
+systemctl restart wozhinnam
 answers $at
 reads $at
 echo 'as it should be'

@@ -3,7 +3,7 @@
 
 usage: bench/checks/client.py WOZ PROGRAM
 
-A folder is put and got again, file by file, and by paths; listings are those of the gateway; checks and repairs; each exit status by its cause.
+A folder is put and got again, file by file, and by paths; files in parts, which a file is of more than 16 MiB; listings are those of the gateway; checks and repairs; each exit status by its cause.
 Then a proxy stands between the two that changes one bit of a reply's body (at each of many places), cuts replies, gives them byte by byte or in
 chunks, and gateways that answer with endless heads, interim replies without end, rubbish in chunks, redirects, pages of HTML and bodies that are
 too long: a get is right or refused with its status, and then nothing stands under the name that was asked for. At last a disk that is full (a file
@@ -188,6 +188,62 @@ def honest(client, server, folder):
     return cap
 
 
+def parts(client, server, folder):
+    """Files of more than 16 MiB: stored as directories of their parts, which others read as such, and joined again."""
+    for size in [LIMIT - 1, LIMIT, LIMIT + 1, 2 * LIMIT, 2 * LIMIT + 12345]:
+        given = random.Random(size).randbytes(size)
+        cap = client.text(server.url, "put", "-", given=given).strip()
+        if cap.startswith("URI:DIR2-CHK:") != (size > LIMIT):
+            fail("%d bytes are stored as %s" % (size, cap[:13]))
+        if client.run(server.url, "get", cap).stdout != given:
+            fail("%d bytes in parts came back as others" % size)
+        if size <= LIMIT:
+            continue
+        told = json.loads(client.run(server.url, "ls", "--json", cap).stdout)[1]["children"]
+        count = (size + LIMIT - 1) // LIMIT
+        if sorted(told) != ["%010d" % at for at in range(count)]:
+            fail("the parts of %d bytes have other names" % size)
+        for at, name in enumerate(sorted(told)):
+            node = told[name][1]
+            if node["metadata"] != {"wozhinnam-parts": {"count": count, "size": size}} or node["size"] != min(LIMIT, size - at * LIMIT):
+                fail("part %d of %d bytes is another" % (at, size))
+        joined = b"".join(urllib.request.urlopen(server.url + "/uri/" + cap + "/" + name, timeout=60).read() for name in sorted(told))
+        if joined != given:
+            fail("the parts of %d bytes aren't what was put" % size)
+    with open(os.path.join(folder, "long"), "wb") as file:
+        file.write(given)
+    if client.text(server.url, "put", "long").strip() != cap:
+        fail("a long file has another cap than its bytes")
+    client.run(server.url, "get", cap, "long again")
+    os.mkdir(os.path.join(folder, "with long"))
+    os.rename(os.path.join(folder, "long"), os.path.join(folder, "with long", "long"))
+    if subprocess.run(["cmp", "with long/long", "long again"], cwd=folder).returncode != 0:
+        fail("a long file differs")
+    tree = client.text(server.url, "put", "-r", "with long").strip()
+    client.run(server.url, "get", "-r", tree, "with long again")
+    same_trees(os.path.join(folder, "with long"), os.path.join(folder, "with long again"))
+    client.run(server.url, "check", "--read", cap)
+
+    seen = []
+
+    def second_spoiled(stream, head, body):
+        seen.append(len(body))
+        spoiled = bytearray(body)
+        if seen.count(LIMIT) == 2 and len(body) == LIMIT:
+            spoiled[LIMIT // 2] ^= 1
+        stream.sendall(head + b"\r\n\r\n" + bytes(spoiled))
+        return True
+
+    gateway = proxy(server, second_spoiled)
+    client.run(gateway.url, "get", cap, "lied", wanted=6)
+    no_leftovers(folder, "lied")
+    seen.clear()
+    told = client.run(gateway.url, "get", cap, wanted=6).stdout
+    if told != given[:LIMIT]:
+        fail("of a spoiled file in parts %d bytes are written" % len(told))
+    gateway.close()
+
+
 def statuses(client, server, folder, cap):
     client.run(server.url, "nothing", wanted=2)
     client.run("https://127.0.0.1:1", "ls", cap, wanted=2)
@@ -202,7 +258,6 @@ def statuses(client, server, folder, cap):
     no_leftovers(folder, "gone")
     client.run(server.url, "check", gone, wanted=7)
     client.run(server.url, "put", "no such file", wanted=8)
-    client.run(server.url, "put", "-", given=bytes(LIMIT + 1), wanted=8)
     os.symlink("tree", os.path.join(folder, "tree", "link"))
     passed = client.run(server.url, "put", "-r", "tree", wanted=8)
     if passed.stdout.decode().strip() != cap:
@@ -365,6 +420,7 @@ def main():
         try:
             cap = honest(client, server, folder)
             statuses(client, server, folder, cap)
+            parts(client, server, folder)
             if idle(client, server) != cap:
                 fail("a folder has another cap over many connections")
             lies(client, server, folder)

@@ -36,7 +36,7 @@ import time
 sys.path.insert(0, os.path.join(os.path.dirname(os.path.abspath(__file__)), "../tools"))
 
 from kills import body_of
-from server import Client, Server, fail, serve_words
+from server import Client, Server, fail, serve_words, wozhinnam
 
 CLIENTS = 4
 SERVERS = 5
@@ -238,22 +238,16 @@ class Trial:
                 engine.kill()
 
 
-def single(options, engine, folder):
+def single(options, engine):
     """The program over this server alone, one share a file."""
-    words = [options.program, "serve", "--listen", "127.0.0.1:0", "--shares", "1,1", "--room", str(1 << 40), "--store", "redis:127.0.0.1:%d/one" % engine.port]
-    with open(os.path.join(folder, "single"), "w+") as errors:
-        running = Program(words, errors)
-        if not running.listens():
-            running.kill()
-            sys.exit("engines.py: the program did not start over one server")
-    return running
+    return wozhinnam(options.program, "--shares", "1,1", "--room", str(1 << 40), "--store", "redis:127.0.0.1:%d/one" % engine.port)
 
 
 def one_server(options, folder):
     """What a server alone does to uploads and reads once it is full, and once it was emptied. How many faults there were."""
     engine = Engine(os.path.join(folder, "one"), durable=False)
     engine.start()
-    running = single(options, engine, folder)
+    running = single(options, engine)
     client = Client(running.address)
     faults = []
 
@@ -262,7 +256,8 @@ def one_server(options, folder):
             faults.append(what)
             print("engines.py: %s: %r" % (what, (answer[0], answer[1][:40])), file=sys.stderr)
 
-    first = body_of("one", options.most)
+    # Longer than what the gateway keeps of files that were read: each read asks the server.
+    first = random.Random("one").randbytes(1_500_000)
     status, cap = client.put(first)
     wants("an upload to one server", (status, cap), 200)
     engine.limit(0)

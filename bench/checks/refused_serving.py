@@ -35,7 +35,7 @@ class FaultyServer(Server):
         """The status and the words of the end. The request to stop may be what is refused memory, so it is made again."""
         for _turn in range(3 if self.control else 0):
             try:
-                exchanged(self.connect(self.control), b"POST /stop HTTP/1.1\r\nHost: g\r\n\r\n")
+                exchanged(self.connect(self.control), b"POST /stop HTTP/1.0\r\n\r\n")
                 self.process.wait(2)
                 break
             except ConnectionError:

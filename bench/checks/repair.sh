@@ -1,6 +1,6 @@
 #!/bin/sh
 # What crates/wozhinnam/README.md says, under "Running it", of a folder that is lost and of repair by hand: a lost folder
-# gives way to an empty one, or to `mem:1` for as long as there is none; the same bytes put again bring missing and
+# gives way to an empty one, which `--new` has to name, or to `mem:1` for as long as there is none; the same bytes put again bring missing and
 # rotten shares back under the same cap, and a directory its own by its JSON; a file that became rotten meanwhile and wasn't
 # read since wants a start.
 # Over folders and memory, and over folders alone. It needs curl, jq and python3.
@@ -57,7 +57,15 @@ for kind in '' :10000000,disk; do
     head -c 5000 /dev/urandom > "$folder/new"
     test "$($curl -o "$folder/said" -w '%{http_code}' -T "$folder/new" "$base/uri")" = 503 || fail "'$kind': mem:1 takes a share"
     stop
-    start $(stores)
+    status=0
+    timeout 60 "$program" serve $(stores) > "$folder/said" 2>&1 || status=$?
+    test "$status" = 31 || fail "'$kind': a start ends with $status where a folder is lost"
+    test ! -e "$grid/2" || fail "'$kind': a store is begun in place of a folder that is lost"
+    status=0
+    "$program" check "$grid"/* > "$folder/said" 2>&1 || status=$?
+    test "$status" = 28 || fail "'$kind': check ends with $status where a folder is lost"
+    grep -q 'server 2 of 5' "$folder/said" || fail "'$kind': check doesn't name the server whose folder is lost"
+    start $(stores) --new "$grid/2"
     grep -q "$grid/2: a new folder" "$folder/words" || fail "'$kind': a new folder isn't told"
     test "$(good "$cap")" = 8 || fail "'$kind': $(good "$cap") shares are good with one of five folders lost"
     repair "'$kind', lost"

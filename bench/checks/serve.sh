@@ -1,6 +1,7 @@
 #!/bin/sh
 # `wozhinnam serve`, the built program: each exit status that a run can have, curl and wget at once (clients.sh), chunked
-# uploads, `Expect: 100-continue`, the control requests, and a stop. It needs curl, wget and python3, and takes a minute.
+# uploads, `Expect: 100-continue`, a refusal that arrives though all of its body was sent first, the control requests, which
+# web pages are refused, and a stop. It needs curl, wget and python3, and takes a minute.
 # usage: bench/checks/serve.sh PROGRAM
 set -eu
 program=${1:?usage: bench/checks/serve.sh PROGRAM}
@@ -72,9 +73,49 @@ test "$($curl -H 'Expect: 100-continue' -T "$folder/file" "$base/uri")" = "$cap"
 $curl -o "$folder/back" "$base/uri/$cap"
 cmp "$folder/file" "$folder/back" || fail 'other bytes'
 
+# a body that is a byte too long, by what sends all of it before it reads
+head -c 16777217 /dev/zero > "$folder/longer"
+wget --quiet --tries=1 --timeout=60 --server-response --method=PUT --body-file="$folder/longer" -O /dev/null "$base/uri" 2> "$folder/heads" || true
+grep -q 'HTTP/1.1 413' "$folder/heads" || fail "wget doesn't get the refusal: $(cat "$folder/heads")"
+test "$(python3 - "$base/uri" << 'END'
+import sys, urllib.error, urllib.request
+try:
+    urllib.request.urlopen(urllib.request.Request(sys.argv[1], data=bytes(16777217), method="PUT"), timeout=60)
+except urllib.error.HTTPError as error:
+    print(error.code, error.read().decode().strip())
+END
+)" = '413 body too long' || fail "urllib doesn't get the refusal"
+
 # what was asked on the wrong port
 test "$($curl -o "$folder/back" -w '%{http_code}' -X POST "$base/stop")" != 200 || fail 'a stop on the port of the gateway'
 test "$($curl -o "$folder/back" -w '%{http_code}' "$control/uri/URI:LIT:mzxw6")" = 404 || fail 'a file on the control port'
+
+# what a web page may send: its Origin, and a Host of its own where its name leads here
+code() {
+    $curl -o "$folder/back" -w '%{http_code}' "$@"
+}
+port=${control##*:}
+for path in status metrics stop elsewhere; do
+    test "$(code -X POST -H 'Origin: http://elsewhere.invalid' "$control/$path")" = 403 || fail "/$path for a page"
+    grep -q Origin "$folder/back" || fail "/$path for a page: $(cat "$folder/back")"
+    test "$(code -X POST -H "Host: elsewhere.invalid:$port" "$control/$path")" = 403 || fail "/$path under another Host"
+    grep -q Host "$folder/back" || fail "/$path under another Host: $(cat "$folder/back")"
+done
+test "$(code -X POST -H "Origin: $control" "$control/stop")" = 403 || fail 'a stop for a page of the control address'
+test "$(code -X POST -H 'Origin;' "$control/stop")" = 403 || fail 'a stop with an Origin field of no bytes'
+test "$(code -X POST -H "Host: 127.0.0.1" "$control/stop")" = 403 || fail 'a stop under a Host without the port'
+test "$(code -X POST -H 'Host;' "$control/stop")" = 403 || fail 'a stop with a Host field of no bytes'
+test "$(code -H "Host: LocalHost:$port" "$control/status")" = 200 || fail 'the status by localhost'
+test "$(code --head -H 'Origin: null' "$control/status")" = 403 || fail 'a head for a page'
+grep -q '^Content-Length: 51' "$folder/back" || fail 'a head for a page has no length'
+grep -q refused "$folder/back" && fail 'a head for a page has a body'
+test "$(python3 - "$port" << 'END'
+import socket, sys
+with socket.create_connection(("127.0.0.1", int(sys.argv[1])), timeout=30) as connection:
+    connection.sendall(b"GET /status HTTP/1.0\r\n\r\n")
+    print(connection.makefile("rb").read().split(b"\r\n")[0].decode())
+END
+)" = 'HTTP/1.1 200 OK' || fail 'the status without a Host'
 
 # control
 $curl "$control/status" | python3 -c '

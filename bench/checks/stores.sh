@@ -32,15 +32,18 @@ ends() {
 three='--shares 2,3'
 
 # words
-for store in disk:/a dir: mem: mem:1k dir:/a:1k; do
+for store in disk:/a dir: mem: mem:1k dir:/a:1k dir:/a:1GB dir:/a:16777216T; do
     ends 2 --store serve --store "$store"
 done
+ends 2 --room serve --room 1GB
+ends 2 --new serve --store dir:/a --new /b
 
 # folders that can't be opened
 echo text > "$folder/file"
 mkdir "$folder/strange"
 echo text > "$folder/strange/README"
-ends 12 "$folder/none/a" serve $(stores none/a)
+ends 12 "$folder/none/0" serve $(stores none/0 none/1)
+! grep -q 'a new folder' "$folder/why" || fail 'a folder is told to be new where none can be made'
 ends 13 "$folder/file" serve $(stores file)
 ends 16 "$folder/strange" serve $(stores strange)
 test "$(ls "$folder/strange")" = README || fail 'a folder that was refused was written'
@@ -68,17 +71,47 @@ for at in 1 2 3; do
 done
 stop
 
-# another grid's, or in another order
+# another grid's, or in another order: what differs is told, and of the secret only whether it does
 ends 18 "$folder/b" serve $three $(stores b a c)
-ends 19 "$folder/a" serve --shares 1,3 $(stores a b c)
-ends 19 "$folder/a" serve $three $(stores a b)
-ends 19 "$folder/a" serve $three --secret-file "$folder/file" $(stores a b c)
+ends 19 "$folder/a: .* grid: 2 shares needed and not 1; the same secret" serve --shares 1,3 $(stores a b c)
+ends 19 "$folder/a: .* grid: 3 shares made and not 9; the same secret" serve --shares 2,9 $(stores a b c)
+ends 19 "$folder/a: .* grid: 3 servers and not 2; the same secret" serve $three $(stores a b)
+ends 19 "$folder/a: .* grid: another secret" serve $three --secret-file "$folder/file" $(stores a b c)
+ends 19 "$folder/b: .* grid: place 1 and not 0; 3 servers and not 1; 2 shares needed and not 3; 3 shares made and not 10; another secret" \
+    serve --secret-file "$folder/file" $(stores b)
+! grep -q "$(cat "$folder/file")" "$folder/why" || fail 'a secret is told'
 ends 8 '' serve $three --secret-file /dev/zero $(stores a b c)
 ends 22 "$folder/a" serve $three $(stores a:10 b c)
 
+# a folder that is gone, or whose disk isn't mounted, is no new store unless that is said
+mv "$folder/b" "$folder/away"
+ends 31 "$folder/b: .*--new" serve $three $(stores a b c)
+ends 31 "$folder/b: .*--new" serve $three $(stores a b c) --new "$folder/a" --new "$folder/c"
+test ! -e "$folder/b" || fail 'a store is begun in the place of a folder that is gone'
+ends 28 'server 1 of 3' check "$folder/a" "$folder/c"
+mkdir "$folder/b"
+ends 31 "$folder/b: .*--new" serve $three $(stores a b c)
+! grep -q 'a new folder' "$folder/why" || fail 'a folder that is refused is told to be new'
+test -z "$(ls -A "$folder/b")" || fail 'a folder that is refused was written'
+ends 28 "$folder/b: the folder is empty" check "$folder/a" "$folder/b" "$folder/c"
+grep -q 'server 1 of 3' "$folder/why" || fail 'check names no missing server'
+ends 16 "$folder/b: the folder is empty" image "$folder/a" "$folder/b" "$folder/c"
+start $three $(stores a b c) --new "$folder/b"
+grep -q "$folder/b: a new folder" "$folder/words" || fail 'a new folder is not told'
+stop
+start $three $(stores a b c) --new "$folder/b"
+grep -q "$folder/b: it has settings" "$folder/words" || fail 'a --new that says nothing any more is not told'
+stop
+rm -r "$folder/b"
+mv "$folder/away" "$folder/b"
+# with a unit: room for what stands there, and too little
+start $three $(stores a:1M b:1G c:1T)
+stop
+
 # images
 ends 0 '' check "$folder/a" "$folder/b" "$folder/c"
-ends 28 "$folder/a" check "$folder/a" "$folder/a"
+ends 28 "$folder/a: .*place 0 too" check "$folder/a" "$folder/b" "$folder/c" "$folder/a"
+ends 28 'server 2 of 3' check "$folder/a" "$folder/b"
 ends 18 "$folder/b" image "$folder/b" "$folder/a" "$folder/c"
 ends 24 "$folder/a" image "$folder/a" "$folder/b"
 ends 12 "$folder/none" image "$folder/none"

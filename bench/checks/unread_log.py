@@ -3,7 +3,7 @@
 
     bench/checks/unread_log.py WOZHINNAM
 
-Standard error is a pipe of 4,096 bytes. For ten seconds connections are reset, each of which is worth a line, and nobody
+Standard error is a pipe of 8,192 bytes. For ten seconds connections are reset, each of which is worth a line, and nobody
 reads: a small GET beside them never waits for a quarter of a second. Then the pipe is read, more connections are reset,
 and a line has the number of those that were left out. At last the pipe is full again, and a stop ends the program with 0.
 """
@@ -50,7 +50,7 @@ def flood(server, seconds):
 def main():
     program = built("wozhinnam")
     reads, writes = os.pipe()
-    fcntl.fcntl(writes, F_SETPIPE_SZ, 4096)
+    fcntl.fcntl(writes, F_SETPIPE_SZ, 8192)
     server = wozhinnam(program, control=True, errors=writes)
     os.close(writes)
     longest = flood(server, 10)
@@ -58,7 +58,7 @@ def main():
         fail("a small GET waited %.2f s beside a log that nobody reads" % longest)
     os.set_blocking(reads, False)
     first = os.read(reads, 65536).decode()
-    if "cut" not in first or "left out" in first:
+    if "cut" not in first or "nobody read" in first:
         fail("the log began with %r" % first[:200])
     reset(server, 20)
     time.sleep(1)

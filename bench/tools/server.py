@@ -100,7 +100,7 @@ class Server:
     def asked_control(self, method, path):
         """What its control port answers, head and body."""
         with self.connect(self.control) as stream:
-            stream.sendall(("%s %s HTTP/1.1\r\nHost: g\r\n\r\n" % (method, path)).encode())
+            stream.sendall(("%s %s HTTP/1.1\r\nHost: %s:%d\r\n\r\n" % ((method, path) + self.control)).encode())
             text = b""
             while got := stream.recv(65536):
                 text += got

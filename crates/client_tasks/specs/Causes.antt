@@ -5,7 +5,7 @@ use Rattle.client_core.specs.declared.fault.ClientFault.TheVariants as client
 use Rattle.client_tree.specs.declared.fault.TreeFault.{TreeFault}
 use Rattle.client_tree.specs.declared.fault.TreeFault.TheVariants as tree
 use Rattle.client_tasks.specs.declared.fault.TaskFault.{TaskFault}
-use Rattle.client_tasks.specs.declared.fault.TaskFault.TheVariants.{Words, BadUrl, NoCap, Tree, NotWell, PassedOver, Unread, Unwritten, TooLong, NotPrinted, NoMemory}
+use Rattle.client_tasks.specs.declared.fault.TaskFault.TheVariants.{Words, BadUrl, NoCap, Tree, NotWell, PassedOver, Unread, Unwritten, NotPrinted, NoMemory}
 
 -- of what the gateway gave, or didn't give
 abbrev pub client_cause : ClientFault → ℕ
@@ -37,6 +37,5 @@ cause NotWell = 7
 cause PassedOver = 8
 cause Unread = 8
 cause Unwritten = 8
-cause TooLong = 8
 cause NotPrinted = 8
 cause NoMemory = 8

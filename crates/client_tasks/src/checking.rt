@@ -6,7 +6,7 @@ use crate::getting::{MOST_DEPTH, MOST_NODES};
 use crate::progress::Progress;
 use caps::{Cap, ReadFields, weaken};
 use client_core::{ClientFault, Exchange, copy_cap, fetch_directory, fetch_stored, put_file};
-use client_tree::{TreeFault, get_tree};
+use client_tree::{TreeFault, get_tree, parts_size};
 use client_wire::Ask;
 use dir_codec::Directory;
 use serde_json::Value;
@@ -23,7 +23,7 @@ struct Report {
     healthy: bool,
 }
 
-/// Reads what a cap is of, and holds it against the cap. It takes nobody's word.
+/// Reads what a cap is of, a file in parts whole, and holds it against the cap. It takes nobody's word.
 pub fn read_all<R: AllocGlobal + Eprint + Drop, E: Exchange>(
     rt: &R,
     gateway: &mut E,
@@ -34,8 +34,10 @@ pub fn read_all<R: AllocGlobal + Eprint + Drop, E: Exchange>(
     let alloc = rt.alloc();
     if !recursive {
         if let Cap::DirChk(_) | Cap::DirLit(_) = cap {
-            let _ = fetch_directory(alloc, gateway, cap)?;
-            return Ok(());
+            let directory = fetch_directory(alloc, gateway, cap)?;
+            if parts_size(alloc, &directory)?.is_none() {
+                return Ok(());
+            }
         }
     }
     let mut nowhere = Nowhere::new(rt, Progress::new(told));

@@ -1,16 +1,13 @@
 //! Folders and files on a disk.
 
 use crate::progress::Progress;
-use client_tree::{Folder, Item, LocalFault, Source};
+use client_tree::{Folder, Item, LocalFault, PART_BYTES, Source};
 use octets::Text;
 use std::alloc::{AllocError, Global};
-use std::fs::{File, OpenFile};
-use std::io::{ErrorKind, Write};
+use std::fs::{File, OpenFile, OpenOptions};
+use std::io::{ErrorKind, Read, Write};
 use std::rt::Files;
 use std::{fs, io};
-
-/// The most bytes of a file that a gateway stores.
-pub const MOST_BYTES: u64 = 16_777_216;
 
 /// How many new names are tried for what isn't whole yet.
 const MOST_TRIES: u32 = 1000;
@@ -40,6 +37,13 @@ impl<'a, R: Files + AllocGlobal + Eprint + Drop> DiskFolder<'a, R> {
         file.write_all(bytes)?;
         file.sync_all()
     }
+
+    /// Puts bytes at the end of a file that is there, and syncs it.
+    fn append(&self, path: &str, bytes: &[u8]) -> io::Result<()> {
+        let mut file = OpenOptions::new().append(true).open(self.rt, path)?;
+        file.write_all(bytes)?;
+        file.sync_all()
+    }
 }
 
 impl<R: Files + AllocGlobal + Eprint + Drop> Folder for DiskFolder<'_, R> {
@@ -56,7 +60,15 @@ impl<R: Files + AllocGlobal + Eprint + Drop> Folder for DiskFolder<'_, R> {
             let _ = fs::remove_file(self.rt, place.as_str());
         }
         told(self.rt, place.as_str(), written)?;
-        self.progress.count(self.rt, bytes.len());
+        self.progress.count(self.rt, bytes.len(), true);
+        Ok(())
+    }
+
+    fn append_file(&mut self, path: &[Text], bytes: &[u8]) -> Result<(), LocalFault> {
+        let place = place_of(self.rt.alloc(), self.top, path)?;
+        let written = self.append(place.as_str(), bytes);
+        told(self.rt, place.as_str(), written)?;
+        self.progress.count(self.rt, bytes.len(), false);
         Ok(())
     }
 }
@@ -85,6 +97,10 @@ impl<R: Print + Drop> Folder for Output<'_, R> {
             Err(_) => Err(LocalFault),
         }
     }
+
+    fn append_file(&mut self, path: &[Text], bytes: &[u8]) -> Result<(), LocalFault> {
+        self.write_file(path, bytes)
+    }
 }
 
 /// What is verified, and written nowhere.
@@ -112,7 +128,12 @@ impl<R: Eprint + Drop> Folder for Nowhere<'_, R> {
     }
 
     fn write_file(&mut self, _path: &[Text], bytes: &[u8]) -> Result<(), LocalFault> {
-        self.progress.count(self.rt, bytes.len());
+        self.progress.count(self.rt, bytes.len(), true);
+        Ok(())
+    }
+
+    fn append_file(&mut self, _path: &[Text], bytes: &[u8]) -> Result<(), LocalFault> {
+        self.progress.count(self.rt, bytes.len(), false);
         Ok(())
     }
 }
@@ -125,6 +146,8 @@ pub struct DiskSource<'a, R: Files + AllocGlobal + Eprint + Clone + Drop> {
     progress: Progress,
     /// Whether something was passed over.
     passed_over: bool,
+    /// The file that is read, up to its last piece.
+    open: Option<R::File>,
 }
 
 impl<'a, R: Files + AllocGlobal + Eprint + Clone + Drop> DiskSource<'a, R> {
@@ -135,6 +158,7 @@ impl<'a, R: Files + AllocGlobal + Eprint + Clone + Drop> DiskSource<'a, R> {
             top,
             progress,
             passed_over: false,
+            open: None,
         }
     }
 
@@ -166,6 +190,17 @@ impl<'a, R: Files + AllocGlobal + Eprint + Clone + Drop> DiskSource<'a, R> {
         }
         Ok(items)
     }
+
+    /// The next piece of the file that is read, or the first of the one at a place.
+    fn piece_at(&mut self, place: &str, is_first: bool) -> io::Result<Vec<u8>> {
+        if is_first {
+            self.open = Some(File::open(self.rt, place)?);
+        }
+        let Some(file) = &mut self.open else {
+            return Err(io::Error::from(ErrorKind::NotFound));
+        };
+        read_part(self.rt.alloc(), file)
+    }
 }
 
 impl<R: Files + AllocGlobal + Eprint + Clone + Drop> Source for DiskSource<'_, R> {
@@ -175,21 +210,47 @@ impl<R: Files + AllocGlobal + Eprint + Clone + Drop> Source for DiskSource<'_, R
         told(self.rt, place.as_str(), items)
     }
 
-    fn read_file(&mut self, path: &[Text]) -> Result<Vec<u8>, LocalFault> {
+    fn read_piece(&mut self, path: &[Text], is_first: bool) -> Result<Vec<u8>, LocalFault> {
         let place = place_of(self.rt.alloc(), self.top, path)?;
-        let read = read_short(self.rt, place.as_str());
+        let read = self.piece_at(place.as_str(), is_first);
         let bytes = told(self.rt, place.as_str(), read)?;
-        self.progress.count(self.rt, bytes.len());
+        self.progress.count(self.rt, bytes.len(), is_first);
         Ok(bytes)
     }
 }
 
-/// The bytes of a file of no more than a gateway stores.
-pub fn read_short<R: Files + AllocGlobal>(rt: &R, path: &str) -> io::Result<Vec<u8>> {
-    if fs::metadata(rt, path)?.len() > MOST_BYTES {
-        return Err(io::Error::from(ErrorKind::FileTooLarge));
+/// One file that is read from a stream.
+#[derive(Drop)]
+pub struct StreamSource<S: Read + Drop> {
+    alloc: Global,
+    stream: S,
+}
+
+impl<S: Read + Drop> StreamSource<S> {
+    /// Of a stream from which nothing was read.
+    pub fn new(alloc: Global, stream: S) -> Self {
+        StreamSource { alloc, stream }
     }
-    fs::read(rt, path)
+}
+
+impl<S: Read + Drop> Source for StreamSource<S> {
+    fn items(&mut self, _path: &[Text]) -> Result<Vec<Item>, LocalFault> {
+        Err(LocalFault)
+    }
+
+    fn read_piece(&mut self, _path: &[Text], _is_first: bool) -> Result<Vec<u8>, LocalFault> {
+        match read_part(self.alloc, &mut self.stream) {
+            Ok(bytes) => Ok(bytes),
+            Err(_) => Err(LocalFault),
+        }
+    }
+}
+
+/// The next bytes of a stream: as many as a part has, or all that are left.
+fn read_part<S: Read>(alloc: Global, stream: &mut S) -> io::Result<Vec<u8>> {
+    let mut bytes = Vec::new(alloc);
+    stream.by_ref().take(PART_BYTES).read_to_end(&mut bytes)?;
+    Ok(bytes)
 }
 
 /// A path below a top.

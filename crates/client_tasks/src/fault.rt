@@ -34,9 +34,6 @@ pub enum TaskFault {
     /// A file or a folder couldn't be written.
     #[error("it can't be written")]
     Unwritten,
-    /// A file is longer than what a gateway stores.
-    #[error("more than 16,777,216 bytes")]
-    TooLong,
     /// Standard output is closed.
     #[error("standard output is closed")]
     NotPrinted,
@@ -67,7 +64,6 @@ impl TaskFault {
             TaskFault::PassedOver => 8,
             TaskFault::Unread => 8,
             TaskFault::Unwritten => 8,
-            TaskFault::TooLong => 8,
             TaskFault::NotPrinted => 8,
             TaskFault::NoMemory => 8,
         }

@@ -16,7 +16,8 @@ pub const MOST_DEPTH: u32 = 256;
 /// How many files and folders are taken at most.
 pub const MOST_NODES: u64 = 100_000_000;
 
-/// Writes the file to which names lead on standard output, whole or not at all.
+/// Writes the file to which names lead on standard output: whole or not at all, and one in parts part by part, so that after a
+/// fault its beginning stands.
 pub fn get_to_output<R: Print + AllocGlobal + Drop, E: Exchange>(
     rt: &R,
     gateway: &mut E,
@@ -43,8 +44,13 @@ pub fn get_to_file<R: Files + AllocGlobal + Eprint + Drop, E: Exchange>(
         return Err(TaskFault::Unwritten);
     };
     let mut folder = DiskFolder::new(rt, unfinished.as_str(), Progress::new(false));
-    get_file(rt.alloc(), gateway, &mut folder, cap, names, &[])?;
-    finish(rt, unfinished.as_str(), path)
+    match get_file(rt.alloc(), gateway, &mut folder, cap, names, &[]) {
+        Ok(()) => finish(rt, unfinished.as_str(), path),
+        Err(fault) => {
+            let _ = fs::remove_file(rt, unfinished.as_str());
+            Err(TaskFault::Tree(fault))
+        }
+    }
 }
 
 /// Writes what names lead to: under a new name, which becomes `path` once all is there.

@@ -21,9 +21,9 @@ impl Progress {
         }
     }
 
-    /// One more file of so many bytes.
-    pub fn count<R: Eprint>(&mut self, rt: &R, bytes: usize) {
-        self.files = self.files.saturating_add(1);
+    /// So many bytes more, of one more file or of the one that came last.
+    pub fn count<R: Eprint>(&mut self, rt: &R, bytes: usize, is_new: bool) {
+        self.files = self.files.saturating_add(u64::from(is_new));
         self.bytes = self.bytes.saturating_add(bytes as u64);
         if self.told {
             let files = self.files;

@@ -1,50 +1,46 @@
 //! Storing files and folders.
 
-use crate::disk::{DiskSource, MOST_BYTES, read_short};
+use crate::disk::{DiskSource, StreamSource};
 use crate::fault::TaskFault;
 use crate::getting::{MOST_DEPTH, MOST_NODES};
 use crate::given::read_cap;
 use crate::progress::Progress;
 use caps::{Cap, print};
-use client_core::{Exchange, put_file};
-use client_tree::{child_of, directory_of, put_tree};
+use client_core::Exchange;
+use client_tree::{TreeFault, child_of, directory_of, put_tree, put_whole};
 use octets::Text;
 use std::alloc::Global;
+use std::fs::File;
 use std::io::{ErrorKind, Read};
 use std::rt::Files;
 
-/// Stores a file, or with `-` standard input, and prints its cap.
+/// Stores a file, or with `-` standard input, and prints its cap. What has more than 16,777,216 bytes is stored in parts.
 pub fn put_one<R: Files + AllocGlobal + Print + Input, E: Exchange>(
     rt: &R,
     gateway: &mut E,
     path: &str,
 ) -> Result<(), TaskFault> {
-    let bytes = if path == "-" {
-        read_input(rt)?
-    } else {
-        match read_short(rt, path) {
-            Ok(bytes) => bytes,
-            Err(error) => {
-                return Err(match error.kind() {
-                    ErrorKind::FileTooLarge => TaskFault::TooLong,
-                    ErrorKind::OutOfMemory => TaskFault::NoMemory,
-                    _ => TaskFault::Unread,
-                });
-            }
-        }
-    };
-    let (cap, _) = put_file(rt.alloc(), gateway, bytes)?;
-    print_cap(rt, &cap)
+    if path == "-" {
+        return put_stream(rt, gateway, rt.reader());
+    }
+    match File::open(rt, path) {
+        Ok(file) => put_stream(rt, gateway, file),
+        Err(error) if error.kind() == ErrorKind::OutOfMemory => Err(TaskFault::NoMemory),
+        Err(_) => Err(TaskFault::Unread),
+    }
 }
 
-/// All of standard input, if it is no longer than what a gateway stores.
-fn read_input<R: Input + AllocGlobal>(rt: &R) -> Result<Vec<u8>, TaskFault> {
-    let mut bytes = Vec::new(rt.alloc());
-    let mut reader = rt.reader().take(MOST_BYTES + 1);
-    match reader.read_to_end(&mut bytes) {
-        Ok(_) if bytes.len() as u64 <= MOST_BYTES => Ok(bytes),
-        Ok(_) => Err(TaskFault::TooLong),
-        Err(_) => Err(TaskFault::Unread),
+/// Stores what is read from a stream, and prints its cap.
+fn put_stream<R: AllocGlobal + Print, E: Exchange, S: Read + Drop>(
+    rt: &R,
+    gateway: &mut E,
+    stream: S,
+) -> Result<(), TaskFault> {
+    let mut source = StreamSource::new(rt.alloc(), stream);
+    match put_whole(rt.alloc(), gateway, &mut source, &[]) {
+        Ok(cap) => print_cap(rt, &cap),
+        Err(TreeFault::Local(_)) => Err(TaskFault::Unread),
+        Err(fault) => Err(TaskFault::Tree(fault)),
     }
 }
 

@@ -1,3 +1,6 @@
 pub mod Running
 pub mod Bound
 pub mod Below
+pub mod PartSizes
+pub mod Joined
+pub mod Read

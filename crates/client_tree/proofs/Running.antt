@@ -56,3 +56,17 @@ outcome_more (Err e) P P' Q Q' good bad h = bad e h
 pub ok_more : {T E : Type 0} (r : Result T E) (P Q : T → Type 0) → ((x : T) → P x → Q x) → IfOk r P → IfOk r Q
 ok_more (Ok x) P Q good h = good x h
 ok_more (Err e) P Q good h = h
+
+-- files that pass, and then a step in which none does
+pub passed_then_rested : {A : Type 0} (step : A → File → A → Type 0) (rest : A → A → Type 0) (holds other : List File → Type 0) (first middle last : A)
+    → ((files : List File) → holds files → other files) → Passes step rest holds first middle → rest middle last → Passes step rest other first last
+passed_then_rested step rest holds other first middle last known before idle = record { files = before.files; run = rests before.run idle; hold = known before.files before.hold }
+
+-- files that pass, and then one more
+pub one_more_passed : {A : Type 0} (step : A → File → A → Type 0) (rest : A → A → Type 0) (holds all : List File → Type 0) (first middle last : A) (file : File)
+    → ((files : List File) → holds files → all (files ++ file ∷ [])) → Passes step rest holds first middle → step middle file last → Passes step rest all first last
+one_more_passed step rest holds all first middle last file known before taken = record { files = before.files ++ file ∷ []; run = passes before.run taken; hold = known before.files before.hold }
+
+-- a run without files
+pub nothing_passed : {A : Type 0} (step : A → File → A → Type 0) (rest : A → A → Type 0) (holds : List File → Type 0) (first last : A) → holds [] → FileRun step rest first [] last → Passes step rest holds first last
+nothing_passed step rest holds first last held run = record { files = []; run = run; hold = held }

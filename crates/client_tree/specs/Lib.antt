@@ -1,6 +1,8 @@
--- Read Trees first, then Placed and Stored. Runs is what several files leave, one after the other.
+-- Read Parts first, then Joined, Trees, Placed and Stored. Runs is what several files leave, one after the other.
 pub mod FileNames
 pub mod Runs
+pub mod Parts
+pub mod Joined
 pub mod Trees
 pub mod Placed
 pub mod Stored

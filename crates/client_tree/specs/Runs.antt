@@ -1,7 +1,7 @@
 -- Files that pass one after the other, and the states between them.
-use Rattle.std.specs.Prelude.{ℕ, List, [], ◌∷◌, ◌++◌}
+use Rattle.std.specs.Prelude.{◌≡◌, ℕ, List, [], ◌∷◌, ◌++◌, All, flat_map}
 
--- a file under the names below a folder
+-- a file under the names below a folder, or a piece of it
 pub record File : Type 0 where
   pub path : List (List ℕ)
   pub bytes : List ℕ
@@ -17,3 +17,9 @@ pub record Passes {A : Type 0} (step : A → File → A → Type 0) (rest : A �
   pub files : List File
   pub run : FileRun step rest first files last
   pub hold : holds files
+
+-- the files are groups of which each has that, one after the other
+pub record AreGroups (holds : List File → Type 0) (files : List File) : Type 0 where
+  pub groups : List (List File)
+  pub each : All holds groups
+  pub joined : flat_map (λ group. group) groups ≡ files

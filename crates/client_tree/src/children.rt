@@ -35,14 +35,14 @@ pub fn directory_of<E: Exchange>(
     ensures { IfOk result (HasChildren children.now) }
 {
     let text = text_of_children(alloc, children)?;
-    let directory = named_directory(alloc, text.as_str())?;
+    let directory = named_directory(alloc, text.as_bytes())?;
     all_are_found(alloc, children, &directory)?;
     Ok(make_directory(alloc, gateway, &directory)?)
 }
 
 /// The directory that the text names.
-fn named_directory(alloc: Global, text: &str) -> Result<Directory, TreeFault> {
-    match from_children_json(alloc, text.as_bytes()) {
+pub(crate) fn named_directory(alloc: Global, text: &[u8]) -> Result<Directory, TreeFault> {
+    match from_children_json(alloc, text) {
         Ok(directory) => Ok(directory),
         Err(fault) => {
             if is_memory(&fault) {
@@ -78,7 +78,7 @@ fn is_found(child: &Child, directory: &Directory) -> bool
 }
 
 /// Whether two caps that may be a child's are the same.
-fn are_same(one: &Cap, other: &Cap) -> bool
+pub(crate) fn are_same(one: &Cap, other: &Cap) -> bool
     ensures { IsTrue result → one.now ≡ other.now }
 {
     match (one, other) {

@@ -13,7 +13,7 @@ pub trait Folder {
     ghost use Rattle.client_tree.specs.Runs.{File};
     ghost use Rattle.client_tree.specs.FileNames.{AreFileNames};
 
-    /// What a call that wrote a file leaves.
+    /// What a call leaves that put bytes at the end of a file, which is new if there was none under its path.
     ghost wrote: { Self → File → Self → Type 0 } = { λ _ _ _. Unit {0} };
 
     /// What a call that wrote none leaves, as one that was refused.
@@ -24,8 +24,15 @@ pub trait Folder {
         requires { AreFileNames path.now }
         ensures { kept self.old self.new };
 
-    /// Writes a file in it, whole or not at all.
+    /// Writes a new file in it, whole or not at all.
     fn write_file(&mut self, path: &[Text], bytes: &[u8]) -> Result<(), LocalFault>
+        requires { AreFileNames path.now }
+        ensures ok { OnOk result
+            (wrote self.old (record { path = path.now; bytes = bytes.now }) self.new) }
+        ensures err { OnErr result (kept self.old self.new) };
+
+    /// Puts bytes at the end of a file that was written in it.
+    fn append_file(&mut self, path: &[Text], bytes: &[u8]) -> Result<(), LocalFault>
         requires { AreFileNames path.now }
         ensures ok { OnOk result
             (wrote self.old (record { path = path.now; bytes = bytes.now }) self.new) }

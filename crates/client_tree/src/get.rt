@@ -1,26 +1,29 @@
 //! Writing what a cap leads to.
-ghost use Rattle.std.specs.Prelude.{◌≡◌, true, [], All, OnOk, MatchResult};
+ghost use Rattle.std.specs.Prelude.{◌≡◌, true, [], All, OnOk, OnErr, MatchResult};
 ghost use Rattle.std.specs.List.{list_all};
 ghost use Rattle.client_tree.specs.Runs.{Passes, FileRun};
-ghost use Rattle.client_tree.specs.Trees.{IsBoundFile, IsBoundBelow, AreTreesOf, IsTreeOf};
+ghost use Rattle.client_tree.specs.Trees.{IsBoundFile, IsBoundBelow, AreTreesOf, IsFileOf, IsTreeOf};
 ghost use Rattle.client_tree.specs.FileNames.{is_file_name, AreFileNames};
-ghost use Rattle.client_tree.specs.Placed.{IsPlacedFile};
+ghost use Rattle.client_tree.specs.Joined.{ArePiecesAt, AreFirstPiecesAt, IsJoinedFile, IsUnfinishedAt};
+ghost use Rattle.client_tree.specs.Placed.{IsPlacedFile, IsUnfinished};
 
-use crate::fault::TreeFault;
+use crate::fault::{LocalFault, TreeFault};
 use crate::file_name::is_file_name;
 use crate::folder::Folder;
+use crate::parts::parts_size;
 use crate::path::{path_below, text_of};
 use caps::Cap;
 use client_core::laws::children_are_found;
-use client_core::{Exchange, fetch_directory, fetch_file, walk};
+use client_core::{ClientFault, Exchange, fetch_directory, fetch_file, walk};
 use dir_codec::Directory;
 use octets::Text;
 use std::alloc::Global;
 
-/// Writes the file that names lead to from a cap on, under a path in a folder.
+/// Writes the file that names lead to from a cap on, under a path in a folder. A file in parts is written part by part, each
+/// once it was verified.
 ///
-/// Whatever the gateway answers, the bytes that are written are bound to the cap that the names lead to; where the call is
-/// refused nothing is written.
+/// Whatever the gateway answers, the bytes that are written are bound to the cap that the names lead to, and where the call
+/// is refused nothing is written, or of a file in parts the first of these.
 pub fn get_file<E: Exchange, F: Folder>(
     alloc: Global,
     gateway: &mut E,
@@ -31,17 +34,98 @@ pub fn get_file<E: Exchange, F: Folder>(
 ) -> Result<(), TreeFault>
     requires { AreFileNames path.now }
     ensures { MatchResult result
-        (λ done. IsPlacedFile F.wrote cap.now names.now path.now folder.old folder.new)
-        (λ fault. FileRun F.wrote F.kept folder.old [] folder.new) }
+        (λ done. Passes F.wrote F.kept (IsPlacedFile cap.now names.now path.now)
+        folder.old folder.new)
+        (λ fault. Passes F.wrote F.kept (IsUnfinished cap.now names.now path.now)
+        folder.old folder.new) }
 {
     let end = walk(alloc, gateway, cap, names)?;
-    let bytes = fetch_file(alloc, gateway, &end)?;
+    match end {
+        Cap::DirChk(_) | Cap::DirLit(_) => get_parts(alloc, gateway, folder, &end, path),
+        _ => get_whole(alloc, gateway, folder, &end, path),
+    }
+}
+
+/// Writes the file that a cap is of.
+fn get_whole<E: Exchange, F: Folder>(
+    alloc: Global,
+    gateway: &mut E,
+    folder: &mut F,
+    cap: &Cap,
+    path: &[Text],
+) -> Result<(), TreeFault>
+    requires { AreFileNames path.now }
+    ensures { MatchResult result
+        (λ done. Passes F.wrote F.kept (IsFileOf cap.now path.now) folder.old folder.new)
+        (λ fault. FileRun F.wrote F.kept folder.old [] folder.new) }
+{
+    let bytes = fetch_file(alloc, gateway, cap)?;
     folder.write_file(path, &bytes)?;
     Ok(())
 }
 
-/// Writes what a cap leads to into a folder: a file under no name, or folders and files under theirs. There are at most
-/// `most` of these, in folders that stand at most `depth` deep.
+/// Writes the file whose parts a directory has. `NotFile` where it has other children.
+fn get_parts<E: Exchange, F: Folder>(
+    alloc: Global,
+    gateway: &mut E,
+    folder: &mut F,
+    cap: &Cap,
+    path: &[Text],
+) -> Result<(), TreeFault>
+    requires { AreFileNames path.now }
+    ensures { MatchResult result
+        (λ done. Passes F.wrote F.kept (IsJoinedFile cap.now path.now) folder.old folder.new)
+        (λ fault. Passes F.wrote F.kept (IsUnfinishedAt cap.now path.now) folder.old folder.new) }
+{
+    let directory = fetch_directory(alloc, gateway, cap)?;
+    let Some(_) = parts_size(alloc, &directory)? else {
+        return Err(TreeFault::Client(ClientFault::NotFile));
+    };
+    get_pieces(alloc, gateway, folder, &directory, path)
+}
+
+/// Writes the files of a directory's children at the end of one file, in their order.
+fn get_pieces<E: Exchange, F: Folder>(
+    alloc: Global,
+    gateway: &mut E,
+    folder: &mut F,
+    directory: &Directory,
+    path: &[Text],
+) -> Result<(), TreeFault>
+    requires { AreFileNames path.now }
+    ensures { MatchResult result
+        (λ done. Passes F.wrote F.kept (ArePiecesAt path.now directory.now) folder.old folder.new)
+        (λ fault. Passes F.wrote F.kept (AreFirstPiecesAt path.now directory.now)
+        folder.old folder.new) }
+{
+    for (place, entry) in directory.entries().iter().enumerate() {
+        let bytes = fetch_file(alloc, gateway, &entry.cap)?;
+        put_piece(folder, path, &bytes, place == 0)?;
+    }
+    Ok(())
+}
+
+/// Puts bytes at the end of a file, which is a new one if these are its first.
+fn put_piece<F: Folder>(
+    folder: &mut F,
+    path: &[Text],
+    bytes: &[u8],
+    is_first: bool,
+) -> Result<(), LocalFault>
+    requires { AreFileNames path.now }
+    ensures ok { OnOk result
+        (F.wrote folder.old (record { path = path.now; bytes = bytes.now }) folder.new) }
+    ensures err { OnErr result (F.kept folder.old folder.new) }
+{
+    if is_first {
+        folder.write_file(path, bytes)
+    } else {
+        folder.append_file(path, bytes)
+    }
+}
+
+/// Writes what a cap leads to into a folder: a file under no name, or folders and files under theirs, those in parts piece
+/// after piece. There are at most `most` of these, in folders that stand at most `depth` deep.
 ///
 /// Whatever the gateway answers, all files of the directories that the cap leads to are written then, each with the bytes
 /// that are bound to the cap that the names of its path lead to; where the call is refused, some of them.
@@ -89,9 +173,14 @@ fn get_node<E: Exchange, F: Folder>(
                 return Err(TreeFault::TooDeep);
             }
             let directory = fetch_directory(alloc, gateway, cap)?;
-            test_names(alloc, &directory)?;
-            folder.make_folder(path)?;
-            get_children(alloc, gateway, folder, &directory, path, depth - 1, left)
+            match parts_size(alloc, &directory)? {
+                Some(_) => get_pieces(alloc, gateway, folder, &directory, path),
+                None => {
+                    test_names(alloc, &directory)?;
+                    folder.make_folder(path)?;
+                    get_children(alloc, gateway, folder, &directory, path, depth - 1, left)
+                }
+            }
         }
         _ => {
             let bytes = fetch_file(alloc, gateway, cap)?;

@@ -11,10 +11,14 @@ mod folder;
 mod source;
 /// Why a tree isn't written or stored whole.
 mod fault;
+/// Files that are too long for one upload: directories of their parts.
+mod parts;
 /// Writing what a cap leads to.
 mod get;
 /// Directories that are made of what stands under names.
 mod children;
+/// Files that are stored while they are read, piece after piece.
+mod pieces;
 /// Storing a folder.
 mod put;
 /// What holds of the definitions.
@@ -25,5 +29,7 @@ pub use fault::{LocalFault, TreeFault};
 pub use file_name::is_file_name;
 pub use folder::Folder;
 pub use get::{get_file, get_tree};
+pub use parts::{PART_BYTES, parts_size, size_of_file};
+pub use pieces::put_whole;
 pub use put::put_tree;
 pub use source::{Item, Source};

@@ -1,22 +1,23 @@
 //! Storing a folder.
-ghost use Rattle.std.specs.Prelude.{[], All, IfOk};
-ghost use Rattle.client_tree.specs.Runs.{Passes};
-ghost use Rattle.client_tree.specs.Stored.{IsStoredFile, IsStoredBelow};
+ghost use Rattle.std.specs.Prelude.{[], IfOk};
+ghost use Rattle.client_tree.specs.Runs.{Passes, AreGroups};
+ghost use Rattle.client_tree.specs.Stored.{IsStoredFile};
 
 use crate::children::{Child, child_of, directory_of};
 use crate::fault::TreeFault;
 use crate::path::path_below;
+use crate::pieces::put_whole;
 use crate::source::Source;
 use caps::Cap;
-use client_core::{Exchange, put_file};
+use client_core::Exchange;
 use octets::Text;
 use std::alloc::Global;
 
 /// Stores all that stands in a folder, what stands below first, and gives the cap. There are at most `most` files and
 /// folders, in folders that stand at most `depth` deep.
 ///
-/// Whatever the gateway answers, for each file that was read under a path the names of the path, in NFC, lead from the cap
-/// to one that binds the bytes which were read.
+/// Whatever the gateway answers, for each file that was read under a path, whole or piece after piece, the names of the path,
+/// in NFC, lead from the cap to one that is of all bytes which were read.
 pub fn put_tree<E: Exchange, S: Source>(
     alloc: Global,
     gateway: &mut E,
@@ -25,7 +26,7 @@ pub fn put_tree<E: Exchange, S: Source>(
     most: u64,
 ) -> Result<Cap, TreeFault>
     ensures { IfOk result (λ cap.
-        Passes S.gave S.kept (All (IsStoredFile cap [])) source.old source.new) }
+        Passes S.gave S.kept (AreGroups (IsStoredFile cap [])) source.old source.new) }
 {
     let path = Vec::new(alloc);
     let mut left = most;
@@ -44,7 +45,7 @@ fn put_node<E: Exchange, S: Source>(
     left: &mut u64,
 ) -> Result<Cap, TreeFault>
     ensures { IfOk result (λ cap.
-        Passes S.gave S.kept (All (IsStoredFile cap path.now)) source.old source.new) }
+        Passes S.gave S.kept (AreGroups (IsStoredFile cap path.now)) source.old source.new) }
 {
     if *left == 0 {
         return Err(TreeFault::TooMany);
@@ -56,9 +57,7 @@ fn put_node<E: Exchange, S: Source>(
         }
         return put_folder(alloc, gateway, source, path, depth - 1, left);
     }
-    let bytes = source.read_file(path)?;
-    let (cap, _) = put_file(alloc, gateway, bytes)?;
-    Ok(cap)
+    put_whole(alloc, gateway, source, path)
 }
 
 /// Stores the folder under a path.
@@ -72,7 +71,7 @@ fn put_folder<E: Exchange, S: Source>(
     left: &mut u64,
 ) -> Result<Cap, TreeFault>
     ensures { IfOk result (λ cap.
-        Passes S.gave S.kept (All (IsStoredFile cap path.now)) source.old source.new) }
+        Passes S.gave S.kept (AreGroups (IsStoredFile cap path.now)) source.old source.new) }
 {
     let items = source.items(path)?;
     let mut children = Vec::with_capacity(alloc, items.len())?;

@@ -269,8 +269,11 @@ impl Control<MemStore> for Stops {
     }
 }
 
-/// A request that asks to stop, and what it is answered.
-const STOP: &[u8] = b"POST /stop HTTP/1.1\r\nHost: g\r\n\r\n";
+/// A request that asks to stop, and what it is answered. It has no Host field, as HTTP/1.0 allows.
+const STOP: &[u8] = b"POST /stop HTTP/1.0\r\n\r\n";
+
+/// The same of the gateway, which has no such resource.
+const STOP_OF_THE_GATEWAY: &[u8] = b"POST /stop HTTP/1.1\r\nHost: g\r\n\r\n";
 
 const STOPPED: &[u8] =
     b"HTTP/1.1 200 OK\r\nContent-Type: text/plain; charset=utf-8\r\nContent-Length: 5\r\nConnection: close\r\n\r\n/stop";
@@ -291,7 +294,7 @@ fn is_stopped<R: Net<Stream = TcpStream> + Clock + CpuClock + AllocGlobal + Log>
     let address = listener.local_addr()?;
     let control = listen(rt)?;
     let mut caller = client(rt, control.local_addr()?, STOP, true)?;
-    let mut asked = client(rt, address, STOP, false)?;
+    let mut asked = client(rt, address, STOP_OF_THE_GATEWAY, false)?;
     let silent = client(rt, address, b"", false)?;
     let is_counted = are_stopped(rt, listener, control, many)?;
     drop(silent);
@@ -316,7 +319,7 @@ fn are_stopped<R: Net<Stream = TcpStream> + Clock + CpuClock + AllocGlobal + Log
 }
 
 /// A request for a head alone, and what it is answered.
-const HEAD: &[u8] = b"HEAD /stop HTTP/1.1\r\nHost: g\r\n\r\n";
+const HEAD: &[u8] = b"HEAD /stop HTTP/1.0\r\n\r\n";
 
 const HEAD_ALONE: &[u8] =
     b"HTTP/1.1 200 OK\r\nContent-Type: text/plain; charset=utf-8\r\nContent-Length: 5\r\nConnection: close\r\n\r\n";

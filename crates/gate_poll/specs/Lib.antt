@@ -1,5 +1,6 @@
--- Read Table first: what the loop does to the gateway; then Peers.
+-- Read Table first: what the loop does to the gateway; then Peers. Foreign is of the control listener.
 pub mod Late
 pub mod Journal
 pub mod Peers
 pub mod Table
+pub mod Foreign

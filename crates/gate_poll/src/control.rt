@@ -1,5 +1,10 @@
 //! The connections of a control listener.
+ghost use Rattle.std.specs.Prelude.{◌≡◌, false, IfOk, IfSome};
+ghost use Rattle.http_edge.specs.Judge.{is_head_request};
+ghost use Rattle.gate_poll.specs.Foreign.{foreign_in, refusal};
+
 use crate::counts::Counts;
+use crate::foreign::{Here, foreign_by, refusal};
 use gate_core::Gateway;
 use http_edge::{Conn, Head, Item, Reply, ReplyField, ReplyFields, Status, continue_text, render};
 use mio::net::TcpStream;
@@ -33,7 +38,7 @@ pub struct Answer {
     pub stops: bool,
 }
 
-/// What answers the requests of a control listener.
+/// What answers the requests of a control listener. Those that come from elsewhere are refused before.
 pub trait Control<S: Store> {
     /// Answers a request. Its connection is closed after that.
     fn answer(
@@ -102,6 +107,8 @@ enum Goes {
 struct Caller {
     alloc: Global,
     stream: TcpStream,
+    /// The address that it came to.
+    here: Here,
     conn: Conn,
     phase: Phase,
     /// How many bytes it sent.
@@ -110,6 +117,13 @@ struct Caller {
     said: Vec<u8>,
     written: usize,
     opened: Instant,
+}
+
+/// What a request is told, and whether serving is to stop.
+#[derive(Drop)]
+struct Told {
+    bytes: Vec<u8>,
+    stops: bool,
 }
 
 /// The control connections by their ids, and those that are ready.
@@ -124,6 +138,23 @@ pub struct Desk {
 }
 
 impl Caller {
+    /// One that was just accepted. `None` where the system doesn't say to which address it came, or memory is refused.
+    fn new(alloc: Global, stream: TcpStream, now: Instant) -> Option<Caller> {
+        let address = stream.local_addr().ok()?;
+        let here = Here::of(alloc, address.ip().to_canonical(), address.port()).ok()?;
+        Some(Caller {
+            alloc,
+            stream,
+            here,
+            conn: Conn::new(alloc),
+            phase: Phase::Asks,
+            taken: 0,
+            said: Vec::new(alloc),
+            written: 0,
+            opened: now,
+        })
+    }
+
     /// Goes on as far as its socket lets it.
     fn turn<S: Store, C: Control<S>>(
         &mut self,
@@ -184,14 +215,15 @@ impl Caller {
         for item in self.conn.feed(piece)? {
             match item {
                 Item::Request { head, .. } => {
-                    let answer = control.answer(self.alloc, &head, counts, gateway)?;
-                    self.say(&answer.reply, head.is_head_request())?;
-                    return Ok(answer.stops);
+                    let told = answer_to(self.alloc, &self.here, &head, control, counts, gateway)?;
+                    self.say(&told.bytes)?;
+                    return Ok(told.stops);
                 }
                 Item::Continue => self.said.extend_from_slice(continue_text())?,
                 Item::Fault { head_only, .. } => {
                     let reply = text_reply(self.alloc, Status::BadRequest, b"bad request\n")?;
-                    self.say(&reply, head_only)?;
+                    let bytes = render(self.alloc, &reply, head_only, true)?;
+                    self.say(&bytes)?;
                     return Ok(false);
                 }
             }
@@ -199,10 +231,9 @@ impl Caller {
         Ok(false)
     }
 
-    /// Says a reply, and nothing after it. One to a HEAD request has no body (RFC 9110, section 9.3.2).
-    fn say(&mut self, reply: &Reply, head_only: bool) -> Result<(), AllocError> {
-        let bytes = render(self.alloc, reply, head_only, true)?;
-        self.said.extend_from_slice(&bytes)?;
+    /// Says a reply, and nothing after it.
+    fn say(&mut self, reply: &[u8]) -> Result<(), AllocError> {
+        self.said.extend_from_slice(reply)?;
         self.phase = Phase::Told;
         Ok(())
     }
@@ -237,6 +268,34 @@ impl Caller {
     }
 }
 
+/// What a request is told that came to this address. One that comes from elsewhere is refused, whatever it asks, and
+/// `control` is not asked. A reply to HEAD has no body (RFC 9110, section 9.3.2).
+fn answer_to<S: Store, C: Control<S>>(
+    alloc: Global,
+    here: &Here,
+    head: &Head,
+    control: &mut C,
+    counts: &Counts,
+    gateway: &Gateway<S>,
+) -> Result<Told, AllocError>
+    ensures foreign { IfSome (foreign_in here.now.address here.now.localhost head.now.fields)
+        (λ why. (control.new ≡ control.old) × IfOk result (λ told. (told.stops ≡ false)
+        × (told.bytes.items ≡ refusal why (is_head_request head.now)))) }
+{
+    let head_only = head.is_head_request();
+    if let Some(why) = foreign_by(here, head.fields.as_slice()) {
+        return Ok(Told {
+            bytes: refusal(alloc, why, head_only)?,
+            stops: false,
+        });
+    }
+    let answer = control.answer(alloc, head, counts, gateway)?;
+    Ok(Told {
+        bytes: render(alloc, &answer.reply, head_only, true)?,
+        stops: answer.stops,
+    })
+}
+
 /// What an error of a socket means.
 fn after(error: &Error) -> Goes {
     match error.kind() {
@@ -261,19 +320,12 @@ impl Desk {
     /// Takes a socket in, under an id that is above those of the others. Where as many are open as may be, the one that
     /// was opened first makes room: so one that sends no request keeps no other out. Without memory it is dropped.
     pub fn take_in(&mut self, id: u64, stream: TcpStream, now: Instant) {
+        let Some(caller) = Caller::new(self.alloc, stream, now) else {
+            return;
+        };
         if self.callers.len() >= MOST {
             drop(self.callers.pop_first());
         }
-        let caller = Caller {
-            alloc: self.alloc,
-            stream,
-            conn: Conn::new(self.alloc),
-            phase: Phase::Asks,
-            taken: 0,
-            said: Vec::new(self.alloc),
-            written: 0,
-            opened: now,
-        };
         if self.callers.insert(id, caller).is_ok() {
             self.is_ready(id);
         }

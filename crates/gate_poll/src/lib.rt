@@ -24,6 +24,8 @@ mod tools;
 mod peer;
 /// The connections by their ids.
 mod table;
+/// Control requests that come from elsewhere.
+mod foreign;
 /// The connections of a control listener.
 mod control;
 /// Telling of stores that fail, and of those that no longer do.

@@ -1,5 +1,7 @@
 //! What is allowed to connections.
-ghost use Rattle.std.specs.Prelude.{◌≡◌, ◌<◌, ◌↔◌, IsTrue, None};
+ghost use Rattle.std.specs.Prelude.{◌≡◌, ◌+◌, ◌<◌, ◌↔◌, IsTrue, None};
+ghost use Rattle.http_edge.specs.Frame.{most_head_bytes};
+ghost use Rattle.http_edge.specs.Judge.{most_body_bytes};
 
 use std::time::Duration;
 
@@ -26,10 +28,11 @@ pub struct Limits {
 
 impl Limits {
     /// So many connections, each of which may be silent for so long; else 10 seconds for a head, 1,024 bytes a second,
-    /// 2 seconds and 8 MiB after the last reply, and 10 seconds after a stop.
+    /// 2 seconds after the last reply and as many bytes as the longest body and head have, and 10 seconds after a stop.
     pub fn new(most: usize, idle: Duration) -> Limits
         ensures most { result.most ≡ most }
         ensures idle { result.idle ≡ idle }
+        ensures rest { result.rest ≡ most_body_bytes + most_head_bytes }
         ensures served { result.served ≡ None }
     {
         Limits {
@@ -38,7 +41,7 @@ impl Limits {
             grace: Duration::from_secs(10),
             rate: 1024,
             linger: Duration::from_secs(2),
-            rest: 8_388_608,
+            rest: 16_793_600,
             stopping: Duration::from_secs(10),
             served: None,
         }

@@ -1,6 +1,6 @@
 //! How long a peer may take.
 ghost use Rattle.std.specs.Prelude.{◌↔◌, IsTrue};
-ghost use Rattle.gate_poll.specs.Late.{IsLate};
+ghost use Rattle.gate_poll.specs.Late.{IsLate, IsPast};
 
 use crate::limits::Limits;
 use std::time::{Duration, Instant};
@@ -98,7 +98,9 @@ impl Pace {
     }
 
     /// Whether so long has passed since it last turned.
-    pub fn is_over(&self, now: Instant, time: Duration) -> bool {
-        now.duration_since(self.began) > time
+    pub fn is_over(&self, now: Instant, time: Duration) -> bool
+        ensures { IsTrue result ↔ IsPast self.now now time }
+    {
+        time.as_nanos() < now.duration_since(self.began).as_nanos()
     }
 }

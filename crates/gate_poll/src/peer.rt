@@ -1,5 +1,5 @@
 //! One connection with its socket.
-ghost use Rattle.std.specs.Prelude.{◌≡◌, ◌≢◌, Some, None, false, true};
+ghost use Rattle.std.specs.Prelude.{◌≡◌, ◌≢◌, ◌<◌, Some, None, false, true};
 ghost use Rattle.gate_flow.specs.declared.want.Want.TheVariants as want;
 ghost use Rattle.gate_turns.specs.declared.seat.Side.TheVariants as side;
 
@@ -135,6 +135,7 @@ impl Stepped {
 }
 
 impl Peer {
+    ghost use Rattle.gate_poll.specs.Late.{IsPast};
     ghost use Rattle.gate_poll.specs.Peers.{owes, EndsFor, IsGoing, IsStepped};
 
     /// A socket that was just accepted.
@@ -404,14 +405,13 @@ impl Peer {
         ensures flow { self.new.flow ≡ self.old.flow }
         ensures lingers { self.new.lingers ≡ self.old.lingers }
         ensures reads { result ≢ End.Blocked side.Write }
+        ensures late { IsPast self.old.pace now tools.old.limits.linger → result ≡ End.Over }
+        ensures enough { tools.old.limits.rest < self.old.dropped → result ≡ End.Over }
     {
-        if self.pace.is_over(now, tools.limits.linger) {
+        if self.pace.is_over(now, tools.limits.linger) || self.dropped > tools.limits.rest {
             return End::Over;
         }
         'reads: for _ in 0..CALLS {
-            if self.dropped > tools.limits.rest {
-                return End::Over;
-            }
             match (&self.stream).read(&mut tools.scratch) {
                 Ok(0) => return End::Over,
                 Ok(count) => {

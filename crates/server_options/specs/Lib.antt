@@ -1,2 +1,4 @@
--- One file.
+-- Independent of each other.
 pub mod Given
+pub mod Folders
+pub mod Size

@@ -41,7 +41,7 @@ fn with_stores<'a>(alloc: Global, command: Command<'a>) -> Result<Command<'a>, A
             alloc,
             "store",
             "STORE",
-            "a store: dir:PATH or dir:PATH:BYTES keeps its shares in a folder too, dir:PATH:BYTES,disk there alone, redis:HOST:PORT[/NAME][:BYTES] on a Redis server, mem:BYTES in memory; one for each server, in their order",
+            "a store: dir:PATH or dir:PATH:BYTES keeps its shares in a folder too, dir:PATH:BYTES,disk there alone, redis:HOST:PORT[/NAME][:BYTES] on a Redis server, mem:BYTES in memory; one for each server, in their order. BYTES are as in --room",
         )
         .action(ArgAction::Append))?
         .arg(
@@ -55,16 +55,20 @@ fn with_stores<'a>(alloc: Global, command: Command<'a>) -> Result<Command<'a>, A
             .default_value("5")
             .conflicts_with("store")?,
         )?
-        .arg(
-            option(
-                alloc,
-                "room",
-                "BYTES",
-                "how many bytes each store takes that doesn't say it",
-            )
-            .value_parser(ValueParser::unsigned(0, u64::MAX))
-            .default_value("1073741824"),
-        )?
+        .arg(option(
+            alloc,
+            "room",
+            "BYTES",
+            "how many bytes each store takes that doesn't say it: digits, and K, M, G or T behind them for powers of 1,024",
+        )
+        .default_value("1G"))?
+        .arg(option(
+            alloc,
+            "new",
+            "PATH",
+            "the folder of a store that may be begun beside others of its grid; once for each such folder",
+        )
+        .action(ArgAction::Append))?
         .arg(no_sync(alloc))?
         .arg(secret_file(alloc))?
         .arg(redis_password_file(alloc))

@@ -5,10 +5,13 @@
 
 /// The program's command line.
 mod arguments;
+/// Sizes in bytes.
+mod sizes;
 /// Stores and their names.
 mod store_names;
 /// What the program is asked for.
 mod options;
 
 pub use options::{Options, Refusal, Restoring, Shares, Task, read_words};
+pub use sizes::read_size;
 pub use store_names::{RedisPlace, StoreWanted, read_store};

@@ -1,10 +1,13 @@
 //! What the program is asked for.
-ghost use Rattle.std.specs.Prelude.{◌≡◌, ◌≢◌, ℕ, [], List, None, IfOk, IfSome, codes, length, map, not, option_map, replicate, unwrap_or};
+ghost use Rattle.std.specs.Prelude.{◌≡◌, ◌≢◌, ℕ, [], List, None, Some, All, IfOk, IfSome, Err, IsTrue, IsFalse, codes, length, map, not, option_map, replicate, unwrap_or};
 ghost use Rattle.octets.specs.Sharing.{IsSharing};
 ghost use Rattle.server_options.specs.Given.{given_text, given_texts, IsFlagGiven, IsNumberGiven};
+ghost use Rattle.server_options.specs.Folders.{folder_of, IsStoreFolder};
+ghost use Rattle.server_options.specs.Size.{written_size};
 ghost use Rattle.server_options.specs.declared.store_names.StoreWanted.TheVariants.{Memory};
 
 use crate::arguments::program;
+use crate::sizes::read_size;
 use crate::store_names::{StoreWanted, read_store};
 use clap::{ArgMatches, Error};
 use octets::is_sharing;
@@ -38,6 +41,8 @@ pub struct Options<'a> {
     pub shares: Shares,
     /// The stores, in the order of the servers.
     pub stores: Vec<StoreWanted<'a>>,
+    /// The folders of stores that may be begun beside others of their grid.
+    pub new: Vec<&'a str>,
     /// Whether changes in folders are synced.
     pub synced: bool,
     /// The file whose bytes are the gateway's secret.
@@ -91,6 +96,10 @@ pub enum Refusal {
     Shares,
     /// `--store` names no store, the same names on a Redis server twice, or stands too often.
     Stores,
+    /// `--room` is no size.
+    Room,
+    /// `--new` is the folder of no store.
+    New,
 }
 
 impl From<Error> for Refusal {
@@ -132,6 +141,10 @@ fn read_options<'a>(alloc: Global, given: &ArgMatches<'a>) -> Result<Options<'a>
     ensures shares { IfOk result (λ o. IsSharing o.shares.needed o.shares.made) }
     ensures listen { IfOk result (λ o.
         o.listen.now ≡ unwrap_or (given_text given.now (codes "listen")) []) }
+    ensures new { IfOk result (λ o. map (λ path. path.now) o.new.items
+        ≡ unwrap_or (given_texts given.now (codes "new")) []) }
+    ensures new_is_a_store { IfOk result (λ o.
+        All (λ path. IsStoreFolder o.stores.items path.now) o.new.items) }
     ensures control { IfOk result (λ o. option_map (λ s. s.now) o.control
         ≡ given_text given.now (codes "control")) }
     ensures synced { IfOk result (λ o.
@@ -149,12 +162,17 @@ fn read_options<'a>(alloc: Global, given: &ArgMatches<'a>) -> Result<Options<'a>
         return Err(Refusal::Shares);
     };
     let stores = read_stores(alloc, given)?;
+    let new = texts_of(alloc, given, "new")?;
+    if !are_folders_of(&stores, &new) {
+        return Err(Refusal::New);
+    }
     let secret_file = given.get_str("secret-file");
     Ok(Options {
         listen: text_of(given, "listen"),
         control: given.get_str("control"),
         shares,
         stores,
+        new,
         synced: !has_flag(given, "no-sync"),
         secret_file,
         redis_password_file: given.get_str("redis-password-file"),
@@ -242,10 +260,14 @@ fn read_stores<'a>(alloc: Global, given: &ArgMatches<'a>) -> Result<Vec<StoreWan
     ensures in_memory { unwrap_or (given_texts given.now (codes "store")) [] ≡ [] →
         IfOk result (λ stores. (servers room : ℕ)
         × (IsNumberGiven ⟦<u16 as FromStr>⟧.from_str_gives given.now (codes "servers") 5 servers
-        × (IsNumberGiven ⟦<u64 as FromStr>⟧.from_str_gives given.now (codes "room") 0 room
+        × ((written_size (unwrap_or (given_text given.now (codes "room")) []) ≡ Some room)
         × (stores.items ≡ replicate servers (Memory room))))) }
+    ensures room { written_size (unwrap_or (given_text given.now (codes "room")) []) ≡ None →
+        result ≡ Err Refusal.Room }
 {
-    let room = room_of(given);
+    let Some(room) = read_size(text_of(given, "room")) else {
+        return Err(Refusal::Room);
+    };
     let stores = read_named(alloc, given, room)?;
     if stores.len() > MOST_STORES || !are_apart(&stores) {
         return Err(Refusal::Stores);
@@ -255,13 +277,6 @@ fn read_stores<'a>(alloc: Global, given: &ArgMatches<'a>) -> Result<Vec<StoreWan
         return Ok(vec![in alloc; StoreWanted::Memory(room); usize::from(servers)]?);
     }
     Ok(stores)
-}
-
-/// How many bytes each store takes that doesn't say it.
-fn room_of(given: &ArgMatches<'_>) -> u64
-    ensures { IsNumberGiven ⟦<u64 as FromStr>⟧.from_str_gives given.now (codes "room") 0 result }
-{
-    given.get_one::<u64>("room").unwrap_or(0)
 }
 
 /// How many stores there are in memory, where none is named.
@@ -290,6 +305,31 @@ fn read_named<'a>(
         stores.push(store)?;
     }
     Ok(stores)
+}
+
+/// Whether each of these paths is that of a store's folder.
+fn are_folders_of(stores: &[StoreWanted<'_>], paths: &[&str]) -> bool
+    ensures { IsTrue result → All (λ path. IsStoreFolder stores.now path.now) paths.now }
+{
+    for path in paths {
+        if !is_folder_of(stores, *path) {
+            return false;
+        }
+    }
+    true
+}
+
+/// Whether a path is that of a store's folder.
+fn is_folder_of(stores: &[StoreWanted<'_>], path: &str) -> bool
+    ensures yes { IsTrue result → IsStoreFolder stores.now path.now }
+    ensures no { IsFalse result → All (λ store. folder_of store ≢ Some path.now) stores.now }
+{
+    for store in stores {
+        if store.is_in(path) {
+            return true;
+        }
+    }
+    false
 }
 
 /// Whether no two stores are to have the same names on a Redis server.

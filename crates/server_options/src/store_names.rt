@@ -1,4 +1,8 @@
 //! Stores and their names.
+ghost use Rattle.std.specs.Prelude.{◌≡◌, ◌↔◌, IsTrue, Some, option_map};
+ghost use Rattle.server_options.specs.Folders.{folder_of};
+
+use crate::sizes::read_size;
 
 /// A store that is wanted, with the bytes for which it has room.
 #[derive(Clone, Copy, Debug, PartialEq, Eq)]
@@ -24,11 +28,24 @@ pub struct RedisPlace<'a> {
 
 impl<'a> StoreWanted<'a> {
     /// The folder in which it keeps its shares, if there is one.
-    pub fn folder(&self) -> Option<&'a str> {
+    pub fn folder(&self) -> Option<&'a str>
+        ensures { option_map (λ folder. folder.now) result ≡ folder_of self.now }
+    {
         match self {
+            StoreWanted::Memory(_) => None,
             StoreWanted::Folder(folder, _) => Some(*folder),
             StoreWanted::Disk(folder, _) => Some(*folder),
-            _ => None,
+            StoreWanted::Redis(_, _) => None,
+        }
+    }
+
+    /// Whether it keeps its shares in the folder of this path.
+    pub fn is_in(&self, path: &str) -> bool
+        ensures { IsTrue result ↔ (folder_of self.now ≡ Some path.now) }
+    {
+        match self.folder() {
+            Some(folder) => folder == path,
+            None => false,
         }
     }
 
@@ -51,7 +68,7 @@ impl<'a> StoreWanted<'a> {
 
 /// A store by its name: `mem:BYTES`, `dir:PATH`, `dir:PATH:BYTES`, `dir:PATH:BYTES,disk` or
 /// `redis:HOST:PORT[/NAME][:BYTES]`. A path with a colon in it, or with `,disk` at its end, wants the bytes behind it. A
-/// host with a colon in it stands in brackets, and a NAME has no colon.
+/// host with a colon in it stands in brackets, and a NAME has no colon. BYTES are what [`read_size`] reads.
 pub fn read_store(name: &str, room: u64) -> Option<StoreWanted<'_>> {
     if let Some(bytes) = name.strip_prefix("mem:") {
         return read_memory(bytes);
@@ -67,9 +84,9 @@ pub fn read_store(name: &str, room: u64) -> Option<StoreWanted<'_>> {
 
 /// A store in memory, by its bytes.
 fn read_memory<'a>(bytes: &str) -> Option<StoreWanted<'a>> {
-    match bytes.parse::<u64>() {
-        Ok(room) => Some(StoreWanted::Memory(room)),
-        Err(_) => None,
+    match read_size(bytes) {
+        Some(room) => Some(StoreWanted::Memory(room)),
+        None => None,
     }
 }
 
@@ -162,8 +179,8 @@ fn read_sized(text: &str) -> Option<(&str, u64)> {
     if path.is_empty() {
         return None;
     }
-    match bytes.parse::<u64>() {
-        Ok(bytes) => Some((path, bytes)),
-        Err(_) => None,
+    match read_size(bytes) {
+        Some(bytes) => Some((path, bytes)),
+        None => None,
     }
 }

@@ -3,7 +3,7 @@ use Rattle.std.specs.Prelude.{ℕ}
 use Rattle.folder_shelf.specs.declared.fault.FolderFault.{FolderFault}
 use Rattle.folder_shelf.specs.declared.fault.FolderFault.TheVariants as folder
 use Rattle.server_stores.specs.declared.fault.ProgramFault.{ProgramFault}
-use Rattle.server_stores.specs.declared.fault.ProgramFault.TheVariants.{PollFailed, Arguments, Shares, Stores, NoAddress, AddressInUse, NotAllowed, NotBound, SecretUnread, SecretTooLong, FewHandles, NoMemory, NotPrinted, NotThere, Folder, DiskFull, NoRoom, NotEmpty, OtherCount, ImageUnread, BadImage, ImageUnwritten, NotWell, RedisUnknown, Redis, RedisUnread, PasswordUnread}
+use Rattle.server_stores.specs.declared.fault.ProgramFault.TheVariants.{PollFailed, Arguments, Shares, Stores, Room, New, NoAddress, AddressInUse, NotAllowed, NotBound, SecretUnread, SecretTooLong, FewHandles, NoMemory, NotPrinted, NotThere, NoneAbove, Empty, Folder, OtherGrid, Twice, NewFolder, DiskFull, NoRoom, NotEmpty, OtherCount, ImageUnread, BadImage, ImageUnwritten, NotWell, RedisUnknown, Redis, RedisUnread, PasswordUnread}
 
 -- the status where a folder was refused; 20 is between them, that of a full disk
 abbrev pub folder_status : FolderFault → ℕ
@@ -24,6 +24,8 @@ status_of PollFailed = 1
 status_of Arguments = 2
 status_of Shares = 2
 status_of Stores = 2
+status_of Room = 2
+status_of New = 2
 status_of (NoAddress place) = 3
 status_of (AddressInUse place) = 4
 status_of (NotAllowed place) = 5
@@ -34,7 +36,12 @@ status_of (FewHandles allowed needed) = 9
 status_of NoMemory = 10
 status_of NotPrinted = 11
 status_of NotThere = 12
+status_of NoneAbove = 12
+status_of Empty = 16
 status_of (Folder fault) = folder_status fault
+status_of (OtherGrid difference) = 19
+status_of (Twice place) = 18
+status_of NewFolder = 31
 status_of DiskFull = 20
 status_of NoRoom = 22
 status_of NotEmpty = 23

@@ -1,6 +1,8 @@
 //! Looking through the folders of servers.
+use crate::difference::Difference;
 use crate::fault::ProgramFault;
 use crate::folders::{named, names_in, settings_in};
+use crate::places::{has_place, missing_places};
 use folder_shelf::{FolderFault, LONGEST_FILE, Settings, read_file, read_name, share_in};
 use log::{Log, warn};
 use std::io::ErrorKind;
@@ -23,13 +25,26 @@ struct Contents {
     unfinished: u64,
 }
 
+/// Whose the folders are that were seen.
+#[derive(Debug, Drop)]
+struct Folders {
+    /// The settings of the first one that has any: those of the grid.
+    first: Option<Settings>,
+    /// The places of the grid's servers whose folders were seen.
+    places: Vec<u16>,
+}
+
 /// Looks through folders, tells on standard output what stands in each, and refuses them where a file is rotten or a
-/// stranger's, or where they aren't of one grid. Nothing is written.
+/// stranger's, where they aren't of one grid, or where the folder of one of its servers isn't among them. Nothing is
+/// written.
 pub fn check<R: Files + AllocGlobal + Clone + Drop + Log + Print + Eprint>(
     rt: &R,
     folders: &[&str],
 ) -> Result<(), ProgramFault> {
-    let mut seen = Vec::with_capacity(rt.alloc(), folders.len())?;
+    let mut seen = Folders {
+        first: None,
+        places: Vec::new(rt.alloc()),
+    };
     let mut are_well = true;
     for folder in folders {
         match check_folder(rt, *folder, &mut seen) {
@@ -41,7 +56,7 @@ pub fn check<R: Files + AllocGlobal + Clone + Drop + Log + Print + Eprint>(
             Err(fault) => return Err(fault),
         }
     }
-    if are_well {
+    if seen.tell_missing(rt)? && are_well {
         Ok(())
     } else {
         Err(ProgramFault::NotWell)
@@ -52,7 +67,7 @@ pub fn check<R: Files + AllocGlobal + Clone + Drop + Log + Print + Eprint>(
 fn check_folder<R: Files + AllocGlobal + Clone + Drop + Log + Print + Eprint>(
     rt: &R,
     folder: &str,
-    seen: &mut Vec<Settings>,
+    seen: &mut Folders,
 ) -> Result<bool, ProgramFault> {
     let settings = settings_in(rt, folder)?;
     let contents = look_through(rt, folder)?;
@@ -76,33 +91,45 @@ fn check_folder<R: Files + AllocGlobal + Clone + Drop + Log + Print + Eprint>(
     if told.is_err() {
         return Err(ProgramFault::NotPrinted);
     }
-    let goes_with = go_together(rt, folder, &settings, seen);
-    seen.push(settings)?;
-    Ok(goes_with && rotten == 0 && strangers == 0)
+    seen.add(&settings)?;
+    Ok(rotten == 0 && strangers == 0)
 }
 
-/// Whether a folder is of another server of the grid whose folders were seen. If not, it is told why.
-fn go_together<R: Eprint>(rt: &R, folder: &str, settings: &Settings, seen: &[Settings]) -> bool {
-    for other in seen {
-        let there = Settings {
+impl Folders {
+    /// Adds a folder of these settings. `OtherGrid` where it is another grid's than those before it, `Twice` where it is
+    /// of the same server as one of them.
+    fn add(&mut self, settings: &Settings) -> Result<(), ProgramFault> {
+        let first = self.first.unwrap_or(*settings);
+        self.first = Some(first);
+        let wanted = Settings {
             place: settings.place,
-            ..*other
+            ..first
         };
-        if there != *settings {
-            let _ = named(rt, folder, ProgramFault::Folder(FolderFault::OtherGrid));
-            return false;
+        if wanted != *settings {
+            return Err(ProgramFault::OtherGrid(Difference::between(settings, &wanted)));
         }
-        if *other == *settings {
-            let place = other.place;
-            let _ = named(
-                rt,
-                folder,
-                ProgramFault::Folder(FolderFault::OtherPlace(place)),
-            );
-            return false;
+        if has_place(&self.places, settings.place) {
+            return Err(ProgramFault::Twice(settings.place));
         }
+        self.places.push(settings.place)?;
+        Ok(())
     }
-    true
+
+    /// Tells the places of the grid's servers whose folders weren't seen. Whether there is none.
+    fn tell_missing<R: AllocGlobal + Eprint>(&self, rt: &R) -> Result<bool, ProgramFault> {
+        let Some(first) = self.first else {
+            return Ok(true);
+        };
+        let servers = first.servers;
+        let missing = missing_places(rt.alloc(), servers, &self.places)?;
+        for place in &missing {
+            let place = *place;
+            let _ = eprintln!(rt;
+                "wozhinnam: none of the folders is that of server {place} of {servers}"
+            );
+        }
+        Ok(missing.is_empty())
+    }
 }
 
 /// What stands in a folder. Each file that is rotten, and each stranger's, is logged.

@@ -2,6 +2,7 @@
 ghost use Rattle.std.specs.Prelude.{◌≡◌};
 ghost use Rattle.server_stores.specs.Status.{status_of, folder_status};
 
+use crate::difference::Difference;
 use folder_shelf::FolderFault;
 use redis_shelf::RedisFault;
 use share_shelf::{OpenFault, ShelfFault};
@@ -24,6 +25,12 @@ pub enum ProgramFault {
     /// `--store` names no store, the same names on a Redis server twice, or stands too often.
     #[error("--store wants dir:PATH, dir:PATH:BYTES, dir:PATH:BYTES,disk, redis:HOST:PORT[/NAME][:BYTES], each NAME once, or mem:BYTES, and stands 256 times at most")]
     Stores,
+    /// `--room` is no size.
+    #[error("--room wants BYTES: digits, and K, M, G or T behind them for powers of 1,024")]
+    Room,
+    /// `--new` is the folder of no store.
+    #[error("--new wants the PATH of a --store dir:PATH, written as there")]
+    New,
     /// An address has no such host, or no port.
     #[error("the {0} address is none: HOST:PORT is wanted, and a host that there is")]
     NoAddress(&'static str),
@@ -54,9 +61,24 @@ pub enum ProgramFault {
     /// A folder isn't there.
     #[error("the folder isn't there")]
     NotThere,
+    /// Neither a folder nor the one above it is there.
+    #[error("neither the folder nor the one above it is there")]
+    NoneAbove,
+    /// A folder that is to have settings is empty.
+    #[error("the folder is empty: is its disk mounted?")]
+    Empty,
     /// A folder was refused.
     #[error("{0}")]
     Folder(FolderFault),
+    /// The settings of a folder are another grid's.
+    #[error("{0}")]
+    OtherGrid(Difference),
+    /// A folder is of the server of a folder that was seen before it.
+    #[error("a folder before it belongs to the server at place {0} too")]
+    Twice(u16),
+    /// A store would be begun in a folder beside others that have settings.
+    #[error("the folder is new, and others of its grid aren't: is its disk mounted? Where a new store is meant, say --new PATH")]
+    NewFolder,
     /// The disk of a folder has no room.
     #[error("the disk is full")]
     DiskFull,
@@ -100,7 +122,12 @@ impl ProgramFault {
     pub fn is_of_a_store(&self) -> bool {
         match self {
             ProgramFault::NotThere => true,
+            ProgramFault::NoneAbove => true,
+            ProgramFault::Empty => true,
             ProgramFault::Folder(_) => true,
+            ProgramFault::OtherGrid(_) => true,
+            ProgramFault::Twice(_) => true,
+            ProgramFault::NewFolder => true,
             ProgramFault::DiskFull => true,
             ProgramFault::NoRoom => true,
             ProgramFault::NotEmpty => true,
@@ -126,6 +153,8 @@ impl ProgramFault {
             ProgramFault::Arguments => 2,
             ProgramFault::Shares => 2,
             ProgramFault::Stores => 2,
+            ProgramFault::Room => 2,
+            ProgramFault::New => 2,
             ProgramFault::NoAddress(_) => 3,
             ProgramFault::AddressInUse(_) => 4,
             ProgramFault::NotAllowed(_) => 5,
@@ -136,7 +165,12 @@ impl ProgramFault {
             ProgramFault::NoMemory => 10,
             ProgramFault::NotPrinted => 11,
             ProgramFault::NotThere => 12,
+            ProgramFault::NoneAbove => 12,
+            ProgramFault::Empty => 16,
             ProgramFault::Folder(fault) => status_of_folder(fault),
+            ProgramFault::OtherGrid(_) => 19,
+            ProgramFault::Twice(_) => 18,
+            ProgramFault::NewFolder => 31,
             ProgramFault::DiskFull => 20,
             ProgramFault::NoRoom => 22,
             ProgramFault::NotEmpty => 23,

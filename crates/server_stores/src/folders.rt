@@ -1,9 +1,10 @@
 //! Folders of servers: what stands in them before they are opened, and opening them.
+use crate::difference::judge;
 use crate::fault::ProgramFault;
 use crate::locked_shelf::LockedShelf;
 use folder_shelf::{
-    FileShelf, FolderFault, FolderLock, FolderShelf, SETTINGS_TEXT, Settings, check_settings,
-    read_file, read_settings,
+    FileShelf, FolderFault, FolderLock, FolderShelf, SETTINGS_TEXT, Settings, read_file,
+    read_settings,
 };
 use kept_store::KeptStore;
 use log::{Log, info, warn};
@@ -70,38 +71,64 @@ fn settings_text_in<R: Files + AllocGlobal>(
 }
 
 /// The settings of a folder. Nothing is written.
-pub fn settings_in<R: Files + AllocGlobal>(rt: &R, folder: &str) -> Result<Settings, FolderFault> {
+pub fn settings_in<R: Files + AllocGlobal + Clone + Drop>(
+    rt: &R,
+    folder: &str,
+) -> Result<Settings, ProgramFault> {
     match settings_text_in(rt, folder)? {
         Some(text) => match read_settings(rt.alloc(), &text)? {
             Some(settings) => Ok(settings),
-            None => Err(FolderFault::SettingsRotten),
+            None => Err(ProgramFault::Folder(FolderFault::SettingsRotten)),
         },
-        None => {
-            fs::metadata(rt, folder)?;
-            Err(FolderFault::NoSettings)
-        }
+        None => Err(why_no_settings(rt, folder)),
     }
 }
 
-/// What stands in a folder that is to have these settings. It is refused where it has others, or files and none.
-/// Nothing is written.
+/// Why a folder that has no settings is refused where it is to have some.
+fn why_no_settings<R: Files + AllocGlobal + Clone + Drop>(rt: &R, folder: &str) -> ProgramFault {
+    match what_stands_in(rt, folder) {
+        Ok(Standing::Absent) => ProgramFault::NotThere,
+        Ok(Standing::Empty) => ProgramFault::Empty,
+        Ok(Standing::Filled) => ProgramFault::Folder(FolderFault::NoSettings),
+        Err(fault) => ProgramFault::from(fault),
+    }
+}
+
+/// What stands in a folder that is to have these settings, or is to be made with them. It is refused where it has
+/// others, or files and none, or where neither it nor the folder above it is there. Nothing is written.
 pub fn look<R: Files + AllocGlobal + Clone + Drop>(
     rt: &R,
     folder: &str,
     settings: &Settings,
-) -> Result<Found, FolderFault> {
+) -> Result<Found, ProgramFault> {
     match settings_text_in(rt, folder)? {
-        Some(text) => {
-            check_settings(rt.alloc(), &text, settings)?;
-            Ok(Found::Ours)
-        }
-        None => {
-            if is_new(rt, folder)? {
-                Ok(Found::New)
-            } else {
-                Err(FolderFault::NoSettings)
-            }
-        }
+        Some(text) => match judge(rt.alloc(), &text, settings) {
+            Ok(()) => Ok(Found::Ours),
+            Err(fault) => Err(fault),
+        },
+        None => match what_stands_in(rt, folder)? {
+            Standing::Absent => look_above(rt, folder),
+            Standing::Empty => Ok(Found::New),
+            Standing::Filled => Err(ProgramFault::Folder(FolderFault::NoSettings)),
+        },
+    }
+}
+
+/// A folder that isn't there is new where the one above it is there.
+fn look_above<R: Files + AllocGlobal>(rt: &R, folder: &str) -> Result<Found, ProgramFault> {
+    match fs::metadata(rt, above(folder)) {
+        Ok(_) => Ok(Found::New),
+        Err(error) if error.kind() == ErrorKind::NotFound => Err(ProgramFault::NoneAbove),
+        Err(error) => Err(ProgramFault::from(FolderFault::from(error))),
+    }
+}
+
+/// The folder above a folder.
+fn above(folder: &str) -> &str {
+    match folder.trim_end_matches('/').rsplit_once('/') {
+        Some(("", _)) => "/",
+        Some((above, _)) => above,
+        None => ".",
     }
 }
 
@@ -110,62 +137,72 @@ pub fn look_at_new<R: Files + AllocGlobal + Clone + Drop + Eprint>(
     rt: &R,
     folder: &str,
 ) -> Result<(), ProgramFault> {
-    match is_new(rt, folder) {
-        Ok(true) => Ok(()),
-        Ok(false) => Err(named(rt, folder, ProgramFault::NotEmpty)),
+    match what_stands_in(rt, folder) {
+        Ok(Standing::Filled) => Err(named(rt, folder, ProgramFault::NotEmpty)),
+        Ok(_) => Ok(()),
         Err(fault) => Err(named(rt, folder, ProgramFault::from(fault))),
     }
 }
 
 /// Refuses a folder that hasn't these settings, by its name. Nothing is written.
-pub fn look_at_old<R: Files + AllocGlobal + Eprint>(
+pub fn look_at_old<R: Files + AllocGlobal + Clone + Drop + Eprint>(
     rt: &R,
     folder: &str,
     settings: &Settings,
 ) -> Result<(), ProgramFault> {
     match has_settings(rt, folder, settings) {
         Ok(()) => Ok(()),
-        Err(fault) => Err(named(rt, folder, ProgramFault::from(fault))),
+        Err(fault) => Err(named(rt, folder, fault)),
     }
 }
 
 /// Refuses a folder that hasn't these settings. Nothing is written.
-fn has_settings<R: Files + AllocGlobal>(
+fn has_settings<R: Files + AllocGlobal + Clone + Drop>(
     rt: &R,
     folder: &str,
     settings: &Settings,
-) -> Result<(), FolderFault> {
+) -> Result<(), ProgramFault> {
     match settings_text_in(rt, folder)? {
-        Some(text) => check_settings(rt.alloc(), &text, settings),
-        None => {
-            fs::metadata(rt, folder)?;
-            Err(FolderFault::NoSettings)
-        }
+        Some(text) => judge(rt.alloc(), &text, settings),
+        None => Err(why_no_settings(rt, folder)),
     }
 }
 
-/// Whether a folder isn't there, or has no more in it than a lock and unfinished files.
-fn is_new<R: Files + AllocGlobal + Clone + Drop>(
+/// What stands in a folder without settings.
+#[derive(Clone, Copy, Debug, PartialEq, Eq)]
+enum Standing {
+    /// It isn't there.
+    Absent,
+    /// No more than a lock and unfinished files.
+    Empty,
+    /// Something else.
+    Filled,
+}
+
+/// What stands in a folder that has no settings.
+fn what_stands_in<R: Files + AllocGlobal + Clone + Drop>(
     rt: &R,
     folder: &str,
-) -> Result<bool, FolderFault> {
+) -> Result<Standing, FolderFault> {
     let entries = match fs::read_dir(rt, folder) {
         Ok(entries) => entries,
-        Err(error) if error.kind() == ErrorKind::NotFound => return Ok(true),
+        Err(error) if error.kind() == ErrorKind::NotFound => return Ok(Standing::Absent),
         Err(error) => return Err(FolderFault::from(error)),
     };
     for entry in entries {
         match entry {
             Ok(entry) => {
                 if entry.file_name() != "lock" && entry.file_name() != "new" {
-                    return Ok(false);
+                    return Ok(Standing::Filled);
                 }
             }
-            Err(error) if error.kind() == ErrorKind::InvalidFilename => return Ok(false),
+            Err(error) if error.kind() == ErrorKind::InvalidFilename => {
+                return Ok(Standing::Filled);
+            }
             Err(error) => return Err(FolderFault::from(error)),
         }
     }
-    Ok(true)
+    Ok(Standing::Empty)
 }
 
 /// The names in a folder, and none where it isn't there. One that is no text is left out.

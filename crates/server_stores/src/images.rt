@@ -33,7 +33,7 @@ pub fn write_image<R: Files<File = File> + AllocGlobal + Clone + Drop + Log + Pr
     };
     let first = match settings_in(rt, *folder) {
         Ok(first) => first,
-        Err(fault) => return Err(named(rt, *folder, ProgramFault::from(fault))),
+        Err(fault) => return Err(named(rt, *folder, fault)),
     };
     if usize::from(first.servers) != folders.len() {
         let fault = ProgramFault::OtherCount(folders.len(), first.servers);

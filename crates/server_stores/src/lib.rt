@@ -9,8 +9,14 @@ pub mod handles;
 mod locked_shelf;
 /// A store of one of two kinds.
 pub mod either_store;
+/// In what the settings of a folder are others than those that are wanted.
+pub mod difference;
 /// Folders of servers.
 pub mod folders;
+/// What is seen of the folders of a grid before one is opened.
+pub mod seen;
+/// Places of a grid's servers.
+pub mod places;
 /// Files of a few bytes.
 pub mod small_files;
 /// Bytes as text.

@@ -4,12 +4,11 @@ ghost use Rattle.server_stores.specs.Kinds.{IsOfKind, IsOnRedis};
 
 use crate::either_store::EitherStore;
 use crate::fault::ProgramFault;
-use crate::folders::{
-    DiskStore, FolderStore, Found, Opening, look, named, open_folder, open_on_disk,
-};
+use crate::folders::{DiskStore, FolderStore, Opening, look, named, open_folder, open_on_disk};
 use crate::redis_stores::{RedisOpening, RedisStore, open_on_redis, read_password};
+use crate::seen::{Seen, log_new, refuse_mistakes};
 use folder_shelf::Settings;
-use log::{Log, info};
+use log::Log;
 use server_options::{Options, RedisPlace, StoreWanted};
 use share_store::MemStore;
 use std::fs::File;
@@ -24,14 +23,16 @@ pub type ServerStore<R> = EitherStore<
 >;
 
 /// The stores that are wanted, opened in their order: the settings are those of the grid's first server. Each folder
-/// is looked at before one is opened, so that none is begun where another is refused.
+/// is looked at before one is opened, so that none is begun where another is refused, or by mistake.
 pub fn open_stores<R: Files<File = File> + AllocGlobal + Net + Clock + Clone + Drop + Log + Eprint>(
     rt: &R,
     options: &Options<'_>,
     first: &Settings,
 ) -> Result<Vec<ServerStore<R>>, ProgramFault> {
-    look_at_each(rt, options, first)?;
+    let seen = look_at_each(rt, options, first)?;
+    refuse_mistakes(rt, &seen)?;
     look_for_twins(rt, &options.stores)?;
+    log_new(rt, &seen);
     let password = read_password(rt, options.redis_password_file)?;
     let mut stores = Vec::with_capacity(rt.alloc(), options.stores.len())?;
     for (place, wanted) in (0..first.servers).zip(&options.stores) {
@@ -58,35 +59,23 @@ fn open_behind<R: Files<File = File> + AllocGlobal + Net + Clock + Clone + Drop 
     }
 }
 
-/// Refuses a folder with other settings, or with files and none. Nothing is written.
-fn look_at_each<R: Files + AllocGlobal + Clone + Drop + Log + Eprint>(
+/// What stands in each folder. One with other settings, or with files and none, is refused. Nothing is written.
+fn look_at_each<'a, R: Files + AllocGlobal + Clone + Drop + Eprint>(
     rt: &R,
-    options: &Options<'_>,
+    options: &Options<'a>,
     first: &Settings,
-) -> Result<(), ProgramFault> {
+) -> Result<Vec<Seen<'a>>, ProgramFault> {
+    let mut seen = Vec::with_capacity(rt.alloc(), options.stores.len())?;
     for (place, wanted) in (0..first.servers).zip(&options.stores) {
         let settings = Settings { place, ..*first };
         if let Some(folder) = wanted.folder() {
-            look_at_one(rt, folder, &settings)?;
+            match look(rt, folder, &settings) {
+                Ok(found) => seen.push(Seen::new(folder, found, &options.new))?,
+                Err(fault) => return Err(named(rt, folder, fault)),
+            }
         }
     }
-    Ok(())
-}
-
-/// Refuses a folder with other settings, or with files and none, and logs one that is new. Nothing is written.
-fn look_at_one<R: Files + AllocGlobal + Clone + Drop + Log + Eprint>(
-    rt: &R,
-    folder: &str,
-    settings: &Settings,
-) -> Result<(), ProgramFault> {
-    match look(rt, folder, settings) {
-        Ok(Found::Ours) => Ok(()),
-        Ok(Found::New) => {
-            info!(rt; "{folder}: a new folder");
-            Ok(())
-        }
-        Err(fault) => Err(named(rt, folder, ProgramFault::from(fault))),
-    }
+    Ok(seen)
 }
 
 /// Refuses two stores of one name on one Redis server, whatever the server is called: they would have their shares in the

@@ -57,6 +57,8 @@ pub fn run<
         }
         Err(Refusal::Shares) => Err(ProgramFault::Shares),
         Err(Refusal::Stores) => Err(ProgramFault::Stores),
+        Err(Refusal::Room) => Err(ProgramFault::Room),
+        Err(Refusal::New) => Err(ProgramFault::New),
         Err(Refusal::Words(error)) => {
             if error.kind() == clap::error::ErrorKind::OutOfMemory {
                 return Err(ProgramFault::NoMemory);

@@ -7,8 +7,12 @@ use gate_core::Tally;
 use gate_poll::Counts;
 use server_board::figures::StoreFigures;
 use server_board::{Asked, Method, asked_by, metrics_text, status_text};
-use server_options::{Options, RedisPlace, Shares, StoreWanted, Task, read_store, read_words};
+use server_options::{
+    Options, RedisPlace, Shares, StoreWanted, Task, read_size, read_store, read_words,
+};
+use server_stores::difference::Difference;
 use server_stores::folders::{Found, Opening, look, open_folder, open_on_disk};
+use server_stores::places::missing_places;
 use server_stores::{ProgramFault, check, handles};
 use share_store::Store;
 use std::alloc::Global;
@@ -62,6 +66,7 @@ fn options_have_defaults(rt: HostRuntime) -> Result<(), Fail> {
         options.stores.as_slice(),
         [StoreWanted::Memory(1_073_741_824); 5].as_slice()
     );
+    assert!(rt; options.new.is_empty());
     assert!(rt; options.synced);
     assert!(rt; options.secret_file.is_none());
     assert!(rt; options.redis_password_file.is_none());
@@ -108,10 +113,39 @@ fn each_number_that_is_given_is_taken(rt: HostRuntime) -> Result<(), Fail> {
             [StoreWanted::Memory(value as u64); 2].as_slice()
         );
     }
+    let words = words_of(rt.alloc(), &["serve", "--servers", "2", "--room", "3M"])?;
+    assert_eq!(rt;
+        served_with(rt.alloc(), &words)?.stores.as_slice(),
+        [StoreWanted::Memory(3_145_728); 2].as_slice()
+    );
     let words = words_of(rt.alloc(), &["serve", "--shares", "2,5", "--no-sync"])?;
     let options = served_with(rt.alloc(), &words)?;
     assert_eq!(rt; options.shares, Shares { needed: 2, made: 5 });
     assert!(rt; !options.synced);
+    Ok(())
+}
+
+#[test]
+fn folders_may_be_new(rt: HostRuntime) -> Result<(), Fail> {
+    let words = words_of(
+        rt.alloc(),
+        &[
+            "serve",
+            "--store",
+            "dir:/a",
+            "--new",
+            "/c",
+            "--store",
+            "mem:1",
+            "--store",
+            "dir:/c:5,disk",
+            "--new",
+            "/a",
+        ],
+    )?;
+    let options = served_with(rt.alloc(), &words)?;
+    assert_eq!(rt; options.new.as_slice(), ["/c", "/a"].as_slice());
+    assert_eq!(rt; options.stores.len(), 3);
     Ok(())
 }
 
@@ -151,7 +185,7 @@ fn each_verb_is_its_task(rt: HostRuntime) -> Result<(), Fail> {
 
 #[test]
 fn wrong_words_are_refused(rt: HostRuntime) -> Result<(), Fail> {
-    let wrong: [&[&str]; 17] = [
+    let wrong: [&[&str]; 21] = [
         &["serve", "--shares", "4,3"],
         &["serve", "--shares", "0,3"],
         &["serve", "--shares", "3"],
@@ -159,6 +193,10 @@ fn wrong_words_are_refused(rt: HostRuntime) -> Result<(), Fail> {
         &["serve", "--servers", "0"],
         &["serve", "--servers", "257"],
         &["serve", "--room", "much"],
+        &["serve", "--room", "1GB"],
+        &["serve", "--new", "/a"],
+        &["serve", "--new", "/b", "--store", "dir:/a"],
+        &["serve", "--new", "/a/", "--store", "dir:/a:5"],
         &["serve", "--connections", "0"],
         &["serve", "--idle", "0"],
         &["serve", "--port", "80"],
@@ -199,10 +237,27 @@ fn stores_are_named(rt: HostRuntime) {
         ("dir:a:b:12,disk", Some(StoreWanted::Disk("a:b", 12))),
         ("dir:a,disk:12", Some(StoreWanted::Folder("a,disk", 12))),
         ("mem:", None),
+        ("mem:1K", Some(StoreWanted::Memory(1024))),
+        ("dir:a:12M", Some(StoreWanted::Folder("a", 12_582_912))),
+        (
+            "dir:a:b:3G,disk",
+            Some(StoreWanted::Disk("a:b", 3_221_225_472)),
+        ),
+        (
+            "redis:h:6379:2T",
+            Some(StoreWanted::Redis(place("h:6379", ""), 2_199_023_255_552)),
+        ),
+        (
+            "redis:h:6379/a:1K",
+            Some(StoreWanted::Redis(place("h:6379", "a"), 1024)),
+        ),
         ("mem:1k", None),
+        ("mem:1KB", None),
+        ("mem:K", None),
         ("dir:", None),
         ("dir::12", None),
         ("dir:a:12k", None),
+        ("dir:a:16777216T", None),
         ("dir:a,disk", None),
         ("dir::12,disk", None),
         ("dir:a:,disk", None),
@@ -244,6 +299,41 @@ fn stores_are_named(rt: HostRuntime) {
     }
 }
 
+/// Sizes, as `numfmt --from=iec` of GNU coreutils has them.
+#[test]
+fn sizes_have_units(rt: HostRuntime) {
+    for (text, bytes) in [
+        ("0", Some(0)),
+        ("7", Some(7)),
+        ("1K", Some(1024)),
+        ("1M", Some(1_048_576)),
+        ("1G", Some(1_073_741_824)),
+        ("1T", Some(1_099_511_627_776)),
+        ("1023T", Some(1_124_800_395_214_848)),
+        ("18446744073709551615", Some(18_446_744_073_709_551_615)),
+        ("18446744073709551616", None),
+        ("18014398509481983K", Some(18_446_744_073_709_550_592)),
+        ("18014398509481984K", None),
+        ("16777215T", Some(18_446_742_974_197_923_840)),
+        ("16777216T", None),
+        ("", None),
+        ("K", None),
+        ("1k", None),
+        ("1g", None),
+        ("1GB", None),
+        ("1Gi", None),
+        ("1.5G", None),
+        ("1 G", None),
+        ("-1", None),
+        ("+1", None),
+        ("01", None),
+        ("1P", None),
+        ("G1", None),
+    ] {
+        assert!(rt; read_size(text) == bytes, "at {text}");
+    }
+}
+
 /// A share's bytes.
 fn share(alloc: Global) -> Result<RcSlice<u8>, Fail>
     ensures { IfOk result (λ share. 0 < length (rc_slice_items share)) }
@@ -271,7 +361,14 @@ fn a_folder_outlives_the_store_over_it(rt: HostRuntime) -> Result<(), Fail> {
         assert!(rt; again.err() == Some(ProgramFault::Folder(FolderFault::InUse)));
     }
     let other = Settings::new(0, 1, 1, 1, b"other");
-    assert!(rt; look(&rt, folder, &other) == Err(FolderFault::OtherGrid));
+    let another_secret = Difference {
+        place: None,
+        servers: None,
+        needed: None,
+        made: None,
+        secret: true,
+    };
+    assert!(rt; look(&rt, folder, &other) == Err(ProgramFault::OtherGrid(another_secret)));
     assert!(rt; look(&rt, folder, &opening.settings)? == Found::Ours);
     {
         let store = open_folder(&rt, folder, &opening)?;
@@ -282,6 +379,33 @@ fn a_folder_outlives_the_store_over_it(rt: HostRuntime) -> Result<(), Fail> {
     assert_eq!(rt; store.held(), 6);
     check(&rt, &[folder])?;
     fs::remove_dir_all(&rt, folder)?;
+    Ok(())
+}
+
+#[test]
+fn what_differs_is_told(rt: HostRuntime) -> Result<(), Fail> {
+    let there = Settings::new(1, 3, 2, 3, b"secret");
+    let wanted = Settings::new(0, 1, 4, 10, b"other");
+    let text = format!(in rt.alloc(); "{}", Difference::between(&there, &wanted))?;
+    assert!(rt;
+        text.as_str()
+            == "the folder belongs to another grid: place 1 and not 0; 3 servers and not 1; 2 shares needed and not 4; 3 shares made and not 10; another secret"
+    );
+    let wanted = Settings::new(1, 3, 2, 5, b"secret");
+    let text = format!(in rt.alloc(); "{}", Difference::between(&there, &wanted))?;
+    assert!(rt;
+        text.as_str()
+            == "the folder belongs to another grid: 3 shares made and not 5; the same secret"
+    );
+    Ok(())
+}
+
+#[test]
+fn missing_places_are_found(rt: HostRuntime) -> Result<(), Fail> {
+    let missing = missing_places(rt.alloc(), 5, &[4, 0, 2])?;
+    assert_eq!(rt; missing.as_slice(), [1, 3].as_slice());
+    let missing = missing_places(rt.alloc(), 2, &[1, 0])?;
+    assert!(rt; missing.is_empty());
     Ok(())
 }
 

@@ -6,9 +6,12 @@ use Rattle.std.proofs.lemmas.Result.{err_from_is_err_and}
 use Rattle.caps.specs.declared.cap.Cap.{Cap}
 use Rattle.dir_codec.specs.declared.entry.Entry.{Entry}
 use Rattle.cap_binding.specs.Binds.{AreFileOf}
+use Rattle.client_tree.specs.Parts.{AreParts}
+use Rattle.client_tree.specs.Joined.{ArePiecesAt, AreFirstPiecesAt}
 use Rattle.client_tree.specs.Trees.{IsBoundFile, IsBoundBelow, AreTreesOf, none as no_trees, IsTreeOf}
 use Rattle.client_tree.proofs.Running.{none_passed, rested, one_passed, passed_more, both_passed, passed_after, outcome_more}
-use Rattle.client_tree.proofs.Bound.{trees_bound_in, one_more_tree, bound_above}
+use Rattle.client_tree.proofs.Bound.{trees_bound_in, one_more_tree, bound_above, first_bound}
+use Rattle.client_tree.proofs.Joined.{whole_file}
 use Rattle.client_tree.proofs.get.+tree.Goals as goal
 
 pub get_children-loop-entry-init : goal.get_children-loop-entry-init
@@ -90,20 +93,20 @@ get_node-returns-in_err-directory-in-DirChk g t c =
     let P = IsBoundFile c.args.cap.now c.args.path.now in
     rw p.1 (none_passed g.F.Folder.wrote g.F.Folder.kept (All P) c.args.folder.now (All-nil P))
 
-pub get_node-returns-in_err-test_names-in-DirChk : goal.get_node-returns-in_err-test_names-in-DirChk
-get_node-returns-in_err-test_names-in-DirChk g t c =
-    let p = err_from_is_err_and c.from_residual-in_err-test_names-in-DirChk.result c.from_residual-in_err-test_names-in-DirChk.ensures.1 in
+pub get_node-returns-in_err-test_names-in-None : goal.get_node-returns-in_err-test_names-in-None
+get_node-returns-in_err-test_names-in-None g t c =
+    let p = err_from_is_err_and c.from_residual-in_err-test_names-in-None.result c.from_residual-in_err-test_names-in-None.ensures.1 in
     let P = IsBoundFile c.args.cap.now c.args.path.now in
     rw p.1 (none_passed g.F.Folder.wrote g.F.Folder.kept (All P) c.args.folder.now (All-nil P))
 
-pub get_node-returns-in_err-make_folder-in-DirChk : goal.get_node-returns-in_err-make_folder-in-DirChk
-get_node-returns-in_err-make_folder-in-DirChk g t c =
-    let p = err_from_is_err_and c.from_residual-in_err-make_folder-in-DirChk.result c.from_residual-in_err-make_folder-in-DirChk.ensures.1 in
+pub get_node-returns-in_err-make_folder-in-None : goal.get_node-returns-in_err-make_folder-in-None
+get_node-returns-in_err-make_folder-in-None g t c =
+    let p = err_from_is_err_and c.from_residual-in_err-make_folder-in-None.result c.from_residual-in_err-make_folder-in-None.ensures.1 in
     let P = IsBoundFile c.args.cap.now c.args.path.now in
     rw p.1 (rested g.F.Folder.wrote g.F.Folder.kept (All P) c.args.folder.now c.make_folder.new.self c.make_folder.ensures (All-nil P))
 
-pub get_node-returns-in_ok-write_file-in_default : goal.get_node-returns-in_ok-write_file-in_default
-get_node-returns-in_ok-write_file-in_default g t c =
+pub get_node-returns : goal.get_node-returns
+get_node-returns g t c =
     let cap : Cap = c.args.cap.now in
     let path : List (List ℕ) = c.args.path.now in
     let bytes : List ℕ = c.deref.result.now in
@@ -112,17 +115,38 @@ get_node-returns-in_ok-write_file-in_default g t c =
     (record { path = path; bytes = bytes }) c.in_ok-write_file-in_default.ensures.ok
     (inl (record { bytes = bytes; of_cap = of_cap; one = refl }))
 
-pub get_node-returns-in_ok-make_folder-in-DirChk : goal.get_node-returns-in_ok-make_folder-in-DirChk
-get_node-returns-in_ok-make_folder-in-DirChk g t c =
+pub get_node-returns-in-DirChk : goal.get_node-returns-in-DirChk
+get_node-returns-in-DirChk g t c =
     let cap : Cap = c.args.cap.now in
     let path : List (List ℕ) = c.args.path.now in
     let entries : List Entry = c.in_ok-directory-in-DirChk.directory in
+    let no_parts : (size : ℕ) → AreParts size entries → ⊥ = rw c.in-None.is at c.in_ok-parts_size-in-DirChk.ensures in
     outcome_more c.get_children.result _ _ _ _
     (λ x done. passed_after g.F.Folder.wrote g.F.Folder.kept (AreTreesOf path entries) (IsTreeOf cap path)
     c.args.folder.now c.make_folder.new.self c.get_children.new.folder c.make_folder.ensures
-    (λ fs trees. inr (record { entries = entries; of_cap = c.in_ok-directory-in-DirChk.ensures; all = trees })) done)
+    (λ fs trees. inr (inr (record { entries = entries; of_cap = c.in_ok-directory-in-DirChk.ensures; no_parts = no_parts; all = trees }))) done)
     (λ e fault. passed_after g.F.Folder.wrote g.F.Folder.kept (All (IsBoundBelow entries path)) (All (IsBoundFile cap path))
     c.args.folder.now c.make_folder.new.self c.get_children.new.folder c.make_folder.ensures
     (λ fs below. All-weaker (IsBoundBelow entries path) (IsBoundFile cap path)
     (λ f known. bound_above c.children_are_found.ensures cap entries path f c.in_ok-directory-in-DirChk.ensures known) fs below) fault)
     c.get_children.ensures
+
+pub get_node-returns-in_err-parts_size-in-DirChk : goal.get_node-returns-in_err-parts_size-in-DirChk
+get_node-returns-in_err-parts_size-in-DirChk g t c =
+    let p = err_from_is_err_and c.from_residual-in_err-parts_size-in-DirChk.result c.from_residual-in_err-parts_size-in-DirChk.ensures.1 in
+    let P = IsBoundFile c.args.cap.now c.args.path.now in
+    rw p.1 (none_passed g.F.Folder.wrote g.F.Folder.kept (All P) c.args.folder.now (All-nil P))
+
+pub get_node-returns-in-Some : goal.get_node-returns-in-Some
+get_node-returns-in-Some g t c =
+    let cap : Cap = c.args.cap.now in
+    let path : List (List ℕ) = c.args.path.now in
+    let entries : List Entry = c.in_ok-directory-in-DirChk.directory in
+    let size : ℕ = c.in-Some.field-0 in
+    let parts : AreParts size entries = rw c.in-Some.is at c.in_ok-parts_size-in-DirChk.ensures in
+    outcome_more c.get_pieces.result _ _ _ _
+    (λ x done. passed_more g.F.Folder.wrote g.F.Folder.kept (ArePiecesAt path entries) (IsTreeOf cap path) c.args.folder.now c.get_pieces.new.folder
+    (λ fs all. inr (inl (whole_file cap path size entries fs c.in_ok-directory-in-DirChk.ensures parts all))) done)
+    (λ e fault. passed_more g.F.Folder.wrote g.F.Folder.kept (AreFirstPiecesAt path entries) (All (IsBoundFile cap path)) c.args.folder.now c.get_pieces.new.folder
+    (λ fs first. first_bound cap path size entries fs c.in_ok-directory-in-DirChk.ensures parts first) fault)
+    c.get_pieces.ensures

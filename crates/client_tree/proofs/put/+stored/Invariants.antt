@@ -1,6 +1,5 @@
 use Rattle.std.proofs.Common.{◌+◌, ◌*◌}
-use Rattle.std.specs.Prelude.{All}
-use Rattle.client_tree.specs.Runs.{Passes}
+use Rattle.client_tree.specs.Runs.{Passes, AreGroups}
 use Rattle.client_tree.specs.Stored.{IsStoredBelow}
 use Rattle.client_tree.proofs.put.+stored.Given as goal
 
@@ -12,4 +11,4 @@ abbrev pub decreases-put_folder : goal.decreases-put_folder
 decreases-put_folder g l = 2 * l.depth + 1
 
 abbrev pub invariant-put_folder-loop-item : goal.invariant-put_folder-loop-item
-invariant-put_folder-loop-item g l = Passes g.S.Source.gave g.S.Source.kept (All (IsStoredBelow l.children.items l.path)) l.fn.source l.source
+invariant-put_folder-loop-item g l = Passes g.S.Source.gave g.S.Source.kept (AreGroups (IsStoredBelow l.children.items l.path)) l.fn.source l.source

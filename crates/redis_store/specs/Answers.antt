@@ -1,0 +1,32 @@
+-- What replies say.
+use Rattle.std.specs.Prelude.{◌≡◌, ◌⊎◌, ℕ, suc, pos, List, [], ◌∷◌, Bool, true, false, codes}
+use Rattle.redis_shelf.specs.Answers.{IsError, IsErrorOf, IsFullError}
+use Rattle.redis_store.specs.declared.fault.ServerFault.{ServerFault}
+use Rattle.redis_store.specs.declared.fault.ServerFault.TheVariants.{Refused, Full, Replica, OtherReply}
+use Rattle.resp.specs.declared.reply.Item.TheVariants as item
+use Rattle.resp.specs.declared.reply.Reply.{Reply}
+use Rattle.resp.specs.declared.reply.Reply.TheVariants as reply
+
+-- `:1`, or `:0`: that one stands, was put or was taken away, or none
+abbrev pub SaysWhether : Bool → Reply → Type 0
+SaysWhether true answer = answer ≡ reply.One (item.Integer (pos 1))
+SaysWhether false answer = answer ≡ reply.One (item.Integer (pos 0))
+
+-- these are the numbers, from this one on, of the replies that say one; the others say none
+abbrev pub SayWhich : ℕ → List Reply → List ℕ → Type 0
+SayWhich number [] numbers = numbers ≡ []
+SayWhich number (answer ∷ answers) numbers =
+    (SaysWhether true answer × ((rest : List ℕ) × (numbers ≡ number ∷ rest) × SayWhich (suc number) answers rest))
+    ⊎ (SaysWhether false answer × SayWhich (suc number) answers numbers)
+
+-- `-READONLY ..` or `-MASTERDOWN ..`: the server is a replica
+abbrev pub IsReplicaError : Reply → Type 0
+IsReplicaError answer = IsErrorOf (codes "READONLY ") answer ⊎ IsErrorOf (codes "MASTERDOWN ") answer
+
+-- what each fault says of a reply that is none of those that were wanted
+abbrev pub IsFaultOf : ServerFault → Reply → Type 0
+IsFaultOf Full answer = IsFullError answer
+IsFaultOf Replica answer = IsReplicaError answer
+IsFaultOf Refused answer = IsError answer × (IsFullError answer → ⊥) × (IsReplicaError answer → ⊥)
+IsFaultOf OtherReply answer = IsError answer → ⊥
+IsFaultOf _ answer = ⊥

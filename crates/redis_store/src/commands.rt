@@ -1,0 +1,72 @@
+//! Commands.
+ghost use Rattle.std.specs.Prelude.{◌≡◌, ◌++◌, ℕ, List, length, IfOk};
+ghost use Rattle.resp.specs.Command.{line_end};
+ghost use Rattle.redis_shelf.specs.Commands.{auth_command, get_command, delete_command};
+ghost use Rattle.redis_store.specs.Commands.{put_command, exists_command, exists_below};
+
+use redis_shelf::spell_key;
+use resp::{command, command_head};
+use std::alloc::{AllocError, Global};
+
+/// Says who asks.
+pub(crate) fn auth(alloc: Global, password: &[u8]) -> Result<Vec<u8>, AllocError>
+    ensures { IfOk result (λ bytes. bytes.items ≡ auth_command password.now) }
+{
+    command(alloc, &[b"AUTH", password])
+}
+
+/// Asks for what stands under a name.
+pub(crate) fn get(alloc: Global, name: &[u8]) -> Result<Vec<u8>, AllocError>
+    ensures { IfOk result (λ bytes. bytes.items ≡ get_command name.now) }
+{
+    command(alloc, &[b"GET", name])
+}
+
+/// Asks whether something stands under a name.
+pub(crate) fn exists(alloc: Global, name: &[u8]) -> Result<Vec<u8>, AllocError>
+    ensures { IfOk result (λ bytes. bytes.items ≡ exists_command name.now) }
+{
+    command(alloc, &[b"EXISTS", name])
+}
+
+/// Asks of each number below a limit whether a share stands under it: a command each.
+#[tactic(auto, using(crate::proofs::Lists::exists_more))]
+pub(crate) fn exist_below(
+    alloc: Global,
+    grid: &[u8],
+    index: &[u8; 16],
+    limit: u16,
+) -> Result<Vec<u8>, AllocError>
+    ensures { IfOk result (λ bytes. bytes.items ≡ exists_below grid.now index.now limit) }
+{
+    let mut commands = Vec::new(alloc);
+    for number in 0..limit {
+        let name = spell_key(alloc, grid, index, number)?;
+        let one = exists(alloc, &name)?;
+        commands.extend_from_slice(&one)?;
+    }
+    Ok(commands)
+}
+
+/// Puts bytes under a name where nothing stands.
+pub(crate) fn put(alloc: Global, name: &[u8], content: &[u8]) -> Result<Vec<u8>, AllocError>
+    ensures { IfOk result (λ bytes. bytes.items ≡ put_command name.now content.now) }
+{
+    command(alloc, &[b"SETNX", name, content])
+}
+
+/// Puts so many bytes under a name where nothing stands: the command as far as those bytes, behind which CR and LF have
+/// to come.
+pub(crate) fn put_head(alloc: Global, name: &[u8], len: usize) -> Result<Vec<u8>, AllocError>
+    ensures { IfOk result (λ bytes. (content : List ℕ) → length content ≡ len
+        → bytes.items ++ content ++ line_end ≡ put_command name.now content) }
+{
+    command_head(alloc, &[b"SETNX", name], len)
+}
+
+/// Takes away what stands under a name.
+pub(crate) fn delete(alloc: Global, name: &[u8]) -> Result<Vec<u8>, AllocError>
+    ensures { IfOk result (λ bytes. bytes.items ≡ delete_command name.now) }
+{
+    command(alloc, &[b"DEL", name])
+}

@@ -1,0 +1,371 @@
+//! A connection that is made anew where it is needed.
+ghost use Rattle.std.specs.Prelude.{◌≡◌, ◌<◌, ◌++◌, ◌⊎◌, ℕ, List, Bool, true, false, vec_len, IfOk, IfErr, OnOk};
+ghost use Rattle.resp.specs.Command.{line_end};
+ghost use Rattle.resp.specs.Spelled.{SpellsReply, SpellsAll};
+ghost use Rattle.resp.specs.declared.reply.Reply.{Reply};
+ghost use Rattle.redis_shelf.specs.Answers.{IsDone, IsError, IsValue};
+ghost use Rattle.redis_shelf.specs.Commands.{auth_command, get_command};
+ghost use Rattle.redis_shelf.specs.Told.{short_limits, with_exchange, IsGreeted};
+ghost use Rattle.redis_store.specs.Answers.{SaysWhether};
+ghost use Rattle.redis_store.specs.Commands.{put_command};
+ghost use Rattle.redis_store.specs.GridText.{grid_text};
+ghost use Rattle.redis_store.specs.Left.{IsRestBegun, IsBreak, IsErrorReply, IsLeftAfter, IsOfLink, IsOfReply};
+ghost use Rattle.redis_store.specs.Told.{found_reply, IsAtHand, IsOpened, IsToldIn, IsToldOf};
+
+use crate::ServerFault;
+use crate::answers::{bytes_in, fault_of, is_done, said_in};
+use crate::commands::{auth, get, put};
+use crate::settings_key::{check_grid, grid_text};
+use crate::talk::{talk, talk_each, talk_long};
+use folder_shelf::Settings;
+use octets::Bytes;
+use redis_shelf::Link;
+use resp::{Limits, Reply};
+use std::alloc::Global;
+
+/// How large a reply without a share in it may be.
+pub(crate) const SHORT: Limits = Limits {
+    line: 512,
+    bulk: 512,
+    elements: 16,
+};
+
+/// For how many seconds a server is left alone the first time.
+const FIRST_REST: u64 = 1;
+
+/// For how many seconds it is left alone at most.
+const LONGEST_REST: u64 = 60;
+
+/// What a new connection says and asks before anything else.
+#[derive(Drop)]
+pub(crate) struct Greeting {
+    /// What the server wants to be told first.
+    pub(crate) password: Option<Bytes>,
+    /// The name under which it stands whose the server is.
+    pub(crate) name: Bytes,
+    /// Whose it has to be.
+    pub(crate) settings: Settings,
+}
+
+/// How long a server is left alone.
+#[derive(Clone, Copy, Debug, PartialEq, Eq)]
+pub(crate) struct Rest {
+    /// For so many seconds, the next time.
+    pub(crate) seconds: u64,
+    /// Until then, in the link's seconds.
+    pub(crate) until: u64,
+}
+
+/// A connection to a server, or the way to one.
+#[derive(Drop)]
+pub(crate) struct Connection<L: Link + Drop> {
+    pub(crate) alloc: Global,
+    pub(crate) link: L,
+    pub(crate) first: Greeting,
+    pub(crate) rest: Rest,
+    /// Whether one is open, of which all that it was told is answered.
+    pub(crate) is_open: bool,
+}
+
+impl<L: Link + Drop> Connection<L> {
+    /// The way to a server. It is not gone yet.
+    pub(crate) fn new(alloc: Global, link: L, first: Greeting) -> Self
+        ensures { result ≡ record {
+          alloc = alloc;
+          link = link;
+          first = first;
+          rest = record { seconds = 1; until = 0 };
+          is_open = false;
+        } }
+    {
+        Connection {
+            alloc,
+            link,
+            first,
+            rest: Rest {
+                seconds: FIRST_REST,
+                until: 0,
+            },
+            is_open: false,
+        }
+    }
+
+    /// Tells a command and gives its reply. Where no connection is open one is opened first.
+    pub(crate) fn ask(&mut self, limits: Limits, command: &[u8]) -> Result<Reply, ServerFault>
+        requires { 0 < limits.line }
+        ensures open { OnOk result (self.new.is_open ≡ true) }
+        ensures told { IfOk result (λ reply. (came : List ℕ) × SpellsReply limits reply came
+            × IsToldIn self.old.is_open self.old.first
+            (L.talk self.old.link) (L.talk self.new.link) command.now came) }
+        ensures rest { OnOk result (self.new.rest ≡ self.old.rest) }
+        ensures left { IfErr result (λ fault.
+            IsLeftAfter fault self.old.rest self.new.is_open self.new.rest) }
+        ensures not_refused { IfErr result (λ fault. IsErrorReply fault → ⊥) }
+        ensures first { self.new.first ≡ self.old.first }
+    {
+        self.ready()?;
+        match talk(self.alloc, &mut self.link, limits, command) {
+            Ok(reply) => Ok(reply),
+            Err(fault) => {
+                self.let_go(fault);
+                Err(fault)
+            }
+        }
+    }
+
+    /// The same of a command's beginning, a share's bytes, which are written from where they are, and CR and LF.
+    pub(crate) fn ask_long(&mut self, head: &[u8], share: &[u8]) -> Result<Reply, ServerFault>
+        ensures open { OnOk result (self.new.is_open ≡ true) }
+        ensures told { IfOk result (λ reply. (came : List ℕ) × SpellsReply short_limits reply came
+            × IsToldIn self.old.is_open self.old.first
+            (L.talk self.old.link) (L.talk self.new.link)
+            (head.now ++ share.now ++ line_end) came) }
+        ensures rest { OnOk result (self.new.rest ≡ self.old.rest) }
+        ensures left { IfErr result (λ fault.
+            IsLeftAfter fault self.old.rest self.new.is_open self.new.rest) }
+        ensures not_refused { IfErr result (λ fault. IsErrorReply fault → ⊥) }
+        ensures first { self.new.first ≡ self.old.first }
+    {
+        self.ready()?;
+        match talk_long(self.alloc, &mut self.link, SHORT, head, share) {
+            Ok(reply) => Ok(reply),
+            Err(fault) => {
+                self.let_go(fault);
+                Err(fault)
+            }
+        }
+    }
+
+    /// Tells several commands in one exchange, and gives a reply to each.
+    pub(crate) fn ask_each(
+        &mut self,
+        commands: &[u8],
+        count: u16,
+    ) -> Result<Vec<Reply>, ServerFault>
+        ensures open { OnOk result (self.new.is_open ≡ true) }
+        ensures told { IfOk result (λ replies. (came : List ℕ)
+            × SpellsAll (SpellsReply short_limits) replies.items came
+            × IsToldIn self.old.is_open self.old.first
+            (L.talk self.old.link) (L.talk self.new.link) commands.now came) }
+        ensures count { IfOk result (λ replies. vec_len replies ≡ count) }
+        ensures rest { OnOk result (self.new.rest ≡ self.old.rest) }
+        ensures left { IfErr result (λ fault.
+            IsLeftAfter fault self.old.rest self.new.is_open self.new.rest) }
+        ensures not_refused { IfErr result (λ fault. IsErrorReply fault → ⊥) }
+        ensures first { self.new.first ≡ self.old.first }
+    {
+        self.ready()?;
+        match talk_each(self.alloc, &mut self.link, SHORT, commands, count) {
+            Ok(replies) => Ok(replies),
+            Err(fault) => {
+                self.let_go(fault);
+                Err(fault)
+            }
+        }
+    }
+
+    /// Opens a connection where none is open. Nothing is done where the server is left alone.
+    pub(crate) fn ready(&mut self) -> Result<(), ServerFault>
+        ensures open { OnOk result (self.new.is_open ≡ true) }
+        ensures at_hand { OnOk result (IsAtHand self.old.is_open self.old.first
+            (L.talk self.old.link) (L.talk self.new.link)) }
+        ensures rest { OnOk result (self.new.rest ≡ self.old.rest) }
+        ensures left { IfErr result (λ fault.
+            IsLeftAfter fault self.old.rest self.new.is_open self.new.rest) }
+        ensures not_refused { IfErr result (λ fault. IsErrorReply fault → ⊥) }
+        ensures first { self.new.first ≡ self.old.first }
+    {
+        if self.is_open {
+            return Ok(());
+        }
+        if self.link.seconds() < self.rest.until {
+            return Err(ServerFault::Resting);
+        }
+        match greet(self.alloc, &mut self.link, &self.first) {
+            Ok(()) => {
+                self.is_open = true;
+                Ok(())
+            }
+            Err(fault) => {
+                self.let_go(fault);
+                Err(fault)
+            }
+        }
+    }
+
+    /// An answer came to what was told: no rest is begun, and the next one is of a second.
+    pub(crate) fn well(&mut self)
+        ensures { self.new ≡ record self.old { rest = record self.old.rest { seconds = 1 } } }
+    {
+        self.rest.seconds = FIRST_REST;
+    }
+
+    /// A reply came that is none of those that were wanted. After an error reply the connection stays, since it is
+    /// healthy, unless a replica answered: then it is let go, so that the next one is made to where the primary is by
+    /// then. For another reply it is let go and the server left alone.
+    pub(crate) fn reject(&mut self, fault: ServerFault)
+        requires open { self.old.is_open ≡ true }
+        requires of_reply { IsOfReply fault }
+        ensures left { IsLeftAfter fault self.old.rest self.new.is_open self.new.rest }
+        ensures healthy { IsErrorReply fault → L.talk self.new.link ≡ L.talk self.old.link }
+        ensures first { self.new.first ≡ self.old.first }
+    {
+        match fault {
+            ServerFault::Refused | ServerFault::Full => self.well(),
+            ServerFault::Replica => {
+                self.link.close();
+                self.is_open = false;
+                self.well();
+            }
+            ServerFault::OtherReply => self.let_go(fault),
+            _ => {}
+        }
+    }
+
+    /// Lets the connection go for this fault, and the server alone for a while, where it isn't for want of memory
+    /// here. Each time in a row that is for twice as long.
+    fn let_go(&mut self, fault: ServerFault)
+        requires { IsBreak fault }
+        ensures left { IsLeftAfter fault self.old.rest self.new.is_open self.new.rest }
+        ensures first { self.new.first ≡ self.old.first }
+    {
+        self.link.close();
+        self.is_open = false;
+        if fault != ServerFault::NoMemory {
+            self.begin_rest();
+        }
+    }
+
+    /// Leaves the server alone for a while.
+    fn begin_rest(&mut self)
+        ensures begun { IsRestBegun self.old.rest self.new.rest }
+        ensures open { self.new.is_open ≡ self.old.is_open }
+        ensures first { self.new.first ≡ self.old.first }
+    {
+        self.rest.until = self.link.seconds().saturating_add(self.rest.seconds);
+        self.rest.seconds = self.rest.seconds.saturating_mul(2).min(LONGEST_REST);
+    }
+
+    /// The link.
+    pub(crate) fn into_link(self) -> L
+        ensures { result ≡ self.link }
+    {
+        let Connection {
+            alloc: _,
+            link,
+            first: _,
+            rest: _,
+            is_open: _,
+        } = self;
+        link
+    }
+}
+
+/// Opens a connection, says who asks, and looks whose the server is. Where nothing says so yet it is put there, and
+/// looked at again: another may have come first.
+fn greet<L: Link>(alloc: Global, link: &mut L, first: &Greeting) -> Result<(), ServerFault>
+    ensures opened { OnOk result (IsOpened first.now (L.talk link.new)) }
+    ensures wrong { IfErr result (λ fault. IsToldOf fault first.now (L.talk link.new)) }
+{
+    connect_as(alloc, link, &first.password)?;
+    if compare(alloc, link, first)? {
+        return Ok(());
+    }
+    claim(alloc, link, first)?;
+    if compare(alloc, link, first)? {
+        Ok(())
+    } else {
+        Err(ServerFault::OtherReply)
+    }
+}
+
+/// Opens a connection, and says who asks.
+fn connect_as<L: Link>(
+    alloc: Global,
+    link: &mut L,
+    password: &Option<Bytes>,
+) -> Result<(), ServerFault>
+    ensures greeted { OnOk result (IsGreeted password.now (L.talk link.new)) }
+    ensures of_link { IfErr result (λ fault. IsOfLink fault) }
+{
+    link.connect()?;
+    match password {
+        None => Ok(()),
+        Some(password) => log_in(alloc, link, password.as_slice()),
+    }
+}
+
+/// Says who asks.
+fn log_in<L: Link>(alloc: Global, link: &mut L, password: &[u8]) -> Result<(), ServerFault>
+    ensures taken { OnOk result ((reply : Reply) × (came : List ℕ) × IsDone reply
+        × SpellsReply short_limits reply came × (L.talk link.new
+        ≡ with_exchange (L.talk link.old) (auth_command password.now) came)) }
+    ensures of_link { IfErr result (λ fault. IsOfLink fault) }
+{
+    let command = auth(alloc, password)?;
+    let reply = talk(alloc, link, SHORT, &command)?;
+    if is_done(&reply) {
+        return Ok(());
+    }
+    match fault_of(&reply) {
+        ServerFault::OtherReply => Err(ServerFault::OtherReply),
+        _ => Err(ServerFault::NotAdmitted),
+    }
+}
+
+/// Whether the server is the one that is wanted. `false` where nothing says whose it is.
+fn compare<L: Link>(alloc: Global, link: &mut L, first: &Greeting) -> Result<bool, ServerFault>
+    ensures asked { IfOk result (λ ours. (came : List ℕ)
+        × SpellsReply short_limits (found_reply ours (grid_text first.now.settings)) came
+        × (L.talk link.new
+        ≡ with_exchange (L.talk link.old) (get_command first.now.name) came)) }
+    ensures wrong { IfErr result (λ fault. IsToldOf fault first.now (L.talk link.new)) }
+{
+    let command = get(alloc, first.name.as_slice())?;
+    let reply = talk(alloc, link, SHORT, &command)?;
+    let Some(text) = text_in(reply)? else {
+        return Ok(false);
+    };
+    check_grid(alloc, text.as_slice(), &first.settings)?;
+    Ok(true)
+}
+
+/// The text that stands under a name, or that none does.
+fn text_in(reply: Reply) -> Result<Option<Bytes>, ServerFault>
+    ensures found { IfOk result (λ text. IsValue reply text) }
+    ensures of_link { IfErr result (λ fault. IsOfLink fault) }
+{
+    let fault = not_opened(&reply);
+    match bytes_in(reply) {
+        Some(text) => Ok(text),
+        None => Err(fault),
+    }
+}
+
+/// Says whose the server is, where nothing does yet.
+fn claim<L: Link>(alloc: Global, link: &mut L, first: &Greeting) -> Result<(), ServerFault>
+    ensures told { OnOk result ((said : Bool) × (answer : Reply) × (came : List ℕ)
+        × SaysWhether said answer × SpellsReply short_limits answer came
+        × (L.talk link.new ≡ with_exchange (L.talk link.old)
+        (put_command first.now.name (grid_text first.now.settings)) came)) }
+    ensures of_link { IfErr result (λ fault. IsOfLink fault) }
+{
+    let text = grid_text(alloc, &first.settings)?;
+    let command = put(alloc, first.name.as_slice(), &text)?;
+    let reply = talk(alloc, link, SHORT, &command)?;
+    match said_in(&reply) {
+        Ok(_put) => Ok(()),
+        Err(_fault) => Err(not_opened(&reply)),
+    }
+}
+
+/// What is wrong with a reply to what a new connection asks.
+fn not_opened(reply: &Reply) -> ServerFault
+    ensures { ((result ≡ ServerFault.NotOpened) × IsError reply.now)
+        ⊎ ((result ≡ ServerFault.OtherReply) × (IsError reply.now → ⊥)) }
+{
+    match fault_of(reply) {
+        ServerFault::OtherReply => ServerFault::OtherReply,
+        _ => ServerFault::NotOpened,
+    }
+}

@@ -1,0 +1,17 @@
+//! What holds of the text and the name under which it stands.
+ghost use Rattle.std.specs.Prelude.{◌≡◌, ◌≢◌, ℕ, List};
+ghost use Rattle.folder_shelf.specs.SettingsText.{AreSettings};
+ghost use Rattle.folder_shelf.specs.declared.settings.Settings.{Settings};
+ghost use Rattle.redis_shelf.specs.Keys.{key, IsPlace};
+ghost use Rattle.redis_store.specs.GridText.{grid_text, grid_name};
+
+/// Settings with one text are the same settings.
+pub fn grids_are_told_apart()
+    ensures { (s t : Settings) → AreSettings s → AreSettings t → grid_text s ≡ grid_text t → s ≡ t }
+{}
+
+/// The name under which the text stands is no share's key.
+pub fn grid_name_is_no_key()
+    ensures { (grid index : List ℕ) (number : ℕ) → IsPlace index number
+        → key grid index number ≢ grid_name grid }
+{}

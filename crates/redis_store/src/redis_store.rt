@@ -1,0 +1,576 @@
+//! The store.
+ghost use Rattle.std.specs.FinMap as map;
+ghost use Rattle.std.specs.Prelude.{◌≡◌, ◌≤◌, ◌<◌, ◌+◌, ◌↔◌, ℕ, List, [], None, Some, false, true, length, codes, OnOk, OnErr, IfOk, IfErr, IfSome, IsOkAnd, IsErrOf, IsSomeAnd};
+ghost use Rattle.std.specs.Option.{option_map};
+ghost use Rattle.std.specs.Rc.{rc_slice_items};
+ghost use Rattle.resp.specs.Spelled.{SpellsReply};
+ghost use Rattle.redis_shelf.specs.Answers.{IsErrorOf};
+ghost use Rattle.redis_shelf.specs.Commands.{get_command, delete_command};
+ghost use Rattle.redis_shelf.specs.Keys.{key};
+ghost use Rattle.redis_shelf.specs.Told.{short_limits};
+ghost use Rattle.redis_store.specs.Answers.{SaysWhether};
+ghost use Rattle.redis_store.specs.Commands.{put_command, exists_command, exists_below};
+ghost use Rattle.redis_store.specs.GridText.{grid_name};
+ghost use Rattle.redis_store.specs.Left.{IsErrorReply, IsLeftAfter, IsWell};
+ghost use Rattle.redis_store.specs.Told.{IsAtHand, IsToldIn, IsSaidBy, AreSaidBy, IsShareGivenBy, IsRefusedBy};
+
+use crate::ServerFault;
+use crate::answers::{numbers_in, said_in, share_in};
+use crate::commands::{delete, exist_below, exists, get, put, put_head};
+use crate::connection::{Connection, Greeting, SHORT};
+use folder_shelf::Settings;
+use octets::Bytes;
+use redis_shelf::{Link, spell_key};
+use resp::{Limits, Reply};
+use share_store::{Share, Store, StoreFault};
+use std::alloc::{AllocError, Global};
+use std::rc::RcSlice;
+
+/// How many bytes of a share are copied into its command, at most: to write so few by themselves takes longer.
+const COPIED: usize = 16384;
+
+/// What a store has to know of its server.
+#[derive(Drop)]
+pub struct Server {
+    /// The bytes with which the names of its shares begin. All who write under such names are stores like this one.
+    pub grid: Bytes,
+    /// Whose the server has to be: its place, and the grid. Their text stands under the name that is `grid` and the
+    /// word `grid` behind it.
+    pub settings: Settings,
+    /// What the server wants to be told first (AUTH).
+    pub password: Option<Bytes>,
+    /// How many bytes a share has, at most.
+    pub longest: u32,
+}
+
+/// A store of shares on a Redis server, which others may use at the same time. It has no index: each call asks the
+/// server. It isn't honest, since no contract says what a server keeps, and since others put shares between two
+/// calls.
+#[derive(Drop)]
+pub struct RedisStore<L: Link + Drop> {
+    connection: Connection<L>,
+    grid: Bytes,
+    longest: u32,
+    failures: u64,
+    last_fault: Option<ServerFault>,
+}
+
+impl<L: Link + Drop> RedisStore<L> {
+    /// The store on the server that this link leads to. Nothing is asked yet. Refused where memory is.
+    pub fn new(alloc: Global, link: L, server: Server) -> Result<RedisStore<L>, AllocError>
+        ensures link { IfOk result (λ store. store.connection.link ≡ link) }
+        ensures closed { IfOk result (λ store. store.connection.is_open ≡ false) }
+        ensures first { IfOk result (λ store. store.connection.first ≡ record {
+          password = server.password;
+          name = grid_name server.grid;
+          settings = server.settings;
+        }) }
+        ensures rest { IfOk result (λ store.
+            store.connection.rest ≡ record { seconds = 1; until = 0 }) }
+        ensures grid { IfOk result (λ store. store.grid ≡ server.grid) }
+        ensures longest { IfOk result (λ store. store.longest ≡ server.longest) }
+        ensures failures { IfOk result (λ store. store.failures ≡ 0) }
+    {
+        let Server {
+            grid,
+            settings,
+            password,
+            longest,
+        } = server;
+        let mut name = Vec::from_slice(alloc, grid.as_slice())?;
+        name.extend_from_slice(b"grid")?;
+        let first = Greeting {
+            password,
+            name: Bytes::from_vec(name),
+            settings,
+        };
+        Ok(RedisStore {
+            connection: Connection::new(alloc, link, first),
+            grid,
+            longest,
+            failures: 0,
+            last_fault: None,
+        })
+    }
+
+    /// Connects to the server where no connection is open, so that one that is down or another's is told at once.
+    pub fn reach(&mut self) -> Result<(), ServerFault>
+        ensures open { OnOk result (self.new.connection.is_open ≡ true) }
+        ensures at_hand { OnOk result (IsAtHand self.old.connection.is_open
+            self.old.connection.first (L.talk self.old.connection.link)
+            (L.talk self.new.connection.link)) }
+        ensures left { IfErr result (λ fault. IsLeftAfter fault self.old.connection.rest
+            self.new.connection.is_open self.new.connection.rest) }
+        ensures failures { self.new.failures ≡ self.old.failures }
+        ensures same { (self.new.grid ≡ self.old.grid) × (self.new.longest ≡ self.old.longest)
+            × (self.new.connection.first ≡ self.old.connection.first) }
+    {
+        self.connection.ready()
+    }
+
+    /// The link to the server.
+    pub fn into_link(self) -> L
+        ensures { result ≡ self.connection.link }
+    {
+        let RedisStore {
+            connection,
+            grid: _,
+            longest: _,
+            failures: _,
+            last_fault: _,
+        } = self;
+        connection.into_link()
+    }
+
+    /// Why the store failed when it last did.
+    pub fn last_fault(&self) -> Option<ServerFault>
+        ensures { result ≡ self.now.last_fault }
+    {
+        self.last_fault
+    }
+
+    /// Counts a failure. Where no more can be counted it is refused as one for which there was no memory.
+    fn count(&mut self, fault: ServerFault) -> Result<(), AllocError>
+        ensures counted { OnOk result (self.new.failures ≡ self.old.failures + 1) }
+        ensures uncounted { OnErr result (self.new.failures ≡ self.old.failures) }
+        ensures last_fault { self.new.last_fault ≡ Some fault }
+        ensures connection { self.new.connection ≡ self.old.connection }
+        ensures same { (self.new.grid ≡ self.old.grid) × (self.new.longest ≡ self.old.longest) }
+    {
+        self.last_fault = Some(fault);
+        if self.failures == u64::MAX {
+            return Err(AllocError);
+        }
+        self.failures += 1;
+        Ok(())
+    }
+
+    /// Counts a change that is refused because the server gave no answer, and says why.
+    fn refuse(&mut self, fault: ServerFault) -> StoreFault
+        ensures down { (result ≡ StoreFault.Down) ↔ (self.old.failures < self.new.failures) }
+        ensures rises { self.old.failures ≤ self.new.failures }
+        ensures not_full { result ≡ StoreFault.Full → ⊥ }
+        ensures last_fault { self.new.last_fault ≡ Some fault }
+        ensures connection { self.new.connection ≡ self.old.connection }
+        ensures same { (self.new.grid ≡ self.old.grid) × (self.new.longest ≡ self.old.longest) }
+    {
+        match self.count(fault) {
+            Ok(()) => StoreFault::Down,
+            Err(_) => StoreFault::NoMemory,
+        }
+    }
+
+    /// The key of a share.
+    fn name_of(&self, index: &[u8; 16], number: u16) -> Result<Vec<u8>, AllocError>
+        ensures { IfOk result (λ name. name.items ≡ key self.now.grid index.now number) }
+    {
+        spell_key(self.connection.alloc, self.grid.as_slice(), index, number)
+    }
+
+    /// The bytes under the key of a share. None where the key has no bytes, which are no share's.
+    fn fetch(&mut self, index: &[u8; 16], number: u16) -> Result<Option<RcSlice<u8>>, ServerFault>
+        ensures given { IfOk result (λ share. IsShareGivenBy
+            self.old.connection.is_open self.old.connection.first
+            (L.talk self.old.connection.link) (L.talk self.new.connection.link)
+            self.old.longest (get_command (key self.old.grid index.now number))
+            (option_map rc_slice_items share)) }
+        ensures some { IfOk result (λ share. IfSome share (λ bytes.
+            0 < length (rc_slice_items bytes))) }
+        ensures well { OnOk result ((self.new.connection.is_open ≡ true)
+            × IsWell self.old.connection.rest self.new.connection.rest) }
+        ensures left { IfErr result (λ fault. IsLeftAfter fault self.old.connection.rest
+            self.new.connection.is_open self.new.connection.rest) }
+        ensures same { (self.new.grid ≡ self.old.grid) × (self.new.longest ≡ self.old.longest)
+            × (self.new.connection.first ≡ self.old.connection.first) }
+        ensures failures { self.new.failures ≡ self.old.failures }
+    {
+        let name = self.name_of(index, number)?;
+        let command = get(self.connection.alloc, &name)?;
+        let limits = Limits {
+            line: 512,
+            bulk: self.longest,
+            elements: 0,
+        };
+        let reply = self.connection.ask(limits, &command)?;
+        match share_in(reply) {
+            Ok(share) => {
+                self.connection.well();
+                lent(share)
+            }
+            Err(fault) => {
+                self.connection.reject(fault);
+                Err(fault)
+            }
+        }
+    }
+
+    /// Whether a share stands there.
+    fn stands(&mut self, index: &[u8; 16], number: u16) -> Result<bool, ServerFault>
+        ensures said { IfOk result (λ said. IsSaidBy
+            self.old.connection.is_open self.old.connection.first
+            (L.talk self.old.connection.link) (L.talk self.new.connection.link)
+            (exists_command (key self.old.grid index.now number)) said) }
+        ensures well { OnOk result ((self.new.connection.is_open ≡ true)
+            × IsWell self.old.connection.rest self.new.connection.rest) }
+        ensures left { IfErr result (λ fault. IsLeftAfter fault self.old.connection.rest
+            self.new.connection.is_open self.new.connection.rest) }
+        ensures same { (self.new.grid ≡ self.old.grid) × (self.new.longest ≡ self.old.longest)
+            × (self.new.connection.first ≡ self.old.connection.first) }
+        ensures failures { self.new.failures ≡ self.old.failures }
+    {
+        let name = self.name_of(index, number)?;
+        let command = exists(self.connection.alloc, &name)?;
+        let reply = self.connection.ask(SHORT, &command)?;
+        self.judge(&reply)
+    }
+
+    /// The numbers of the shares that stand under an index, rising: one exchange asks for all.
+    fn standing(&mut self, index: &[u8; 16]) -> Result<Vec<u16>, ServerFault>
+        ensures said { IfOk result (λ numbers. AreSaidBy
+            self.old.connection.is_open self.old.connection.first
+            (L.talk self.old.connection.link) (L.talk self.new.connection.link)
+            (exists_below self.old.grid index.now self.old.connection.first.settings.made)
+            self.old.connection.first.settings.made numbers.items) }
+        ensures well { OnOk result ((self.new.connection.is_open ≡ true)
+            × IsWell self.old.connection.rest self.new.connection.rest) }
+        ensures left { IfErr result (λ fault. IsLeftAfter fault self.old.connection.rest
+            self.new.connection.is_open self.new.connection.rest) }
+        ensures same { (self.new.grid ≡ self.old.grid) × (self.new.longest ≡ self.old.longest)
+            × (self.new.connection.first ≡ self.old.connection.first) }
+        ensures failures { self.new.failures ≡ self.old.failures }
+    {
+        let alloc = self.connection.alloc;
+        let made = self.connection.first.settings.made;
+        let commands = exist_below(alloc, self.grid.as_slice(), index, made)?;
+        let replies = self.connection.ask_each(&commands, made)?;
+        match numbers_in(alloc, &replies) {
+            Ok(numbers) => {
+                self.connection.well();
+                Ok(numbers)
+            }
+            Err(fault) => {
+                self.connection.reject(fault);
+                Err(fault)
+            }
+        }
+    }
+
+    /// Puts a share's bytes under its key where nothing stands, and says whether it did. Where the answer is lost it
+    /// may be done or not, and stays so: another may have found it standing and said so.
+    fn offer(&mut self, index: &[u8; 16], number: u16, share: &[u8]) -> Result<bool, ServerFault>
+        ensures said { IfOk result (λ said. IsSaidBy
+            self.old.connection.is_open self.old.connection.first
+            (L.talk self.old.connection.link) (L.talk self.new.connection.link)
+            (put_command (key self.old.grid index.now number) share.now) said) }
+        ensures full { IsErrOf result ServerFault.Full → IsRefusedBy
+            self.old.connection.is_open self.old.connection.first
+            (L.talk self.old.connection.link) (L.talk self.new.connection.link)
+            (put_command (key self.old.grid index.now number) share.now) (codes "OOM ") }
+        ensures of_grid { OnOk result ((number < self.old.connection.first.settings.made)
+            × (length share.now ≤ self.old.longest)) }
+        ensures well { OnOk result ((self.new.connection.is_open ≡ true)
+            × IsWell self.old.connection.rest self.new.connection.rest) }
+        ensures left { IfErr result (λ fault. IsLeftAfter fault self.old.connection.rest
+            self.new.connection.is_open self.new.connection.rest) }
+        ensures same { (self.new.grid ≡ self.old.grid) × (self.new.longest ≡ self.old.longest)
+            × (self.new.connection.first ≡ self.old.connection.first) }
+        ensures failures { self.new.failures ≡ self.old.failures }
+    {
+        let made = self.connection.first.settings.made;
+        if number >= made || share.len() > self.longest as usize {
+            return Err(ServerFault::NoShare);
+        }
+        let name = self.name_of(index, number)?;
+        let reply = self.offer_under(&name, share)?;
+        self.judge(&reply)
+    }
+
+    /// The reply to a share's bytes put under a name where nothing stands. Many bytes aren't copied.
+    fn offer_under(&mut self, name: &[u8], share: &[u8]) -> Result<Reply, ServerFault>
+        ensures told { IfOk result (λ reply. (came : List ℕ) × SpellsReply short_limits reply came
+            × IsToldIn self.old.connection.is_open self.old.connection.first
+            (L.talk self.old.connection.link) (L.talk self.new.connection.link)
+            (put_command name.now share.now) came) }
+        ensures open { OnOk result (self.new.connection.is_open ≡ true) }
+        ensures rest { OnOk result (self.new.connection.rest ≡ self.old.connection.rest) }
+        ensures left { IfErr result (λ fault. IsLeftAfter fault self.old.connection.rest
+            self.new.connection.is_open self.new.connection.rest) }
+        ensures not_refused { IfErr result (λ fault. IsErrorReply fault → ⊥) }
+        ensures same { (self.new.grid ≡ self.old.grid) × (self.new.longest ≡ self.old.longest)
+            × (self.new.connection.first ≡ self.old.connection.first) }
+        ensures failures { self.new.failures ≡ self.old.failures }
+    {
+        let alloc = self.connection.alloc;
+        if share.len() <= COPIED {
+            let command = put(alloc, name, share)?;
+            return self.connection.ask(SHORT, &command);
+        }
+        let head = put_head(alloc, name, share.len())?;
+        self.connection.ask_long(&head, share)
+    }
+
+    /// Takes away what stands under the key of a share, and says whether something did.
+    fn erase(&mut self, index: &[u8; 16], number: u16) -> Result<bool, ServerFault>
+        ensures said { IfOk result (λ said. IsSaidBy
+            self.old.connection.is_open self.old.connection.first
+            (L.talk self.old.connection.link) (L.talk self.new.connection.link)
+            (delete_command (key self.old.grid index.now number)) said) }
+        ensures well { OnOk result ((self.new.connection.is_open ≡ true)
+            × IsWell self.old.connection.rest self.new.connection.rest) }
+        ensures left { IfErr result (λ fault. IsLeftAfter fault self.old.connection.rest
+            self.new.connection.is_open self.new.connection.rest) }
+        ensures same { (self.new.grid ≡ self.old.grid) × (self.new.longest ≡ self.old.longest)
+            × (self.new.connection.first ≡ self.old.connection.first) }
+        ensures failures { self.new.failures ≡ self.old.failures }
+    {
+        let name = self.name_of(index, number)?;
+        let command = delete(self.connection.alloc, &name)?;
+        let reply = self.connection.ask(SHORT, &command)?;
+        self.judge(&reply)
+    }
+
+    /// Whether a reply says one or none, and what it leaves of the connection over which it came.
+    fn judge(&mut self, reply: &Reply) -> Result<bool, ServerFault>
+        requires { self.old.connection.is_open ≡ true }
+        ensures said { IfOk result (λ said. SaysWhether said reply.now) }
+        ensures full { IsErrOf result ServerFault.Full → IsErrorOf (codes "OOM ") reply.now }
+        ensures talk { OnOk result
+            (L.talk self.new.connection.link ≡ L.talk self.old.connection.link) }
+        ensures healthy { IfErr result (λ fault. IsErrorReply fault
+            → L.talk self.new.connection.link ≡ L.talk self.old.connection.link) }
+        ensures well { OnOk result ((self.new.connection.is_open ≡ true)
+            × IsWell self.old.connection.rest self.new.connection.rest) }
+        ensures left { IfErr result (λ fault. IsLeftAfter fault self.old.connection.rest
+            self.new.connection.is_open self.new.connection.rest) }
+        ensures same { (self.new.grid ≡ self.old.grid) × (self.new.longest ≡ self.old.longest)
+            × (self.new.connection.first ≡ self.old.connection.first) }
+        ensures failures { self.new.failures ≡ self.old.failures }
+    {
+        match said_in(reply) {
+            Ok(said) => {
+                self.connection.well();
+                Ok(said)
+            }
+            Err(fault) => {
+                self.connection.reject(fault);
+                Err(fault)
+            }
+        }
+    }
+}
+
+/// A share's bytes as they are lent out.
+fn lent(share: Option<Bytes>) -> Result<Option<RcSlice<u8>>, ServerFault>
+    ensures same { IfOk result (λ lent. option_map rc_slice_items lent ≡ share) }
+    ensures fault { IfErr result (λ fault. fault ≡ ServerFault.NoMemory) }
+{
+    match share {
+        Some(bytes) => Ok(Some(RcSlice::from_vec(bytes.into_vec())?)),
+        None => Ok(None),
+    }
+}
+
+impl<L: Link + Drop> Store for RedisStore<L> {
+    ghost honest = { λ store. false };
+
+    ghost shares = { λ store. map.empty };
+
+    ghost room = { λ store. 0 };
+
+    ghost held = { λ store. 0 };
+
+    ghost failures = { λ store. store.failures };
+
+    /// `EXISTS key`.
+    fn has(&mut self, index: [u8; 16], number: u16) -> Result<bool, AllocError>
+        ensures rises { self.old.failures ≤ self.new.failures }
+        ensures failed { self.old.failures < self.new.failures → result ≡ Ok false }
+        ensures said { IfOk result (λ said. self.new.failures ≡ self.old.failures →
+            IsSaidBy
+            self.old.connection.is_open self.old.connection.first
+            (L.talk self.old.connection.link) (L.talk self.new.connection.link)
+            (exists_command (key self.old.grid index number)) said) }
+        ensures well { OnOk result (self.new.failures ≡ self.old.failures →
+            (self.new.connection.is_open ≡ true)
+            × IsWell self.old.connection.rest self.new.connection.rest) }
+        ensures left { self.old.failures < self.new.failures →
+            IsSomeAnd self.new.last_fault (λ fault. IsLeftAfter fault
+            self.old.connection.rest self.new.connection.is_open self.new.connection.rest) }
+        ensures same { (self.new.grid ≡ self.old.grid) × (self.new.longest ≡ self.old.longest)
+            × (self.new.connection.first ≡ self.old.connection.first) }
+    {
+        match self.stands(&index, number) {
+            Ok(found) => Ok(found),
+            Err(ServerFault::NoMemory) => Err(AllocError),
+            Err(fault) => {
+                self.count(fault)?;
+                Ok(false)
+            }
+        }
+    }
+
+    /// `EXISTS key` of each number below the number of shares, in one exchange.
+    fn numbers(&mut self, index: [u8; 16]) -> Result<Vec<u16>, AllocError>
+        ensures rises { self.old.failures ≤ self.new.failures }
+        ensures failed { self.old.failures < self.new.failures →
+            IsOkAnd result (λ numbers. numbers.items ≡ []) }
+        ensures said { IfOk result (λ numbers. self.new.failures ≡ self.old.failures →
+            AreSaidBy
+            self.old.connection.is_open self.old.connection.first
+            (L.talk self.old.connection.link) (L.talk self.new.connection.link)
+            (exists_below self.old.grid index self.old.connection.first.settings.made)
+            self.old.connection.first.settings.made numbers.items) }
+        ensures well { OnOk result (self.new.failures ≡ self.old.failures →
+            (self.new.connection.is_open ≡ true)
+            × IsWell self.old.connection.rest self.new.connection.rest) }
+        ensures left { self.old.failures < self.new.failures →
+            IsSomeAnd self.new.last_fault (λ fault. IsLeftAfter fault
+            self.old.connection.rest self.new.connection.is_open self.new.connection.rest) }
+        ensures same { (self.new.grid ≡ self.old.grid) × (self.new.longest ≡ self.old.longest)
+            × (self.new.connection.first ≡ self.old.connection.first) }
+    {
+        match self.standing(&index) {
+            Ok(numbers) => Ok(numbers),
+            Err(ServerFault::NoMemory) => Err(AllocError),
+            Err(fault) => {
+                self.count(fault)?;
+                Ok(Vec::new(self.connection.alloc))
+            }
+        }
+    }
+
+    /// `GET key`.
+    fn get(&mut self, index: [u8; 16], number: u16) -> Result<Option<RcSlice<u8>>, AllocError>
+        ensures rises { self.old.failures ≤ self.new.failures }
+        ensures failed { self.old.failures < self.new.failures → result ≡ Ok None }
+        ensures given { IfOk result (λ share. self.new.failures ≡ self.old.failures →
+            IsShareGivenBy
+            self.old.connection.is_open self.old.connection.first
+            (L.talk self.old.connection.link) (L.talk self.new.connection.link)
+            self.old.longest (get_command (key self.old.grid index number))
+            (option_map rc_slice_items share)) }
+        ensures some { IfOk result (λ share. IfSome share (λ bytes.
+            0 < length (rc_slice_items bytes))) }
+        ensures well { OnOk result (self.new.failures ≡ self.old.failures →
+            (self.new.connection.is_open ≡ true)
+            × IsWell self.old.connection.rest self.new.connection.rest) }
+        ensures left { self.old.failures < self.new.failures →
+            IsSomeAnd self.new.last_fault (λ fault. IsLeftAfter fault
+            self.old.connection.rest self.new.connection.is_open self.new.connection.rest) }
+        ensures same { (self.new.grid ≡ self.old.grid) × (self.new.longest ≡ self.old.longest)
+            × (self.new.connection.first ≡ self.old.connection.first) }
+    {
+        match self.fetch(&index, number) {
+            Ok(share) => Ok(share),
+            Err(ServerFault::NoMemory) => Err(AllocError),
+            Err(fault) => {
+                self.count(fault)?;
+                Ok(None)
+            }
+        }
+    }
+
+    /// Fails: the server has no order of its shares.
+    fn nth(&mut self, at: u64) -> Result<Option<Share>, AllocError>
+        ensures rises { self.old.failures ≤ self.new.failures }
+        ensures failed { self.old.failures < self.new.failures → result ≡ Ok None }
+        ensures fails { OnOk result (self.old.failures < self.new.failures) }
+        ensures connection { self.new.connection ≡ self.old.connection }
+        ensures same { (self.new.grid ≡ self.old.grid) × (self.new.longest ≡ self.old.longest) }
+    {
+        self.count(ServerFault::NotShared)?;
+        Ok(None)
+    }
+
+    /// `SETNX key bytes`.
+    fn put(&mut self, index: [u8; 16], number: u16, bytes: RcSlice<u8>) -> Result<bool, StoreFault>
+        requires { 0 < length (rc_slice_items bytes) }
+        ensures rises { self.old.failures ≤ self.new.failures }
+        ensures down { IsErrOf result StoreFault.Down ↔ (self.old.failures < self.new.failures) }
+        ensures said { IfOk result (λ said. IsSaidBy
+            self.old.connection.is_open self.old.connection.first
+            (L.talk self.old.connection.link) (L.talk self.new.connection.link)
+            (put_command (key self.old.grid index number) (rc_slice_items bytes)) said) }
+        ensures of_grid { OnOk result ((number < self.old.connection.first.settings.made)
+            × (length (rc_slice_items bytes) ≤ self.old.longest)) }
+        ensures full_said { IsErrOf result StoreFault.Full → IsRefusedBy
+            self.old.connection.is_open self.old.connection.first
+            (L.talk self.old.connection.link) (L.talk self.new.connection.link)
+            (put_command (key self.old.grid index number) (rc_slice_items bytes)) (codes "OOM ") }
+        ensures full_well { IsErrOf result StoreFault.Full →
+            (self.new.connection.is_open ≡ true)
+            × IsWell self.old.connection.rest self.new.connection.rest }
+        ensures well { OnOk result (self.new.failures ≡ self.old.failures →
+            (self.new.connection.is_open ≡ true)
+            × IsWell self.old.connection.rest self.new.connection.rest) }
+        ensures left { self.old.failures < self.new.failures →
+            IsSomeAnd self.new.last_fault (λ fault. IsLeftAfter fault
+            self.old.connection.rest self.new.connection.is_open self.new.connection.rest) }
+        ensures same { (self.new.grid ≡ self.old.grid) × (self.new.longest ≡ self.old.longest)
+            × (self.new.connection.first ≡ self.old.connection.first) }
+    {
+        match self.offer(&index, number, bytes.as_slice()) {
+            Ok(put) => Ok(put),
+            Err(ServerFault::NoMemory) => Err(StoreFault::NoMemory),
+            Err(ServerFault::Full) => Err(StoreFault::Full),
+            Err(fault) => Err(self.refuse(fault)),
+        }
+    }
+
+    /// `DEL key`.
+    fn lose(&mut self, index: [u8; 16], number: u16) -> Result<bool, StoreFault>
+        ensures rises { self.old.failures ≤ self.new.failures }
+        ensures down { IsErrOf result StoreFault.Down ↔ (self.old.failures < self.new.failures) }
+        ensures not_full { IsErrOf result StoreFault.Full → ⊥ }
+        ensures said { IfOk result (λ said. IsSaidBy
+            self.old.connection.is_open self.old.connection.first
+            (L.talk self.old.connection.link) (L.talk self.new.connection.link)
+            (delete_command (key self.old.grid index number)) said) }
+        ensures well { OnOk result (self.new.failures ≡ self.old.failures →
+            (self.new.connection.is_open ≡ true)
+            × IsWell self.old.connection.rest self.new.connection.rest) }
+        ensures left { self.old.failures < self.new.failures →
+            IsSomeAnd self.new.last_fault (λ fault. IsLeftAfter fault
+            self.old.connection.rest self.new.connection.is_open self.new.connection.rest) }
+        ensures same { (self.new.grid ≡ self.old.grid) × (self.new.longest ≡ self.old.longest)
+            × (self.new.connection.first ≡ self.old.connection.first) }
+    {
+        match self.erase(&index, number) {
+            Ok(lost) => Ok(lost),
+            Err(ServerFault::NoMemory) => Err(StoreFault::NoMemory),
+            Err(fault) => Err(self.refuse(fault)),
+        }
+    }
+
+    /// Fails: a share that others read isn't changed.
+    fn toggle(&mut self, index: [u8; 16], number: u16, place: u64) -> Result<bool, StoreFault>
+        ensures rises { self.old.failures ≤ self.new.failures }
+        ensures down { IsErrOf result StoreFault.Down ↔ (self.old.failures < self.new.failures) }
+        ensures not_full { IsErrOf result StoreFault.Full → ⊥ }
+        ensures fails { OnOk result ⊥ }
+        ensures connection { self.new.connection ≡ self.old.connection }
+        ensures same { (self.new.grid ≡ self.old.grid) × (self.new.longest ≡ self.old.longest) }
+    {
+        Err(self.refuse(ServerFault::NotShared))
+    }
+
+    /// 0: the room is the server's, and nobody knows it.
+    fn room(&self) -> u64 {
+        0
+    }
+
+    /// 0: nobody knows what the server holds.
+    fn held(&self) -> u64 {
+        0
+    }
+
+    fn failures(&self) -> u64 {
+        self.failures
+    }
+
+    ghost held_is = { λ store honest. absurd (cc) };
+
+    ghost none_empty = { λ store honest. absurd (cc) };
+
+    ghost fits = { λ store honest. absurd (cc) };
+}

@@ -1,0 +1,16 @@
+use Rattle.std.proofs.Common.{◌<◌, ◌+◌, ℕ, List, length, get_or, subst}
+use Rattle.std.specs.List.{AllWithin}
+use Rattle.std.proofs.lemmas.List.{get_or_default}
+use Rattle.std.proofs.lemmas.List.Elements.{AllWithin-more}
+use Rattle.server_options.specs.Folders.{IsStoreFolder}
+use Rattle.server_options.proofs.options.are_folders_of.Goals as goal
+
+-- what holds of the elements before one, and of it
+one_more : {X : Type 0} (P : X → Type 0) (xs : List X) (i : ℕ) (x : X) → AllWithin P xs 0 i → i < length xs → P (get_or xs i x)
+    → AllWithin P xs 0 (i + 1)
+one_more P xs i x before below holds = AllWithin-more P xs 0 i before (λ d. subst P (get_or_default xs i x d below) holds)
+
+pub loop-path-preserved : goal.loop-path-preserved
+loop-path-preserved c =
+    one_more (λ path. IsStoreFolder c.args.stores.now path.now) c.args.paths.now c.loop-path.path-index _ c.loop-path.invariant c.loop-path-test.true
+    (c.is_folder_of.ensures.yes c.if-not-is_folder_of.false)

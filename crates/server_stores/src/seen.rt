@@ -1,0 +1,139 @@
+//! What is seen of the folders of a grid before one is opened, and in which of them a store would be begun by mistake.
+ghost use Rattle.std.specs.Prelude.{◌≡◌, ◌≢◌, ◌↔◌, All, Any, IfErr, IsFalse, IsTrue, OnOk};
+ghost use Rattle.server_stores.specs.Seen.{IsMistake, IsUnmeant};
+ghost use Rattle.server_stores.specs.declared.folders.Found.TheVariants.{Ours};
+
+use crate::fault::ProgramFault;
+use crate::folders::{Found, named};
+use log::{Log, info, warn};
+
+/// A folder of a grid, as it is seen before one is opened.
+#[derive(Clone, Copy, Debug, PartialEq, Eq)]
+pub struct Seen<'a> {
+    /// Its path.
+    pub folder: &'a str,
+    /// What stands in it.
+    pub found: Found,
+    /// Whether a new store is meant there.
+    pub is_meant: bool,
+}
+
+impl<'a> Seen<'a> {
+    /// A folder in which this was found, where new stores are meant in these.
+    pub fn new(folder: &'a str, found: Found, meant: &[&str]) -> Seen<'a>
+        ensures folder { result.folder.now ≡ folder.now }
+        ensures found { result.found ≡ found }
+        ensures meant { IsTrue result.is_meant → Any (λ path. path.now ≡ folder.now) meant.now }
+        ensures unmeant { IsFalse result.is_meant →
+            All (λ path. path.now ≢ folder.now) meant.now }
+    {
+        Seen {
+            folder,
+            found,
+            is_meant: is_among(meant, folder),
+        }
+    }
+
+    /// Whether a store would be begun in it that isn't meant.
+    fn is_unmeant(&self) -> bool
+        ensures { IsTrue result ↔ IsUnmeant self.now }
+    {
+        match self.found {
+            Found::New => !self.is_meant,
+            Found::Ours => false,
+        }
+    }
+
+    /// Whether it has settings.
+    fn has_settings(&self) -> bool
+        ensures { IsTrue result ↔ (self.now.found ≡ Ours) }
+    {
+        match self.found {
+            Found::New => false,
+            Found::Ours => true,
+        }
+    }
+}
+
+/// Whether a path is one of these.
+fn is_among(paths: &[&str], folder: &str) -> bool
+    ensures yes { IsTrue result → Any (λ path. path.now ≡ folder.now) paths.now }
+    ensures no { IsFalse result → All (λ path. path.now ≢ folder.now) paths.now }
+{
+    for path in paths {
+        if is_path(*path, folder) {
+            return true;
+        }
+    }
+    false
+}
+
+/// Whether two paths are written alike.
+fn is_path(path: &str, other: &str) -> bool
+    ensures { IsTrue result ↔ (path.now ≡ other.now) }
+{
+    path == other
+}
+
+/// Refuses folders that are new, aren't meant to be, and stand beside one with settings. Each is told by its name.
+pub fn refuse_mistakes<R: Eprint>(rt: &R, seen: &[Seen<'_>]) -> Result<(), ProgramFault>
+    ensures ok { OnOk result (All (λ one. ¬ (IsMistake seen.now one)) seen.now) }
+    ensures err { IfErr result (λ fault. (fault ≡ ProgramFault.NewFolder)
+        × Any (λ one. IsMistake seen.now one) seen.now) }
+{
+    if !has_old(seen) {
+        return Ok(());
+    }
+    if !has_unmeant(seen) {
+        return Ok(());
+    }
+    tell_unmeant(rt, seen);
+    Err(ProgramFault::NewFolder)
+}
+
+/// Whether one of the folders has settings.
+fn has_old(seen: &[Seen<'_>]) -> bool
+    ensures yes { IsTrue result → Any (λ one. one.found ≡ Ours) seen.now }
+    ensures no { IsFalse result → All (λ one. one.found ≢ Ours) seen.now }
+{
+    for one in seen {
+        if one.has_settings() {
+            return true;
+        }
+    }
+    false
+}
+
+/// Whether a store would be begun in one of the folders that isn't meant.
+fn has_unmeant(seen: &[Seen<'_>]) -> bool
+    ensures yes { IsTrue result → Any (λ one. IsUnmeant one) seen.now }
+    ensures no { IsFalse result → All (λ one. ¬ (IsUnmeant one)) seen.now }
+{
+    for one in seen {
+        if one.is_unmeant() {
+            return true;
+        }
+    }
+    false
+}
+
+/// Tells each folder in which a store would be begun that isn't meant by its name.
+fn tell_unmeant<R: Eprint>(rt: &R, seen: &[Seen<'_>]) {
+    for one in seen {
+        if one.is_unmeant() {
+            let _ = named(rt, one.folder, ProgramFault::NewFolder);
+        }
+    }
+}
+
+/// Logs which folders are new, and which have settings where a new store is meant.
+pub fn log_new<R: Log>(rt: &R, seen: &[Seen<'_>]) {
+    for one in seen {
+        let folder = one.folder;
+        if one.found == Found::New {
+            info!(rt; "{folder}: a new folder");
+        } else if one.is_meant {
+            warn!(rt; "{folder}: it has settings, so --new says nothing here, and would hide that its disk is gone");
+        }
+    }
+}
