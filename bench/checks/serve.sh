@@ -125,7 +125,23 @@ connections = status["connections"]
 assert connections["opened"] >= 8 * 39, connections
 assert connections["failed"] == connections["late"] == 0, connections
 assert status["received"] > 8 * 1000000 and status["sent"] > 8 * 1000000, status
-' || fail 'the status'
+assert 0 < status["uptime_seconds"] < 600, status
+assert "wozhinnam " + status["version"] == sys.argv[1], status
+' "$("$program" --version)" || fail 'the status'
+$curl "$control/metrics" | python3 -c '
+import re, sys
+said = {"HELP": set(), "TYPE": set()}
+for line in sys.stdin.read().splitlines():
+    if line.startswith("# "):
+        kind, name, text = line[2:].split(" ", 2)
+        assert text and name not in said[kind], line
+        said[kind].add(name)
+    else:
+        name, labels, value = re.fullmatch(r"(wozhinnam_[a-z_]+)(\{[a-z]+=\"[^\"]*\"\})? ([0-9]+)", line).groups()
+        assert name in said["HELP"] and name in said["TYPE"], line
+assert said["HELP"] == said["TYPE"] and len(said["HELP"]) == 16, said
+' || fail 'the lines of the metrics'
+$curl "$control/metrics" | grep -q "^wozhinnam_build_info{version=\"$("$program" --version | cut -d' ' -f2)\"} 1\$" || fail 'the version in the metrics'
 $curl "$control/metrics" | grep -q '^wozhinnam_connections_opened_total [1-9]' || fail 'the metrics'
 for status in 200 206 400 404; do
     before=$($curl "$control/metrics" | sed -n "s/^wozhinnam_replies_total{status=\"$status\"} //p")

@@ -1,5 +1,8 @@
 //! What happened so far.
-ghost use Rattle.std.specs.Prelude.{◌≡◌, ◌+◌, ◌-◌, ◌^◌, min};
+ghost use Rattle.std.specs.Prelude.{◌≡◌, ◌+◌, ◌-◌, ◌/◌, ◌^◌, min};
+ghost use Rattle.std.specs.Duration.{as_nanos};
+
+use std::time::Duration;
 
 /// What happened so far. A number that reached its largest value stays there.
 #[derive(Clone, Copy, Debug, PartialEq, Eq)]
@@ -24,6 +27,8 @@ pub struct Counts {
     pub bytes_in: u64,
     /// Bytes that were written.
     pub bytes_out: u64,
+    /// For how many seconds connections have been served.
+    pub seconds: u64,
 }
 
 impl Counts {
@@ -40,6 +45,7 @@ impl Counts {
           starved = 0;
           bytes_in = 0;
           bytes_out = 0;
+          seconds = 0;
         } }
     {
         Counts {
@@ -53,6 +59,7 @@ impl Counts {
             starved: 0,
             bytes_in: 0,
             bytes_out: 0,
+            seconds: 0,
         }
     }
 
@@ -72,6 +79,13 @@ impl Counts {
         } }
     {
         self.bytes_out = self.bytes_out.saturating_add(count as u64);
+    }
+
+    /// Connections have been served for so long.
+    pub fn lasts(&mut self, time: Duration)
+        ensures { self.new ≡ record self.old { seconds = as_nanos time / 1_000_000_000 } }
+    {
+        self.seconds = time.as_secs();
     }
 
     /// A connection was opened, and so many are open.

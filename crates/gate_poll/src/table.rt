@@ -217,7 +217,7 @@ impl Table {
         ensures due { turns_due self.new.turns.lanes ≡ turns_due self.old.turns.lanes }
     {
         gate_flow::laws::gateways_are_hosted();
-        self.tools.journal.tell(rt);
+        self.tools.passes(rt, now);
         find_late(&self.peers, &self.tools.limits, now, &mut self.cut);
         'late: for _ in 0..self.cut.len() {
             let Some(id) = self.cut.pop() else {

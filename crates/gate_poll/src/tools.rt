@@ -19,6 +19,8 @@ pub struct Tools {
     pub counts: Counts,
     pub journal: Journal,
     pub scratch: Vec<u8>,
+    /// Since when connections are served.
+    began: Instant,
 }
 
 impl Tools {
@@ -29,7 +31,14 @@ impl Tools {
             counts: Counts::new(),
             journal: Journal::new(now),
             scratch: vec![in alloc; 0u8; SCRATCH]?,
+            began: now,
         })
+    }
+
+    /// Tells how many lines were left out, and counts for how long connections have been served.
+    pub fn passes<R: Log>(&mut self, rt: &R, now: Instant) {
+        self.journal.tell(rt);
+        self.counts.lasts(now.duration_since(self.began));
     }
 
     /// Tells and counts why a connection is closed after its turn.

@@ -10,6 +10,9 @@ mod metrics;
 /// Which control request is which, and its answer.
 mod board;
 
+/// The program's version, which `wozhinnam --version` prints too.
+pub const VERSION: &str = "0.1.0";
+
 pub use board::{Asked, Board, Method, asked_by};
 pub use metrics::metrics_text;
 pub use status::status_text;

@@ -1,16 +1,18 @@
 //! Figures in the text format of Prometheus.
+use crate::VERSION;
 use crate::figures::{StoreFigures, reply_figures};
 use gate_core::Tally;
 use gate_poll::Counts;
 use std::alloc::{AllocError, Global};
 
-/// A figure that the program shows.
+/// Figures under one name.
 #[derive(Clone, Copy, Debug, PartialEq, Eq)]
-struct Figure {
-    /// Its name, after the program's.
+struct Family {
+    /// The name, after the program's.
     name: &'static str,
+    /// What the figures are.
+    help: &'static str,
     kind: Kind,
-    value: u64,
 }
 
 /// What a figure does.
@@ -20,6 +22,13 @@ enum Kind {
     Gauge,
     /// It only rises.
     Counter,
+}
+
+/// A figure that is alone under its name.
+#[derive(Clone, Copy, Debug, PartialEq, Eq)]
+struct Figure {
+    family: Family,
+    value: u64,
 }
 
 /// Figures of all stores that have one name.
@@ -39,7 +48,26 @@ impl Kind {
     }
 }
 
+impl Family {
+    /// Its one figure.
+    fn shows(self, value: u64) -> Figure {
+        Figure {
+            family: self,
+            value,
+        }
+    }
+}
+
 impl OfStores {
+    /// Their name.
+    fn family(self) -> Family {
+        match self {
+            OfStores::Room => gauge("store_room_bytes", "Bytes that a store would still take."),
+            OfStores::Held => gauge("store_held_bytes", "Bytes that a store holds."),
+            OfStores::Failures => counter("store_failures_total", "How often a store failed."),
+        }
+    }
+
     /// The figure of one store.
     fn of(self, store: &StoreFigures) -> u64 {
         match self {
@@ -50,7 +78,7 @@ impl OfStores {
     }
 }
 
-/// The figures of the loop, of replies and of each store.
+/// The program's version, and the figures of the loop, of replies and of each store.
 pub fn metrics_text(
     alloc: Global,
     counts: &Counts,
@@ -58,19 +86,32 @@ pub fn metrics_text(
     stores: &[StoreFigures],
 ) -> Result<String, AllocError> {
     let mut text = String::new(alloc);
+    put_version(alloc, &mut text)?;
     for figure in &figures_of(counts) {
         put_figure(alloc, &mut text, figure)?;
     }
     put_replies(alloc, &mut text, tally)?;
-    put_all_stores(alloc, &mut text, stores)?;
+    put_stores(alloc, &mut text, OfStores::Room, stores)?;
+    put_stores(alloc, &mut text, OfStores::Held, stores)?;
+    put_stores(alloc, &mut text, OfStores::Failures, stores)?;
     Ok(text)
+}
+
+/// Puts the program's version: a figure that is always 1, with the version at its name.
+fn put_version(alloc: Global, text: &mut String) -> Result<(), AllocError> {
+    let family = gauge(
+        "build_info",
+        "The version of the program, beside the value 1.",
+    );
+    put_head(alloc, text, family)?;
+    let line = format!(in alloc; "wozhinnam_build_info{{version=\"{}\"}} 1\n", VERSION)?;
+    put_line(text, &line)
 }
 
 /// Puts a figure of the loop.
 fn put_figure(alloc: Global, text: &mut String, figure: &Figure) -> Result<(), AllocError> {
-    put_head(alloc, text, figure.name, figure.kind)?;
-    let value = figure.value;
-    let line = format!(in alloc; "wozhinnam_{} {}\n", figure.name, value)?;
+    put_head(alloc, text, figure.family)?;
+    let line = format!(in alloc; "wozhinnam_{} {}\n", figure.family.name, figure.value)?;
     put_line(text, &line)
 }
 
@@ -79,64 +120,83 @@ fn put_line(text: &mut String, line: &String) -> Result<(), AllocError> {
     text.push_str(line.as_str())
 }
 
-/// Puts the figures of each store.
-fn put_all_stores(
-    alloc: Global,
-    text: &mut String,
-    stores: &[StoreFigures],
-) -> Result<(), AllocError> {
-    put_stores(alloc, text, "store_room_bytes", OfStores::Room, stores)?;
-    put_stores(alloc, text, "store_held_bytes", OfStores::Held, stores)?;
-    put_stores(
-        alloc,
-        text,
-        "store_failures_total",
-        OfStores::Failures,
-        stores,
-    )
-}
-
 /// The figures of the loop.
-fn figures_of(counts: &Counts) -> [Figure; 10] {
+fn figures_of(counts: &Counts) -> [Figure; 11] {
     [
-        gauge("connections", counts.open),
-        counter("connections_opened_total", counts.opened),
-        counter("connections_over_total", counts.over),
-        counter("connections_failed_total", counts.failed),
-        counter("connections_late_total", counts.late),
-        counter("connections_stopped_total", counts.stopped),
-        counter("sockets_refused_total", counts.refused),
-        counter("accept_paused_total", counts.starved),
-        counter("received_bytes_total", counts.bytes_in),
-        counter("sent_bytes_total", counts.bytes_out),
+        gauge("uptime_seconds", "Seconds since connections are served.").shows(counts.seconds),
+        gauge("connections", "Connections that are open.").shows(counts.open),
+        counter("connections_opened_total", "Connections that were opened.").shows(counts.opened),
+        counter(
+            "connections_over_total",
+            "Connections that were closed once they had all their replies.",
+        )
+        .shows(counts.over),
+        counter(
+            "connections_failed_total",
+            "Connections that were cut since their socket failed or memory was refused.",
+        )
+        .shows(counts.failed),
+        counter(
+            "connections_late_total",
+            "Connections that were cut since their time was over.",
+        )
+        .shows(counts.late),
+        counter(
+            "connections_stopped_total",
+            "Connections that were closed since the program was to stop.",
+        )
+        .shows(counts.stopped),
+        counter(
+            "sockets_refused_total",
+            "Sockets that were closed at once, since the system or memory refused them.",
+        )
+        .shows(counts.refused),
+        counter(
+            "accept_paused_total",
+            "How often no socket could be accepted, for want of handles or memory.",
+        )
+        .shows(counts.starved),
+        counter(
+            "received_bytes_total",
+            "Bytes that were read of connections.",
+        )
+        .shows(counts.bytes_in),
+        counter(
+            "sent_bytes_total",
+            "Bytes that were written to connections.",
+        )
+        .shows(counts.bytes_out),
     ]
 }
 
-fn gauge(name: &'static str, value: u64) -> Figure {
-    Figure {
+fn gauge(name: &'static str, help: &'static str) -> Family {
+    Family {
         name,
+        help,
         kind: Kind::Gauge,
-        value,
     }
 }
 
-fn counter(name: &'static str, value: u64) -> Figure {
-    Figure {
+fn counter(name: &'static str, help: &'static str) -> Family {
+    Family {
         name,
+        help,
         kind: Kind::Counter,
-        value,
     }
 }
 
-/// Puts the line that says what a figure does.
-fn put_head(alloc: Global, text: &mut String, name: &str, kind: Kind) -> Result<(), AllocError> {
-    let line = format!(in alloc; "# TYPE wozhinnam_{} {}\n", name, kind.word())?;
-    put_line(text, &line)
+/// Puts the lines that say what the figures are, and what they do.
+fn put_head(alloc: Global, text: &mut String, family: Family) -> Result<(), AllocError> {
+    let help = format!(in alloc; "# HELP wozhinnam_{} {}\n", family.name, family.help)?;
+    put_line(text, &help)?;
+    let kind = format!(in alloc; "# TYPE wozhinnam_{} {}\n", family.name, family.kind.word())?;
+    put_line(text, &kind)
 }
 
 /// Puts the number of replies of each status, by its code.
 fn put_replies(alloc: Global, text: &mut String, tally: &Tally) -> Result<(), AllocError> {
-    put_head(alloc, text, "replies_total", Kind::Counter)?;
+    let family = counter("replies_total", "Replies of each status.");
+    put_head(alloc, text, family)?;
     for replies in &reply_figures(tally) {
         let line = format!(in alloc;
             "wozhinnam_replies_total{{status=\"{}\"}} {}\n",
@@ -151,18 +211,14 @@ fn put_replies(alloc: Global, text: &mut String, tally: &Tally) -> Result<(), Al
 fn put_stores(
     alloc: Global,
     text: &mut String,
-    name: &str,
     what: OfStores,
     stores: &[StoreFigures],
 ) -> Result<(), AllocError> {
-    let kind = match what {
-        OfStores::Failures => Kind::Counter,
-        _ => Kind::Gauge,
-    };
-    put_head(alloc, text, name, kind)?;
+    let family = what.family();
+    put_head(alloc, text, family)?;
     for (at, store) in stores.iter().enumerate() {
         let value = what.of(store);
-        let line = format!(in alloc; "wozhinnam_{}{{store=\"{}\"}} {}\n", name, at, value)?;
+        let line = format!(in alloc; "wozhinnam_{}{{store=\"{}\"}} {}\n", family.name, at, value)?;
         put_line(text, &line)?;
     }
     Ok(())

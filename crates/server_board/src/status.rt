@@ -1,4 +1,5 @@
 //! Figures as JSON.
+use crate::VERSION;
 use crate::figures::{Named, StoreFigures, connection_figures, reply_figures};
 use gate_core::Tally;
 use gate_poll::Counts;
@@ -8,8 +9,8 @@ use std::alloc::{AllocError, Global};
 /// An object's members, by their names.
 type Members = Map<String, Value>;
 
-/// The figures as JSON: of connections, bytes, replies of each status, and each store. `Err` only where memory is
-/// refused.
+/// The version and the figures as JSON: the time so far, connections, bytes, replies of each status, and each store.
+/// `Err` only where memory is refused.
 pub fn status_text(
     alloc: Global,
     counts: &Counts,
@@ -17,11 +18,18 @@ pub fn status_text(
     stores: &[StoreFigures],
 ) -> Result<String, AllocError> {
     let mut members = Map::new(alloc);
+    put(alloc, &mut members, "version", version_json(alloc)?)?;
+    put_number(alloc, &mut members, "uptime_seconds", counts.seconds)?;
     put_number(alloc, &mut members, "received", counts.bytes_in)?;
     put_number(alloc, &mut members, "sent", counts.bytes_out)?;
     put_parts(alloc, &mut members, counts, tally)?;
     put(alloc, &mut members, "stores", stores_json(alloc, stores)?)?;
     Value::Object(members).to_string(alloc)
+}
+
+/// The program's version.
+fn version_json(alloc: Global) -> Result<Value, AllocError> {
+    Ok(Value::String(String::from_str(alloc, VERSION)?))
 }
 
 /// Puts the figures of connections and of replies.

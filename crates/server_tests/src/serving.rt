@@ -470,6 +470,7 @@ fn counts() -> Counts {
         starved: 8,
         bytes_in: 9,
         bytes_out: 10,
+        seconds: 24,
     }
 }
 
@@ -500,7 +501,7 @@ fn the_status_is_json(rt: HostRuntime) -> Result<(), Fail> {
     let text = status_text(rt.alloc(), &counts(), &tally(), STORES.as_slice())?;
     assert!(rt;
         text.as_str()
-            == "{\"connections\":{\"accept_paused\":8,\"failed\":4,\"late\":5,\"open\":1,\"opened\":2,\"over\":3,\"refused\":7,\"stopped\":6},\"received\":9,\"replies\":{\"200\":14,\"206\":15,\"400\":16,\"404\":17,\"405\":18,\"410\":19,\"413\":20,\"416\":21,\"501\":22,\"503\":23},\"sent\":10,\"stores\":[{\"failures\":13,\"held\":12,\"room\":11}]}"
+            == "{\"connections\":{\"accept_paused\":8,\"failed\":4,\"late\":5,\"open\":1,\"opened\":2,\"over\":3,\"refused\":7,\"stopped\":6},\"received\":9,\"replies\":{\"200\":14,\"206\":15,\"400\":16,\"404\":17,\"405\":18,\"410\":19,\"413\":20,\"416\":21,\"501\":22,\"503\":23},\"sent\":10,\"stores\":[{\"failures\":13,\"held\":12,\"room\":11}],\"uptime_seconds\":24,\"version\":\"0.1.0\"}"
     );
     Ok(())
 }
@@ -509,6 +510,9 @@ fn the_status_is_json(rt: HostRuntime) -> Result<(), Fail> {
 fn metrics_have_a_line_each(rt: HostRuntime) -> Result<(), Fail> {
     let text = metrics_text(rt.alloc(), &counts(), &tally(), STORES.as_slice())?;
     let wanted = [
+        "# TYPE wozhinnam_build_info gauge\nwozhinnam_build_info{version=\"0.1.0\"} 1\n",
+        "# TYPE wozhinnam_uptime_seconds gauge\nwozhinnam_uptime_seconds 24\n",
+        "# HELP wozhinnam_connections Connections that are open.\n",
         "# TYPE wozhinnam_connections gauge\nwozhinnam_connections 1\n",
         "# TYPE wozhinnam_connections_late_total counter\nwozhinnam_connections_late_total 5\n",
         "wozhinnam_sent_bytes_total 10\n",
