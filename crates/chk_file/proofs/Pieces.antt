@@ -5,7 +5,7 @@ use Rattle.std.proofs.lemmas.List.{append-nil}
 use Rattle.std.proofs.lemmas.List.FromFn.{length-range_with_len, get_or-range_with_len, map-range_with_len_more}
 use Rattle.std.proofs.lemmas.List.Folds.{concat-append, list_all-append, list_all_at}
 use Rattle.std.proofs.lemmas.Bool.{and_from}
-use Rattle.chk_file.proofs.Tools.{range_next}
+use Rattle.share_store.proofs.Ranges.{range_next}
 
 concat_push : (xs : List (List ℕ)) (x : List ℕ) → concat (xs ++ x ∷ []) ≡ concat xs ++ x
 concat_push xs x = concat-append xs (x ∷ []) ∙ ap (λ ys. concat xs ++ ys) (append-nil x)

@@ -4,6 +4,7 @@ pub mod Nth
 pub mod Parts
 pub mod Places
 pub mod Puts
+pub mod Ranges
 pub mod Sizes
 pub mod Sorted
 pub mod Stands

@@ -1,9 +1,12 @@
--- Read Shares first, then Put, Looked and History. Stored and the laws are how the maps are kept.
+-- Read Shares first, then Put, Looked and History. Stored and the laws are how the maps are kept; Schedule and Answering are
+-- of the stores that tests use.
+pub mod Answering
 pub mod History
 pub mod Looked
 pub mod MapLaws
 pub mod Numbers
 pub mod Put
+pub mod Schedule
 pub mod Shares
 pub mod SizeLaws
 pub mod Stored

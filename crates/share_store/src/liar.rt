@@ -1,6 +1,10 @@
 //! A store that gives what it was told to give.
-ghost use Rattle.std.specs.Prelude.{◌≡◌, false};
+ghost use Rattle.std.specs.Prelude.{◌≡◌, ◌+◌, false, true, None, IfOk, OnOk, OnErr, map as mapped, slice_get};
+ghost use Rattle.std.specs.List.{range_with_len};
+ghost use Rattle.std.specs.Option.{option_map};
+ghost use Rattle.std.specs.Rc.{rc_slice_items};
 ghost use Rattle.std.specs.FinMap as map;
+ghost use Rattle.share_store.specs.Answering.{answers_of, turn_in, turn_of};
 
 use crate::{Share, Store, StoreFault};
 use std::alloc::{AllocError, Global};
@@ -23,6 +27,8 @@ impl Liar {
         ensures room { ⟦<Liar as Store>⟧.room result ≡ 0 }
         ensures held { ⟦<Liar as Store>⟧.held result ≡ 0 }
         ensures failures { ⟦<Liar as Store>⟧.failures result ≡ 0 }
+        ensures answers { answers_of result ≡ mapped rc_slice_items answers.items }
+        ensures turn { turn_of result ≡ 0 }
     {
         Liar {
             answers,
@@ -43,11 +49,17 @@ impl Store for Liar {
 
     ghost failures = { λ store. 0 };
 
-    fn has(&mut self, index: [u8; 16], number: u16) -> Result<bool, AllocError> {
+    fn has(&mut self, index: [u8; 16], number: u16) -> Result<bool, AllocError>
+        ensures says { result ≡ Ok true }
+        ensures same { self.new ≡ self.old }
+    {
         Ok(true)
     }
 
-    fn numbers(&mut self, index: [u8; 16]) -> Result<Vec<u16>, AllocError> {
+    fn numbers(&mut self, index: [u8; 16]) -> Result<Vec<u16>, AllocError>
+        ensures says { IfOk result (λ numbers. numbers.items ≡ range_with_len 0 256) }
+        ensures same { self.new ≡ self.old }
+    {
         let mut numbers = Vec::new(self.alloc);
         for number in 0..256u16 {
             numbers.push(number)?;
@@ -55,7 +67,14 @@ impl Store for Liar {
         Ok(numbers)
     }
 
-    fn get(&mut self, index: [u8; 16], number: u16) -> Result<Option<RcSlice<u8>>, AllocError> {
+    fn get(&mut self, index: [u8; 16], number: u16) -> Result<Option<RcSlice<u8>>, AllocError>
+        ensures says { IfOk result (λ given.
+            option_map rc_slice_items given ≡ slice_get (answers_of self.old) (turn_of self.old)) }
+        ensures answers { answers_of self.new ≡ answers_of self.old }
+        ensures turn { OnOk result
+            (turn_of self.new ≡ turn_in (answers_of self.old) (turn_of self.old + 1)) }
+        ensures refused { OnErr result (turn_of self.new ≡ turn_of self.old) }
+    {
         if self.next >= self.answers.len() {
             self.next = 0;
         }
@@ -69,24 +88,31 @@ impl Store for Liar {
         }
     }
 
-    fn nth(&mut self, at: u64) -> Result<Option<Share>, AllocError> {
+    fn nth(&mut self, at: u64) -> Result<Option<Share>, AllocError>
+        ensures says { result ≡ Ok None }
+        ensures same { self.new ≡ self.old }
+    {
         Ok(None)
     }
 
-    fn put(
-        &mut self,
-        index: [u8; 16],
-        number: u16,
-        bytes: RcSlice<u8>,
-    ) -> Result<bool, StoreFault> {
+    fn put(&mut self, index: [u8; 16], number: u16, bytes: RcSlice<u8>) -> Result<bool, StoreFault>
+        ensures says { result ≡ Ok false }
+        ensures same { self.new ≡ self.old }
+    {
         Ok(false)
     }
 
-    fn lose(&mut self, index: [u8; 16], number: u16) -> Result<bool, StoreFault> {
+    fn lose(&mut self, index: [u8; 16], number: u16) -> Result<bool, StoreFault>
+        ensures says { result ≡ Ok false }
+        ensures same { self.new ≡ self.old }
+    {
         Ok(false)
     }
 
-    fn toggle(&mut self, index: [u8; 16], number: u16, place: u64) -> Result<bool, StoreFault> {
+    fn toggle(&mut self, index: [u8; 16], number: u16, place: u64) -> Result<bool, StoreFault>
+        ensures says { result ≡ Ok false }
+        ensures same { self.new ≡ self.old }
+    {
         Ok(false)
     }
 
