@@ -167,7 +167,7 @@ module _ (g h : State) (id : ℕ) (ids : set.FinSet nat_cmp) (unheld : connectio
   unheld_taken max held found same =
       let is : taken max held ≡ gone = ap (taken max) (sym (gone_is (set.contains ids id) held (sym unheld ∙ found))) ∙ taken_gone max in
       same ∙ same_state (with_held g id (taken max held)) g refl
-      (sym (insert_same g.connections id (taken max held) (found ∙ ap Some (sym (is ∙ gone_is (set.contains ids id) held (sym unheld ∙ found)))))) refl
+      (sym (insert_same g.connections id (taken max held) (found ∙ ap Some (sym (is ∙ gone_is (set.contains ids id) held (sym unheld ∙ found)))))) refl refl
 
   -- what an id without an entry is answered
   pub unheld_answer : {T : Type 0} (r : Result T GatewayFault) (f : Option Held → Option GatewayFault) → MatchOption (f (gone_in ids id)) (IsOk r) (λ e. r ≡ Err e)
@@ -205,17 +205,17 @@ module _ (g : State) (id : ℕ) (old : Held) (found : connection_at g id ≡ Som
       let is = meant (connection_at g id) old held found there in
       let none : held.waiting ≡ [] = subst (λ x. x.waiting ≡ []) is (bare.cut cut) in
       let same : taken (length held.waiting) held ≡ held = λ i. record { secret = held.secret; conn = held.conn; stage = held.stage; waiting = (drop-length held.waiting ∙ sym none) i } in
-      same_state (with_held g id (taken (length held.waiting) held)) g refl (sym (insert_same g.connections id (taken (length held.waiting) held) (there ∙ ap Some (sym same)))) refl
+      same_state (with_held g id (taken (length held.waiting) held)) g refl (sym (insert_same g.connections id (taken (length held.waiting) held) (there ∙ ap Some (sym same)))) refl refl
 
   -- one that ended is put away
   pub ended_forgotten : (h : State) (held : Held) → connection_at g id ≡ Some held → IsBare old → old.stage ≡ stage.Ended
-      → h.settings ≡ g.settings → h.connections ≡ map.insert g.connections id gone → h.grid ≡ g.grid → h ≡ with_held g id (taken (length held.waiting) held)
-  ended_forgotten h held there bare ended settings put grid =
+      → h.settings ≡ g.settings → h.connections ≡ map.insert g.connections id gone → h.grid ≡ g.grid → h.tally ≡ g.tally → h ≡ with_held g id (taken (length held.waiting) held)
+  ended_forgotten h held there bare ended settings put grid counts =
       let is = meant (connection_at g id) old held found there in
       let kept : (held.secret ≡ None) × (held.conn ≡ part_of []) = subst (λ x. (x.secret ≡ None) × (x.conn ≡ part_of [])) is (bare.ended ended) in
       let over : held.stage ≡ stage.Ended = subst (λ x. x.stage ≡ stage.Ended) is ended in
       let same : gone ≡ taken (length held.waiting) held = λ i. record { secret = sym kept.0 i; conn = sym kept.1 i; stage = sym over i; waiting = sym (drop-length held.waiting) i } in
-      is_with_held g h id (taken (length held.waiting) held) settings (put ∙ ap (map.insert g.connections id) same) grid
+      is_with_held g h id (taken (length held.waiting) held) settings (put ∙ ap (map.insert g.connections id) same) grid counts
 
 both_ways : {T E : Type 0} (r : Result T E) (X : Type 0) → OnOk r X → OnErr r X → X
 both_ways (Ok x) X ok err = ok

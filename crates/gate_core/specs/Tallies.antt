@@ -1,8 +1,15 @@
 -- How many replies there were, by status.
-use Rattle.std.specs.Prelude.{ℕ, ◌+◌, ◌-◌, ◌^◌, min}
+use Rattle.std.specs.Prelude.{◌≡◌, ℕ, ◌+◌, ◌-◌, ◌^◌, min, true, List, [], ◌∷◌, ◌++◌, refl}
+use Rattle.std.specs.Coded.{Coded, code_by, coded×, coded_ℕ}
+use Rattle.http_edge.specs.declared.item.Item.{Item}
+use Rattle.http_edge.specs.declared.item.Item.TheVariants.{Request as RequestItem, Continue, Fault}
 use Rattle.http_edge.specs.declared.reply.Status.{Status}
 use Rattle.http_edge.specs.declared.reply.Status.TheVariants as statuses
+use Rattle.http_edge.specs.Judge.{is_head_request}
+use Rattle.http_edge.specs.Reply.{rendered, continue_text}
+use Rattle.web_ops.specs.declared.reply.Reply.{Reply as WebReply}
 use Rattle.gate_core.specs.declared.tally.Tally.{Tally}
+use Rattle.gate_core.specs.Wire.{wire_reply, framing_reply}
 
 abbrev pub nothing_counted : Tally
 nothing_counted = record {
@@ -33,3 +40,35 @@ counted statuses.ContentTooLarge t = record t { content_too_large = one_more t.c
 counted statuses.RangeNotSatisfiable t = record t { range_not_satisfiable = one_more t.range_not_satisfiable }
 counted statuses.NotImplemented t = record t { not_implemented = one_more t.not_implemented }
 counted statuses.ServiceUnavailable t = record t { service_unavailable = one_more t.service_unavailable }
+
+-- ---- the tally of what was answered
+
+-- The text is a reply to an item, as it is sent, and its status was counted, once. The interim answer is no reply: it
+-- counts nothing.
+abbrev pub IsTallied : Item → List ℕ → Tally → Tally → Type 0
+IsTallied (RequestItem head body close) text old new =
+    (given : WebReply) × ((text ≡ rendered (wire_reply given) (is_head_request head) close) × (new ≡ counted (wire_reply given).status old))
+IsTallied Continue text old new = (text ≡ continue_text) × (new ≡ old)
+IsTallied (Fault fault head_only) text old new = (text ≡ rendered (framing_reply fault) head_only true) × (new ≡ counted (framing_reply fault).status old)
+
+-- the output is one answer to each of the items, in their order, and nothing else, and each reply among them was counted
+abbrev pub AreTallied : List Item → List ℕ → Tally → Tally → Type 0
+AreTallied [] output old new = (output ≡ []) × (new ≡ old)
+AreTallied (item ∷ items) output old new =
+    (text : List ℕ) × (more : List ℕ) × (middle : Tally) × (output ≡ text ++ more) × IsTallied item text old middle × AreTallied items more middle new
+
+-- items were answered after what waited, and each reply was counted
+pub record AreTalliedAfter (items : List Item) (before after : List ℕ) (old new : Tally) : Type 0 where
+  pub output : List ℕ
+  pub waits : after ≡ before ++ output
+  pub tallied : AreTallied items output old new
+
+-- ---- how it is stored
+
+-- a tally is stored as the tuple of its numbers
+abbrev pub tally_code : Coded Tally
+tally_code =
+    code_by (ℕ × (ℕ × (ℕ × (ℕ × (ℕ × (ℕ × (ℕ × (ℕ × (ℕ × ℕ))))))))) (coded× coded_ℕ (coded× coded_ℕ (coded× coded_ℕ (coded× coded_ℕ (coded× coded_ℕ (coded× coded_ℕ (coded× coded_ℕ (coded× coded_ℕ (coded× coded_ℕ coded_ℕ)))))))))
+    (λ t. (t.ok, (t.partial_content, (t.bad_request, (t.not_found, (t.method_not_allowed, (t.gone, (t.content_too_large, (t.range_not_satisfiable, (t.not_implemented, t.service_unavailable))))))))))
+    (λ p. record { ok = p.0; partial_content = p.1.0; bad_request = p.1.1.0; not_found = p.1.1.1.0; method_not_allowed = p.1.1.1.1.0; gone = p.1.1.1.1.1.0; content_too_large = p.1.1.1.1.1.1.0; range_not_satisfiable = p.1.1.1.1.1.1.1.0; not_implemented = p.1.1.1.1.1.1.1.1.0; service_unavailable = p.1.1.1.1.1.1.1.1.1 })
+    (λ _. refl)

@@ -6,7 +6,7 @@ use Rattle.gate_core.proofs.Isolating.{isolates_still}
 use Rattle.gate_core.proofs.gateway.Gateway.image.Goals as goal
 
 pub returns-clause-came : goal.returns-clause-came
-returns-clause-came g c = unchanged_came c.self.inside.parameters (with_gone c.self.inside.connections.entries c.self.inside.forgotten) c.self.inside.grid c.write_image.new.self c.args.self.now c.self.view_is c.write_image.ensures.leaves c.came_goes_on.ensures.unchanged (λ all. unchanged_holds _ _ (c.write_image.ensures.unchanged all))
+returns-clause-came g c = unchanged_came c.self.inside.parameters (with_gone c.self.inside.connections.entries c.self.inside.forgotten) c.self.inside.tally c.self.inside.grid c.write_image.new.self c.args.self.now c.self.view_is c.write_image.ensures.leaves c.came_goes_on.ensures.unchanged (λ all. unchanged_holds _ _ (c.write_image.ensures.unchanged all))
 
 pub returns-clause-isolated : goal.returns-clause-isolated
 returns-clause-isolated g c = isolates_still c.came_goes_on.ensures.isolated c.args.self.now _ (returns-clause-came g c)

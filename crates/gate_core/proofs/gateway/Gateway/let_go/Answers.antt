@@ -38,4 +38,4 @@ returns-in-Ok-clause-answer g c =
 pub returns-in-Ok-clause-left : goal.returns-in-Ok-clause-left
 returns-in-Ok-clause-left g c held found =
     let put = ap (with_gone _) c.in-Ok.ensures.ok ∙ put_away c.self.inside.connections.entries _ c.self.inside.forgotten c.args.id c.take_out.ensures.0 ∙ ap (λ m. map.insert m c.args.id gone) (ap (λ s. s.connections) c.self.view_is) in
-    ended_forgotten c.args.self.now c.args.id _ (entry_found c.args.self.now.connections _ _ c.args.id (ap (λ s. s.connections) c.self.view_is) _ c.in-Some.ensures.value) _ held found c.stage.ensures.bare (sym c.stage.ensures.stage ∙ c.in-Ended.is) (ap (λ s. s.settings) c.self.view_is) put (ap (λ s. s.grid) c.self.view_is)
+    ended_forgotten c.args.self.now c.args.id _ (entry_found c.args.self.now.connections _ _ c.args.id (ap (λ s. s.connections) c.self.view_is) _ c.in-Some.ensures.value) _ held found c.stage.ensures.bare (sym c.stage.ensures.stage ∙ c.in-Ended.is) (ap (λ s. s.settings) c.self.view_is) put (ap (λ s. s.grid) c.self.view_is) (ap (λ s. s.tally) c.self.view_is)

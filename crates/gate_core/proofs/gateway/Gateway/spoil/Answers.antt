@@ -11,10 +11,10 @@ use Rattle.gate_core.proofs.Isolating.{isolates_after, isolates_still}
 use Rattle.gate_core.proofs.gateway.Gateway.spoil.Goals as goal
 
 pub returns-clause-came : goal.returns-clause-came
-returns-clause-came g c = spoiled_came c.self.inside.parameters (with_gone c.self.inside.connections.entries c.self.inside.forgotten) c.self.inside.grid c.spoil.new.self c.args.self.now c.self.view_is c.spoil.ensures.leaves c.came_goes_on.ensures.spoiled c.args.server (c.args.index, c.args.number) c.args.place c.spoil.result c.spoil.ensures.ok
+returns-clause-came g c = spoiled_came c.self.inside.parameters (with_gone c.self.inside.connections.entries c.self.inside.forgotten) c.self.inside.tally c.self.inside.grid c.spoil.new.self c.args.self.now c.self.view_is c.spoil.ensures.leaves c.came_goes_on.ensures.spoiled c.args.server (c.args.index, c.args.number) c.args.place c.spoil.result c.spoil.ensures.ok
 
 pub returns-clause-refused : goal.returns-clause-refused
-returns-clause-refused g c = refused_came c.self.inside.parameters (with_gone c.self.inside.connections.entries c.self.inside.forgotten) c.self.inside.grid c.spoil.new.self c.args.self.now c.self.view_is c.spoil.ensures.leaves c.came_goes_on.ensures.unchanged c.spoil.result c.spoil.ensures.err
+returns-clause-refused g c = refused_came c.self.inside.parameters (with_gone c.self.inside.connections.entries c.self.inside.forgotten) c.self.inside.tally c.self.inside.grid c.spoil.new.self c.args.self.now c.self.view_is c.spoil.ensures.leaves c.came_goes_on.ensures.unchanged c.spoil.result c.spoil.ensures.err
 
 pub returns-clause-isolated : goal.returns-clause-isolated
 returns-clause-isolated g c = on_ok_weaker c.spoil.result (isolates_after c.came_goes_on.ensures.isolated c.args.self.now _ _) (returns-clause-came g c)

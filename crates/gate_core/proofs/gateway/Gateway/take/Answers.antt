@@ -23,12 +23,12 @@ returns-clause-given g c =
 pub returns-clause-left : goal.returns-clause-left
 returns-clause-left g c held found =
     let changed = lent c.args.self.now.connections _ _ c.args.id (ap (λ s. s.connections) c.self.view_is) _ c.in-Some.taker.now c.take.new.self c.in-Some.ensures.value (λ some. ((c.get_mut.follows.holds c.take.new.self).3 some).0) in
-    on_ok_weaker c.take.result (left_by c.args.self.now _ c.args.id _ _ (ap (λ s. s.settings) c.self.view_is) changed (taken c.args.max) held (ap (λ s. s.grid) c.self.view_is) found) c.take.ensures.left
+    on_ok_weaker c.take.result (left_by c.args.self.now _ c.args.id _ _ (ap (λ s. s.settings) c.self.view_is) changed (taken c.args.max) held (ap (λ s. s.grid) c.self.view_is) (ap (λ s. s.tally) c.self.view_is) found) c.take.ensures.left
 
 pub returns-clause-err : goal.returns-clause-err
 returns-clause-err g c =
     let changed = lent c.args.self.now.connections _ _ c.args.id (ap (λ s. s.connections) c.self.view_is) _ c.in-Some.taker.now c.take.new.self c.in-Some.ensures.value (λ some. ((c.get_mut.follows.holds c.take.new.self).3 some).0) in
-    on_err_weaker c.take.result (λ same. same_state c.args.self.now _ (ap (λ s. s.settings) c.self.view_is) (Changed-same _ _ _ _ _ changed same) (ap (λ s. s.grid) c.self.view_is)) c.take.ensures.err
+    on_err_weaker c.take.result (λ same. same_state c.args.self.now _ (ap (λ s. s.settings) c.self.view_is) (Changed-same _ _ _ _ _ changed same) (ap (λ s. s.grid) c.self.view_is) (ap (λ s. s.tally) c.self.view_is)) c.take.ensures.err
 
 pub returns-clause-nothing_there : goal.returns-clause-nothing_there
 returns-clause-nothing_there g c none =
@@ -43,7 +43,7 @@ returns-clause-others g c =
 pub returns-clause-came : goal.returns-clause-came
 returns-clause-came g c =
     let changed = lent c.args.self.now.connections _ _ c.args.id (ap (λ s. s.connections) c.self.view_is) _ c.in-Some.taker.now c.take.new.self c.in-Some.ensures.value (λ some. ((c.get_mut.follows.holds c.take.new.self).3 some).0) in
-    if_taken c.take.result _ _ _ (λ given step is. taken_came c.args.self.now _ c.args.id _ _ (ap (λ s. s.settings) c.self.view_is) changed c.came_goes_on.ensures.taken c.args.max given.items (ap (λ s. s.grid) c.self.view_is) step is) c.take.ensures.left c.take.ensures.given
+    if_taken c.take.result _ _ _ (λ given step is. taken_came c.args.self.now _ c.args.id _ _ (ap (λ s. s.settings) c.self.view_is) changed c.came_goes_on.ensures.taken c.args.max given.items (ap (λ s. s.grid) c.self.view_is) (ap (λ s. s.tally) c.self.view_is) step is) c.take.ensures.left c.take.ensures.given
 
 pub returns-clause-isolated : goal.returns-clause-isolated
 returns-clause-isolated g c = IfOk-weaker c.take.result _ _ (λ given. isolates_after c.came_goes_on.ensures.isolated c.args.self.now _ _) (returns-clause-came g c)
@@ -60,12 +60,12 @@ pub returns-in_default-clause-left : goal.returns-in_default-clause-left
 returns-in_default-clause-left g c held found =
     on_ok_if c.nothing_of.result _
     (unheld_taken c.args.self.now _ c.args.id _ (no_entry c.args.self.now.connections _ _ c.args.id (ap (λ s. s.connections) c.self.view_is) c.in_default.ensures.value) c.args.max held found
-    (same_state c.args.self.now _ (ap (λ s. s.settings) c.self.view_is) (ap (λ m. with_gone m.entries c.self.inside.forgotten) c.get_mut.follows.holds-at-none ∙ ap (λ s. s.connections) c.self.view_is) (ap (λ s. s.grid) c.self.view_is)))
+    (same_state c.args.self.now _ (ap (λ s. s.settings) c.self.view_is) (ap (λ m. with_gone m.entries c.self.inside.forgotten) c.get_mut.follows.holds-at-none ∙ ap (λ s. s.connections) c.self.view_is) (ap (λ s. s.grid) c.self.view_is) (ap (λ s. s.tally) c.self.view_is)))
 
 pub returns-in_default-clause-came : goal.returns-in_default-clause-came
 returns-in_default-clause-came g c =
     unheld_came c.args.self.now _ c.args.id _ (no_entry c.args.self.now.connections _ _ c.args.id (ap (λ s. s.connections) c.self.view_is) c.in_default.ensures.value) (λ given. given.items) c.nothing_of.result c.args.max
-    (same_state c.args.self.now _ (ap (λ s. s.settings) c.self.view_is) (ap (λ m. with_gone m.entries c.self.inside.forgotten) c.get_mut.follows.holds-at-none ∙ ap (λ s. s.connections) c.self.view_is) (ap (λ s. s.grid) c.self.view_is))
+    (same_state c.args.self.now _ (ap (λ s. s.settings) c.self.view_is) (ap (λ m. with_gone m.entries c.self.inside.forgotten) c.get_mut.follows.holds-at-none ∙ ap (λ s. s.connections) c.self.view_is) (ap (λ s. s.grid) c.self.view_is) (ap (λ s. s.tally) c.self.view_is))
     c.came_goes_on.ensures.taken c.nothing_of.ensures.answer c.nothing_of.ensures.given
 
 pub returns-in_default-clause-isolated : goal.returns-in_default-clause-isolated
