@@ -14,10 +14,11 @@ use Rattle.gate_core.specs.declared.stage.Stage.{Stage}
 use Rattle.gate_core.specs.declared.stage.Stage.TheVariants as stage
 use Rattle.gate_core.specs.declared.fault.GatewayFault.{GatewayFault}
 use Rattle.gate_core.specs.declared.fault.GatewayFault.TheVariants.{Known, NotOpen, Cut, BadParameters, StillOpen, NoMemory}
+use Rattle.gate_core.specs.declared.tally.Tally.{Tally}
 use Rattle.gate_core.specs.Settings.{Settings}
 use Rattle.gate_core.specs.Events.{Event, Open, Bytes, End, Take, caller_of, piece_of, given_by, is_caller, is_of, calls_of, bytes_of_calls, handed}
 use Rattle.gate_core.specs.Held.{Held, State, connection_at, waiting, waiting_in, is_over, is_closed_in, stage_refusal, cut_refusal, open_refusal, bytes_refusal, take_refusal}
-use Rattle.gate_core.specs.Lefts.{with_held, with_grid, opened, taken, ended, cut}
+use Rattle.gate_core.specs.Lefts.{with_held, with_grid, with_tally, opened, taken, ended, cut}
 use Rattle.gate_core.specs.Served.{IsReceived}
 use Rattle.gate_core.specs.Came.{Opening, Came, IsRoomy, GoesOn}
 use Rattle.gate_core.specs.Faithful.{Faithful, FaithfulAt}
@@ -165,10 +166,10 @@ no_memory (Ok u) fault is only = cc
 no_memory (Err e) fault is only = cc
 
 -- bytes that were refused are no call, nor are those for which memory ran out
-pub refused_led : ((g : State) (events : List Event) (id : ℕ) (held : Held) (grid : GridState) → Faithful g events → connection_at g id ≡ Some held → Faithful (with_grid (with_held g id cut) grid) events)
+pub refused_led : ((g : State) (events : List Event) (id : ℕ) (held : Held) (grid : GridState) (tally : Tally) → Faithful g events → connection_at g id ≡ Some held → Faithful (with_tally (with_grid (with_held g id cut) grid) tally) events)
     → (id : ℕ) (fault : GatewayFault) (r : Result (Unit {0}) GatewayFault) (g h : State) → r ≡ Err fault
     → MatchOption (bytes_refusal (connection_at g id)) (IsOkUnless r NoMemory) (λ e. (r ≡ Err e) × (h ≡ g))
-    → (r ≡ Err NoMemory → h ≡ with_grid (with_held g id cut) h.grid) → ((other : ℕ) → other ≢ id → connection_at h other ≡ connection_at g other) → Leaves g.grid h.grid
+    → (r ≡ Err NoMemory → h ≡ with_tally (with_grid (with_held g id cut) h.grid) h.tally) → ((other : ℕ) → other ≢ id → connection_at h other ≡ connection_at g other) → Leaves g.grid h.grid
     → IsLed id [] g h
 refused_led law id fault r g h is answer left others leaves = by (connection_at g id) refl answer
   where
@@ -182,7 +183,7 @@ refused_led law id fault r g h is answer left others leaves = by (connection_at 
           settings = ap (λ (s : State). s.settings) now;
           leaves = leaves;
           others = others;
-          told = λ events told. subst (λ s. Faithful s (events ++ [])) (sym now) (subst (Faithful (with_grid (with_held g id cut) h.grid)) (sym (append-nil events)) (law g events id held h.grid told found));
+          told = λ events told. subst (λ s. Faithful s (events ++ [])) (sym now) (subst (Faithful (with_tally (with_grid (with_held g id cut) h.grid) h.tally)) (sym (append-nil events)) (law g events id held h.grid h.tally told found));
         }
 
     at : (st : Stage) (held : Held) → connection_at g id ≡ Some held → MatchOption (stage_refusal st) (IsOkUnless r NoMemory) (λ e. (r ≡ Err e) × (h ≡ g)) → IsLed id [] g h

@@ -31,13 +31,21 @@ impl<S: Store> Model for Lobby<S> {
     ghost use Rattle.gate_core.specs.contracts.connection.Connection as held;
     ghost use Rattle.gate_core.specs.Settings.{Settings, settings_code};
     ghost use Rattle.gate_core.specs.Held.{Connections, State};
+    ghost use Rattle.gate_core.specs.declared.tally.Tally.{Tally};
+    ghost use Rattle.gate_core.specs.Tallies.{tally_code};
 
     ghost Value = { State };
 
-    ghost coded = { code_by (Settings × (Connections × GridState))
-        (coded× settings_code (coded× (map.code coded_ℕ held.the_row.coded) grid_code))
-        (λ s. (s.settings, (s.connections, s.grid)))
-        (λ p. record { settings = p.0; connections = p.1.0; grid = p.1.1 }) (λ _. refl) };
+    ghost coded = { code_by (Settings × (Connections × (GridState × Tally)))
+        (coded× settings_code (coded× (map.code coded_ℕ held.the_row.coded)
+        (coded× grid_code tally_code)))
+        (λ s. (s.settings, (s.connections, (s.grid, s.tally))))
+        (λ p. record {
+          settings = p.0;
+          connections = p.1.0;
+          grid = p.1.1.0;
+          tally = p.1.1.1;
+        }) (λ _. refl) };
 
     ghost view = { λ l. l.gateway };
 }
