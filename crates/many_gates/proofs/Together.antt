@@ -37,9 +37,9 @@ others_there theirs all id h within unknown i k has = ⊎_elim
 
 -- a call of which this is held of its connection, and which left this grid
 goes_on : (opening : Opening) (all part new : State) (id : ℕ) (h : Held) (events : List Event) (e : Event) → IsOneOfThem part all → new.settings ≡ part.settings → new.connections ≡ map.insert part.connections id h
-    → Came opening (record { settings = all.settings; connections = map.insert all.connections id h; grid = new.grid }) (events ++ e ∷ []) → GoesOnTogether opening all new id events e
+    → Came opening (record { settings = all.settings; connections = map.insert all.connections id h; grid = new.grid; tally = all.tally }) (events ++ e ∷ []) → GoesOnTogether opening all new id events e
 goes_on opening all part new id h events e is settings connections came = record {
-  after = record { settings = all.settings; connections = map.insert all.connections id h; grid = new.grid };
+  after = record { settings = all.settings; connections = map.insert all.connections id h; grid = new.grid; tally = all.tally };
   came = came;
   part = record {
     settings = settings ∙ is.settings;
@@ -63,7 +63,7 @@ pub together : ReceivedLaw → (opening : Opening) (all part new : State) (event
     → held.stage ≡ OpenStage → IsReceived part new id held piece → IsRoomy all.settings opening (events ++ Bytes id piece ∷ []) → NoneFailed part.grid new.grid
     → GoesOnTogether opening all new id events (Bytes id piece)
 together law opening all part new events id held piece came is found going r roomy calm =
-    let after : State = record { settings = all.settings; connections = map.insert all.connections id r.after; grid = new.grid } in
+    let after : State = record { settings = all.settings; connections = map.insert all.connections id r.after; grid = new.grid; tally = all.tally } in
     let fed : IsFed all.settings piece held r.after all.grid new.grid =
     subst (λ (s : Settings). IsFed s piece held r.after all.grid new.grid) is.settings (subst (λ (g : GridState). IsFed part.settings piece held r.after g new.grid) is.grid r.fed) in
     let received : IsReceived all after id held piece = record { after = r.after; settings = refl; connections = refl; fed = fed } in
@@ -74,9 +74,9 @@ together law opening all part new events id held piece came is found going r roo
 
 -- with this held of the connection, over the grid of all
 same_grid : (opening : Opening) (all part : State) (id : ℕ) (h : Held) (events : List Event) → IsOneOfThem part all → Came opening (with_held all id h) events
-    → Came opening (record { settings = all.settings; connections = map.insert all.connections id h; grid = part.grid }) events
+    → Came opening (record { settings = all.settings; connections = map.insert all.connections id h; grid = part.grid; tally = all.tally }) events
 same_grid opening all part id h events is came =
-    subst (λ (g : GridState). Came opening (record { settings = all.settings; connections = map.insert all.connections id h; grid = g }) events) (sym is.grid) came
+    subst (λ (g : GridState). Came opening (record { settings = all.settings; connections = map.insert all.connections id h; grid = g; tally = all.tally }) events) (sym is.grid) came
 
 pub quiet : (opening : Opening) (all part : State) (id : ℕ) (h : Held) (events : List Event) (e : Event) → IsOneOfThem part all → Came opening (with_held all id h) (events ++ e ∷ [])
     → GoesOnTogether opening all (with_held part id h) id events e

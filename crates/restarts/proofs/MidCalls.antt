@@ -20,6 +20,7 @@ use Rattle.chk_file.specs.Marks.{shown, put_marks}
 use Rattle.chk_file.specs.World.{World, with_file}
 use Rattle.web_ops.specs.Changes.{IsBegunIn}
 use Rattle.web_ops.specs.Uploads.{after_stored}
+use Rattle.gate_core.specs.declared.tally.Tally.{Tally}
 use Rattle.gate_core.specs.Settings.{Settings, under}
 use Rattle.gate_core.specs.Items.{Entry, Asked, Lost, Spoiled, entries_of_items}
 use Rattle.gate_core.specs.Runs.{upload_by, after_entry}
@@ -86,9 +87,9 @@ module _ (put : PutLaw) (settings : Settings) (id : ℕ) (secret : List ℕ) whe
       items_cut items (stood old) d (cut_steps settings.servers (steps_of (under settings secret) items) old new d servers (steps_begun (under settings secret) items old new begun) left)
 
   -- where memory ran out, the item at which it did is the last of them
-  pub stopped_cut : (items : List Item) (old new : GridState) (d : Standing) (stopped : IsStopped settings secret items old new) → IsHonest old → length old.stores ≡ settings.servers → AreLeftIn old new d
+  pub stopped_cut : (items : List Item) (old new : GridState) (d : Standing) (t u : Tally) (stopped : IsStopped settings secret items old new t u) → IsHonest old → length old.stores ≡ settings.servers → AreLeftIn old new d
       → AreCutOff settings (stood old) (entries_of_items id secret (take (stopped.done + 1) items)) d
-  stopped_cut items old new d stopped honest servers left = by_next (slice_get items stopped.done) refl (stopped.begun honest)
+  stopped_cut items old new d t u stopped honest servers left = by_next (slice_get items stopped.done) refl (stopped.begun honest)
     where
       before : AreBegunBy (steps_of (under settings secret) (take stopped.done items)) old stopped.middle
       before = steps_begun (under settings secret) (take stopped.done items) old stopped.middle (stopped.served.begun honest)

@@ -11,7 +11,7 @@ returns c =
           begun_cut laws.put old.settings id (secret_at old.settings held) (frame_from held.conn piece) old.grid new.grid d servers (done.fed.served.begun honest) left;
       proper = λ old new id held piece sharing done. all_proper old.settings id (secret_at old.settings held) (frame_from held.conn piece) sharing done.fed.served.bytes;
       cut_short = λ old new id held piece d short honest servers left.
-          stopped_cut laws.put old.settings id (secret_at old.settings held) (frame_from held.conn piece) old.grid new.grid d short.stopped honest servers left;
+          stopped_cut laws.put old.settings id (secret_at old.settings held) (frame_from held.conn piece) old.grid new.grid d old.tally new.tally short.stopped honest servers left;
       lost = lost_cut laws.lost;
       spoiled = spoiled_cut laws.spoiled;
     }
