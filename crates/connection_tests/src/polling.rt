@@ -380,12 +380,31 @@ fn bytes_of_a_request_count_from_the_first_one(rt: HostRuntime) -> Result<(), Fa
     let mut pace = Pace::new(begin);
     assert!(rt; !pace.is_late(after(begin, 60_000)?, &limits));
     assert!(rt; pace.is_late(after(begin, 60_001)?, &limits));
-    pace.moves(after(begin, 59_000)?, 1);
+    pace.moves(after(begin, 59_000)?, 1, &limits);
     assert!(rt; !pace.is_late(after(begin, 69_000)?, &limits));
     assert!(rt; pace.is_late(after(begin, 69_001)?, &limits));
-    pace.moves(after(begin, 60_000)?, 2047);
+    pace.moves(after(begin, 60_000)?, 2047, &limits);
     assert!(rt; !pace.is_late(after(begin, 71_000)?, &limits));
     assert!(rt; pace.is_late(after(begin, 71_001)?, &limits));
+    Ok(())
+}
+
+#[test]
+fn bytes_of_a_request_that_came_fast_allow_for_no_slow_ones(rt: HostRuntime) -> Result<(), Fail> {
+    let begin = Instant::now(&rt)?;
+    let limits = Limits::new(10, Duration::from_secs(60));
+    let mut pace = Pace::new(begin);
+    pace.moves(begin, 16_000_000, &limits);
+    pace.moves(after(begin, 59_000)?, 1, &limits);
+    assert!(rt; !pace.is_late(after(begin, 118_000)?, &limits));
+    // A minute after the first byte the count begins anew: a byte now and then isn't enough.
+    pace.moves(after(begin, 118_000)?, 1, &limits);
+    pace.moves(after(begin, 177_000)?, 1, &limits);
+    assert!(rt; !pace.is_late(after(begin, 178_000)?, &limits));
+    assert!(rt; pace.is_late(after(begin, 178_001)?, &limits));
+    // Bytes at the rate that is asked for are.
+    pace.moves(after(begin, 178_000)?, 65_536, &limits);
+    assert!(rt; !pace.is_late(after(begin, 178_001)?, &limits));
     Ok(())
 }
 
@@ -395,16 +414,16 @@ fn bytes_of_a_reply_count_once_a_write_blocked(rt: HostRuntime) -> Result<(), Fa
     let limits = Limits::new(10, Duration::from_secs(60));
     let mut pace = Pace::new(begin);
     pace.turns(begin, Way::Takes);
-    pace.moves(begin, 10_000_000);
+    pace.moves(begin, 10_000_000, &limits);
     pace.blocks(after(begin, 1000)?, &limits);
-    pace.moves(after(begin, 31_000)?, 2048);
+    pace.moves(after(begin, 31_000)?, 2048, &limits);
     pace.blocks(after(begin, 31_000)?, &limits);
     assert!(rt; !pace.is_late(after(begin, 63_000)?, &limits));
     assert!(rt; pace.is_late(after(begin, 63_001)?, &limits));
     // After a minute the count begins anew.
-    pace.moves(after(begin, 61_000)?, 1_000_000);
+    pace.moves(after(begin, 61_000)?, 1_000_000, &limits);
     pace.blocks(after(begin, 61_000)?, &limits);
-    pace.moves(after(begin, 101_000)?, 1024);
+    pace.moves(after(begin, 101_000)?, 1024, &limits);
     assert!(rt; !pace.is_late(after(begin, 122_000)?, &limits));
     assert!(rt; pace.is_late(after(begin, 122_001)?, &limits));
     Ok(())

@@ -190,6 +190,11 @@ reported read write next id lanes left p None t told gone was = subst (λ (x : O
 reported read write next id lanes left p (Some a) None told gone was = absurd told
 reported read write next id lanes left p (Some a) (Some b) told gone was = seat_reported next id p (Some a) (Some b) a b read write refl refl told.0 was
 
+pub informed : (read write : Bool) (id : ℕ) (lanes left : LanesState) (s t : Option Seat) → IsTold read write id lanes left s t → IfSome s (λ was. IsSomeAnd t (λ now. IsReported was now read write))
+informed read write id lanes left None t told = tt
+informed read write id lanes left (Some a) None told = absurd told
+informed read write id lanes left (Some a) (Some b) told = told.0
+
 pub due_reported : (read write : Bool) (id : ℕ) (lanes left : LanesState) (s t : Option Seat) → IsTold read write id lanes left s t → (s ≡ None → left ≡ lanes) → turns_due left ≡ turns_due lanes
 due_reported read write id lanes left None t told gone = ap turns_due (gone refl)
 due_reported read write id lanes left (Some a) None told gone = absurd told

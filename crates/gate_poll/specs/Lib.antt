@@ -4,3 +4,5 @@ pub mod Journal
 pub mod Peers
 pub mod Table
 pub mod Foreign
+pub mod Events
+pub mod Arrivals

@@ -1,10 +1,11 @@
 -- What is kept of connections, and what the loop does to the gateway.
-use Rattle.std.specs.Prelude.{◌≡◌, ◌≢◌, ℕ, ◌≤◌, ⊤, true, false, List, Option, Some, None}
+use Rattle.std.specs.Prelude.{◌≡◌, ◌≢◌, ℕ, ◌≤◌, ◌⊎◌, ⊤, true, false, List, Option, Some, None}
 use Rattle.std.specs.Ordering.{nat_cmp}
 use Rattle.std.specs.Map.{lookup}
 use Rattle.std.specs.BTreeMap.{is_at}
-use Rattle.gate_core.specs.Held.{State}
-use Rattle.gate_flow.specs.Hosted.{IsHosted, IsOwnId}
+use Rattle.gate_core.specs.Held.{Held, State, connection_at}
+use Rattle.gate_flow.specs.Led.{IsGivenUp}
+use Rattle.gate_flow.specs.Hosted.{IsForgotten, IsHosted, IsOwnId}
 use Rattle.gate_turns.specs.declared.seat.Seat.{Seat}
 use Rattle.gate_turns.specs.declared.seat.Turned.{Turned}
 use Rattle.gate_turns.specs.Turns.{TurnsState, seat_at}
@@ -84,3 +85,28 @@ pub record ArePeersServed (before next : ℕ) (peers : List (ℕ × Peer)) (turn
 
 abbrev pub Serves : Table → Table → State → State → Type 0
 Serves old new g h = ArePeersServed old.ids.next new.ids.next new.peers.entries new.turns g h
+
+-- A connection was closed and then forgotten, and this is held of it since.
+pub record IsLetGo (id : ℕ) (held : Option Held) : Type 0 where
+  pub before : State
+  pub closed : State
+  pub after : State
+  pub given_up : IsGivenUp id before closed
+  pub forgotten : IsForgotten id closed after
+  pub since : held ≡ connection_at after id
+
+-- of one that isn't kept: it was let go, or it wasn't kept before either, and is as it was
+abbrev pub HasGone : Type 0 → ℕ → Option Peer → State → State → Type 0
+HasGone forgot id was g h = (forgot × IsLetGo id (connection_at h id)) ⊎ ((was ≡ None) × (connection_at h id ≡ connection_at g id))
+
+-- Each connection that is kept no more was closed and then forgotten. Those for which that was called before are told still.
+pub record AreLetGo (was now : ℕ → Type 0) (old new : List (ℕ × Peer)) (g h : State) : Type 0 where
+  pub still : (id : ℕ) → was id → now id
+  pub each : (id : ℕ) → peer_in new id ≡ None → HasGone (now id) id (peer_in old id) g h
+
+abbrev pub LetsGo : (ℕ → Type 0) → (ℕ → Type 0) → Table → Table → State → State → Type 0
+LetsGo was now old new g h = AreLetGo was now old.peers.entries new.peers.entries g h
+
+-- a connection is as it was before serving, or it was let go
+abbrev pub IsOverAt : Option Held → Option Held → ℕ → Type 0
+IsOverAt old new id = (new ≡ old) ⊎ IsLetGo id new

@@ -1,7 +1,8 @@
 //! The connections of a control listener.
-ghost use Rattle.std.specs.Prelude.{◌≡◌, false, IfOk, IfSome};
+ghost use Rattle.std.specs.Prelude.{◌≡◌, ◌<◌, ◌≤◌, false, IfOk, IfSome};
 ghost use Rattle.http_edge.specs.Judge.{is_head_request};
 ghost use Rattle.gate_poll.specs.Foreign.{foreign_in, refusal};
+ghost use Rattle.gate_poll.specs.declared.control.Goes.TheVariants as goes;
 
 use crate::counts::Counts;
 use crate::foreign::{Here, foreign_by, refusal};
@@ -185,7 +186,9 @@ impl Caller {
         counts: &Counts,
         gateway: &Gateway<S>,
         stops: &mut bool,
-    ) -> Goes {
+    ) -> Goes
+        ensures limit { self.old.taken ≤ 16384 → 16384 < self.new.taken → result ≡ goes.Over }
+    {
         let count = match (&self.stream).read(scratch) {
             Ok(0) => return Goes::Over,
             Ok(count) => count,
@@ -211,7 +214,9 @@ impl Caller {
         control: &mut C,
         counts: &Counts,
         gateway: &Gateway<S>,
-    ) -> Result<bool, AllocError> {
+    ) -> Result<bool, AllocError>
+        ensures { self.new.taken ≡ self.old.taken }
+    {
         for item in self.conn.feed(piece)? {
             match item {
                 Item::Request { head, .. } => {
@@ -232,7 +237,9 @@ impl Caller {
     }
 
     /// Says a reply, and nothing after it.
-    fn say(&mut self, reply: &[u8]) -> Result<(), AllocError> {
+    fn say(&mut self, reply: &[u8]) -> Result<(), AllocError>
+        ensures { self.new.taken ≡ self.old.taken }
+    {
         self.said.extend_from_slice(reply)?;
         self.phase = Phase::Told;
         Ok(())

@@ -22,6 +22,8 @@ mod sockets;
 mod tools;
 /// One connection with its socket.
 mod peer;
+/// How connections that are over are forgotten.
+mod forget;
 /// The connections by their ids.
 mod table;
 /// Control requests that come from elsewhere.

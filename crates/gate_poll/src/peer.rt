@@ -290,7 +290,7 @@ impl Peer {
         }
         match self.flow.read_from(&mut &self.stream) {
             Ok(Step::Went(count)) => {
-                self.pace.moves(moment.now, count);
+                self.pace.moves(moment.now, count, &tools.limits);
                 tools.counts.reads(count);
                 self.advance(rt, lobby, Want::Read, moment)
             }
@@ -318,7 +318,7 @@ impl Peer {
         }
         match self.flow.write_to(&mut &self.stream) {
             Ok(Step::Went(count)) => {
-                self.pace.moves(moment.now, count);
+                self.pace.moves(moment.now, count, &tools.limits);
                 tools.counts.writes(count);
                 self.advance(rt, lobby, Want::Write, moment)
             }

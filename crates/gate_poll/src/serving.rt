@@ -1,12 +1,17 @@
 //! The loop.
-ghost use Rattle.std.specs.Prelude.{◌≡◌, ◌≤◌, ℕ, IfOk};
+ghost use Rattle.std.specs.Prelude.{◌≡◌, ◌≤◌, ◌<◌, ◌-◌, ◌^◌, ◌↔◌, ◌⊎◌, ℕ, IfOk, IsTrue, IsSomeAnd};
+ghost use Rattle.gate_core.specs.Held.{connection_at};
 ghost use Rattle.gate_flow.specs.Hosted.{IsHosted};
+ghost use Rattle.mio.specs.Event.{event_token};
+ghost use Rattle.gate_turns.specs.Door.{MayAccept};
 ghost use Rattle.gate_turns.specs.Lanes.{turns_due};
-ghost use Rattle.gate_poll.specs.Table.{IsTableKept, Serves};
+ghost use Rattle.gate_poll.specs.Events.{IsInformed, IsKnocked, wakes_reader, wakes_writer};
+ghost use Rattle.gate_poll.specs.Table.{IsTableKept, Serves, LetsGo, IsLetGo, IsOverAt};
 
 use crate::control::{Control, Desk};
 use crate::counts::Counts;
 use crate::fault::ServeFault;
+use crate::forget::{Forget, Forgetter};
 use crate::limits::Limits;
 use crate::sockets::{Arrival, Entrance, register};
 use crate::table::Table;
@@ -54,7 +59,8 @@ struct Gate {
 
 /// Serves connections, all at once, until so many were served as the limits say, or a control request asked that
 /// serving stop. Each has an id of its own: the gateway is called for connections of ids from 1 on alone, which are opened
-/// under its own secret, and nothing else of it is changed.
+/// under its own secret, and nothing else of it is changed. In the end none is open: each connection of the gateway is as
+/// it was before, or was closed and then forgotten.
 pub fn serve_on<S: Store, R: Net + Clock + CpuClock + AllocGlobal + Log, C: Control<S>>(
     rt: &R,
     listener: TcpListener,
@@ -64,6 +70,25 @@ pub fn serve_on<S: Store, R: Net + Clock + CpuClock + AllocGlobal + Log, C: Cont
     answers: &mut C,
 ) -> Result<Counts, ServeFault>
     ensures hosted { (next : ℕ) × IsHosted 1 next lobby.old lobby.new }
+    ensures over { (id : ℕ) → IsOverAt (connection_at lobby.old id) (connection_at lobby.new id) id }
+{
+    let mut forgets = Forgetter;
+    serve_all(rt, listener, control, limits, lobby, &mut forgets, answers)
+}
+
+/// Serves connections, and has those forgotten that are over.
+fn serve_all<S: Store, F: Forget, R: Net + Clock + CpuClock + AllocGlobal + Log, C: Control<S>>(
+    rt: &R,
+    listener: TcpListener,
+    control: Option<TcpListener>,
+    limits: &Limits,
+    lobby: &mut Lobby<S>,
+    forgets: &mut F,
+    answers: &mut C,
+) -> Result<Counts, ServeFault>
+    ensures hosted { (next : ℕ) × IsHosted 1 next lobby.old lobby.new }
+    ensures over { (id : ℕ) → (connection_at lobby.new id ≡ connection_at lobby.old id)
+        ⊎ (F.forgot forgets.new id × IsLetGo id (connection_at lobby.new id)) }
 {
     gate_flow::laws::gateways_are_hosted();
     let mut events = Events::with_capacity(rt.alloc(), EVENTS)?;
@@ -77,9 +102,10 @@ pub fn serve_on<S: Store, R: Net + Clock + CpuClock + AllocGlobal + Log, C: Cont
         &mut desk,
         limits,
         lobby,
+        forgets,
         answers,
     );
-    table.give_up_all(lobby);
+    table.give_up_all(lobby, forgets);
     match ended {
         Ok(()) => Ok(table.tools.counts),
         Err(fault) => Err(fault),
@@ -91,6 +117,7 @@ fn mark(events: &Events, gate: &mut Gate, table: &mut Table, desk: &mut Desk)
     requires { IsTableKept table.old }
     ensures kept { IsTableKept table.new }
     ensures ids { table.new.ids ≡ table.old.ids }
+    ensures peers { table.new.peers ≡ table.old.peers }
     ensures due { turns_due table.new.turns.lanes ≡ turns_due table.old.turns.lanes }
 {
     for event in events {
@@ -98,22 +125,39 @@ fn mark(events: &Events, gate: &mut Gate, table: &mut Table, desk: &mut Desk)
     }
 }
 
-/// Marks one that was reported ready.
+/// Marks one that was reported ready: a listener by its token, or a connection.
 fn mark_one(event: &Event, gate: &mut Gate, table: &mut Table, desk: &mut Desk)
     requires { IsTableKept table.old }
     ensures kept { IsTableKept table.new }
     ensures ids { table.new.ids ≡ table.old.ids }
+    ensures peers { table.new.peers ≡ table.old.peers }
     ensures due { turns_due table.new.turns.lanes ≡ turns_due table.old.turns.lanes }
+    ensures knocked { (event_token event.now).0 ≡ 2 ^ 64 - 1 →
+        IsKnocked gate.old.entrance gate.new.entrance }
+    ensures told { (event_token event.now).0 < 2 ^ 64 - 2 →
+        IsInformed (event_token event.now).0 (wakes_reader event.now) (wakes_writer event.now)
+        table.old.turns table.new.turns }
 {
-    let Token(token) = event.token();
     if event.token() == LISTENER {
         knock(&mut gate.entrance);
-        return;
-    }
-    if event.token() == CONTROL {
+    } else if event.token() == CONTROL {
         knock(&mut gate.control);
-        return;
+    } else {
+        report(event, table, desk);
     }
+}
+
+/// Tells a connection what an event says of its socket.
+fn report(event: &Event, table: &mut Table, desk: &mut Desk)
+    requires { IsTableKept table.old }
+    ensures kept { IsTableKept table.new }
+    ensures ids { table.new.ids ≡ table.old.ids }
+    ensures peers { table.new.peers ≡ table.old.peers }
+    ensures due { turns_due table.new.turns.lanes ≡ turns_due table.old.turns.lanes }
+    ensures told { IsInformed (event_token event.now).0 (wakes_reader event.now)
+        (wakes_writer event.now) table.old.turns table.new.turns }
+{
+    let Token(token) = event.token();
     let readable = event.is_readable() || event.is_read_closed() || event.is_error();
     let writable = event.is_writable() || event.is_write_closed() || event.is_error();
     table.is_ready(token as u64, readable, writable);
@@ -121,14 +165,18 @@ fn mark_one(event: &Event, gate: &mut Gate, table: &mut Table, desk: &mut Desk)
 }
 
 /// Connections may wait to be accepted.
-fn knock(entrance: &mut Option<Entrance>) {
+fn knock(entrance: &mut Option<Entrance>)
+    ensures { IsKnocked entrance.old entrance.new }
+{
     if let Some(entrance) = entrance {
         entrance.door.knocks();
     }
 }
 
 /// Whether one may be accepted now, where there is room for it or not.
-fn may_accept(entrance: &Option<Entrance>, now: Instant, room: bool) -> bool {
+fn may_accept(entrance: &Option<Entrance>, now: Instant, room: bool) -> bool
+    ensures { IsTrue result ↔ IsSomeAnd entrance.now (λ entrance. MayAccept entrance.door now room) }
+{
     match entrance {
         Some(entrance) => entrance.door.may_accept(now, room),
         None => false,
@@ -159,7 +207,7 @@ impl Gate {
     }
 
     /// Serves, a round after the other, until that is over.
-    fn serve<S: Store, R: Clock + CpuClock + Log, C: Control<S>>(
+    fn serve<S: Store, F: Forget, R: Clock + CpuClock + Log, C: Control<S>>(
         &mut self,
         rt: &R,
         events: &mut Events,
@@ -167,15 +215,18 @@ impl Gate {
         desk: &mut Desk,
         limits: &Limits,
         lobby: &mut Lobby<S>,
+        forgets: &mut F,
         answers: &mut C,
     ) -> Result<(), ServeFault>
         requires kept { IsTableKept table.old }
         requires over { turns_due table.old.turns.lanes ≡ 0 }
         ensures served { Serves table.old table.new lobby.old lobby.new }
+        ensures let_go { LetsGo (F.forgot forgets.old) (F.forgot forgets.new) table.old table.new
+            lobby.old lobby.new }
     {
         gate_flow::laws::gateways_are_hosted();
         'rounds: for _ in 0..u64::MAX {
-            if self.round(rt, events, table, desk, limits, lobby, answers)? {
+            if self.round(rt, events, table, desk, limits, lobby, forgets, answers)? {
                 return Ok(());
             }
         }
@@ -184,7 +235,7 @@ impl Gate {
 
     /// One round: what is ready is marked, some are accepted, and those that have a turn to come have it. It is said
     /// whether serving is over.
-    fn round<S: Store, R: Clock + CpuClock + Log, C: Control<S>>(
+    fn round<S: Store, F: Forget, R: Clock + CpuClock + Log, C: Control<S>>(
         &mut self,
         rt: &R,
         events: &mut Events,
@@ -192,11 +243,14 @@ impl Gate {
         desk: &mut Desk,
         limits: &Limits,
         lobby: &mut Lobby<S>,
+        forgets: &mut F,
         answers: &mut C,
     ) -> Result<bool, ServeFault>
         requires kept { IsTableKept table.old }
         requires over { turns_due table.old.turns.lanes ≡ 0 }
         ensures served { Serves table.old table.new lobby.old lobby.new }
+        ensures let_go { LetsGo (F.forgot forgets.old) (F.forgot forgets.new) table.old table.new
+            lobby.old lobby.new }
         ensures over { turns_due table.new.turns.lanes ≡ 0 }
     {
         gate_flow::laws::gateways_are_hosted();
@@ -204,12 +258,12 @@ impl Gate {
         self.poll.poll(events, Some(time))?;
         mark(events, self, table, desk);
         let now = Instant::now(rt)?;
-        self.accept_some(rt, table, lobby, now);
+        self.accept_some(rt, table, lobby, forgets, now);
         self.accept_control(table, desk, now);
-        table.round(rt, lobby, now);
+        table.round(rt, lobby, forgets, now);
         desk.round(answers, &table.tools.counts, lobby.gateway());
-        self.sweep(rt, table, desk, lobby, now);
-        Ok(self.is_over(rt, table, desk, limits, lobby, now))
+        self.sweep(rt, table, desk, lobby, forgets, now);
+        Ok(self.is_over(rt, table, desk, limits, lobby, forgets, now))
     }
 
     /// How long it may be waited for sockets: not at all while a turn is to come, or a connection may be accepted.
@@ -225,15 +279,18 @@ impl Gate {
     }
 
     /// Accepts some of those that wait, while there is room.
-    fn accept_some<S: Store, R: Log>(
+    fn accept_some<S: Store, F: Forget, R: Log>(
         &mut self,
         rt: &R,
         table: &mut Table,
         lobby: &mut Lobby<S>,
+        forgets: &mut F,
         now: Instant,
     )
         requires { IsTableKept table.old }
         ensures served { Serves table.old table.new lobby.old lobby.new }
+        ensures let_go { LetsGo (F.forgot forgets.old) (F.forgot forgets.new) table.old table.new
+            lobby.old lobby.new }
         ensures due { turns_due table.new.turns.lanes ≡ turns_due table.old.turns.lanes }
     {
         gate_flow::laws::gateways_are_hosted();
@@ -241,7 +298,7 @@ impl Gate {
             return;
         };
         'attempts: for _ in 0..ACCEPTS {
-            if !accept_one(rt, entrance, &self.poll, table, lobby, now) {
+            if !accept_one(rt, entrance, &self.poll, table, lobby, forgets, now) {
                 return;
             }
         }
@@ -252,6 +309,7 @@ impl Gate {
         requires { IsTableKept table.old }
         ensures kept { IsTableKept table.new }
         ensures next { table.old.ids.next ≤ table.new.ids.next }
+        ensures peers { table.new.peers ≡ table.old.peers }
         ensures turns { table.new.turns ≡ table.old.turns }
     {
         let Some(entrance) = &mut self.control else {
@@ -265,16 +323,19 @@ impl Gate {
     }
 
     /// Closes those whose time is over, and tells of stores that failed, now and then.
-    fn sweep<S: Store, R: Log>(
+    fn sweep<S: Store, F: Forget, R: Log>(
         &mut self,
         rt: &R,
         table: &mut Table,
         desk: &mut Desk,
         lobby: &mut Lobby<S>,
+        forgets: &mut F,
         now: Instant,
     )
         requires { IsTableKept table.old }
         ensures served { Serves table.old table.new lobby.old lobby.new }
+        ensures let_go { LetsGo (F.forgot forgets.old) (F.forgot forgets.new) table.old table.new
+            lobby.old lobby.new }
         ensures due { turns_due table.new.turns.lanes ≡ turns_due table.old.turns.lanes }
     {
         gate_flow::laws::gateways_are_hosted();
@@ -282,24 +343,27 @@ impl Gate {
             return;
         }
         self.swept = now;
-        table.sweep(rt, lobby, now);
+        table.sweep(rt, lobby, forgets, now);
         desk.sweep(now);
         self.watch.look(rt, lobby.gateway());
     }
 
     /// Whether serving is over: all that are to be served were, or all was said after it was to stop, or the time for
     /// that is over. A stop waits for no control connection.
-    fn is_over<S: Store, R: Log>(
+    fn is_over<S: Store, F: Forget, R: Log>(
         &mut self,
         rt: &R,
         table: &mut Table,
         desk: &Desk,
         limits: &Limits,
         lobby: &mut Lobby<S>,
+        forgets: &mut F,
         now: Instant,
     ) -> bool
         requires { IsTableKept table.old }
         ensures served { Serves table.old table.new lobby.old lobby.new }
+        ensures let_go { LetsGo (F.forgot forgets.old) (F.forgot forgets.new) table.old table.new
+            lobby.old lobby.new }
         ensures due { turns_due table.new.turns.lanes ≡ turns_due table.old.turns.lanes }
     {
         gate_flow::laws::gateways_are_hosted();
@@ -310,7 +374,7 @@ impl Gate {
             info!(rt; "stopping: {} connections are open", table.tools.counts.open);
             self.ending.asks(now);
             self.entrance = None;
-            table.stop_all(lobby);
+            table.stop_all(lobby, forgets);
             return table.is_empty();
         }
         match limits.served {
@@ -325,16 +389,19 @@ fn tick() -> Duration {
 }
 
 /// Accepts one connection, and says whether there may be more.
-fn accept_one<S: Store, R: Log>(
+fn accept_one<S: Store, F: Forget, R: Log>(
     rt: &R,
     entrance: &mut Entrance,
     poll: &Poll,
     table: &mut Table,
     lobby: &mut Lobby<S>,
+    forgets: &mut F,
     now: Instant,
 ) -> bool
     requires { IsTableKept table.old }
     ensures served { Serves table.old table.new lobby.old lobby.new }
+    ensures let_go { LetsGo (F.forgot forgets.old) (F.forgot forgets.new) table.old table.new
+        lobby.old lobby.new }
     ensures due { turns_due table.new.turns.lanes ≡ turns_due table.old.turns.lanes }
 {
     gate_flow::laws::gateways_are_hosted();
@@ -343,7 +410,7 @@ fn accept_one<S: Store, R: Log>(
     }
     match entrance.accept(now) {
         Arrival::Socket(stream) => {
-            table.take_in(poll, stream, lobby, now);
+            table.take_in(poll, stream, lobby, forgets, now);
             true
         }
         Arrival::Gone => true,
@@ -367,6 +434,7 @@ fn accept_call(
     requires { IsTableKept table.old }
     ensures kept { IsTableKept table.new }
     ensures next { table.old.ids.next ≤ table.new.ids.next }
+    ensures peers { table.new.peers ≡ table.old.peers }
     ensures turns { table.new.turns ≡ table.old.turns }
 {
     if !entrance.door.may_accept(now, true) {

@@ -1,4 +1,7 @@
 //! Sockets of connections, and the doors through which they come.
+ghost use Rattle.std.specs.Prelude.{◌≡◌};
+ghost use Rattle.gate_turns.specs.Door.{door_after};
+
 use gate_turns::{Came, Door};
 use mio::net::{TcpListener, TcpStream};
 use mio::{Interest, Poll, Token};
@@ -35,7 +38,24 @@ pub enum Arrival {
     Starved,
 }
 
+impl Arrival {
+    ghost use Rattle.gate_poll.specs.Arrivals.{came_of};
+
+    /// What that says of the door.
+    fn came(&self) -> Came
+        ensures { result ≡ came_of self.now }
+    {
+        match self {
+            Arrival::Socket(_) | Arrival::Gone => Came::One,
+            Arrival::Nobody => Came::Nobody,
+            Arrival::Starved => Came::Starved,
+        }
+    }
+}
+
 impl Entrance {
+    ghost use Rattle.gate_poll.specs.Arrivals.{came_of};
+
     /// Begins to listen under a token.
     pub fn open(poll: &Poll, mut listener: TcpListener, token: Token) -> io::Result<Entrance> {
         poll.registry()
@@ -46,26 +66,23 @@ impl Entrance {
         })
     }
 
-    /// Accepts one connection, if one waits.
-    pub fn accept(&mut self, now: Instant) -> Arrival {
+    /// Accepts one connection, if one waits. The door is told what came.
+    pub fn accept(&mut self, now: Instant) -> Arrival
+        ensures { self.new.door ≡ door_after (came_of result) self.old.door now }
+    {
+        let arrival = self.attempt();
+        self.door.came(arrival.came(), now);
+        arrival
+    }
+
+    /// What comes of an attempt to accept one.
+    fn attempt(&self) -> Arrival {
         match self.listener.accept() {
-            Ok((stream, _)) => {
-                self.door.came(Came::One, now);
-                Arrival::Socket(stream)
-            }
+            Ok((stream, _)) => Arrival::Socket(stream),
             Err(error) => match error.kind() {
-                ErrorKind::WouldBlock => {
-                    self.door.came(Came::Nobody, now);
-                    Arrival::Nobody
-                }
-                ErrorKind::ConnectionAborted | ErrorKind::Interrupted => {
-                    self.door.came(Came::One, now);
-                    Arrival::Gone
-                }
-                _ => {
-                    self.door.came(Came::Starved, now);
-                    Arrival::Starved
-                }
+                ErrorKind::WouldBlock => Arrival::Nobody,
+                ErrorKind::ConnectionAborted | ErrorKind::Interrupted => Arrival::Gone,
+                _ => Arrival::Starved,
             },
         }
     }

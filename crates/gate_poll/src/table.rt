@@ -1,12 +1,15 @@
 //! The connections by their ids.
-ghost use Rattle.std.specs.Prelude.{◌≡◌, ◌≢◌, ◌+◌, ◌<◌, ◌≤◌, ◌↔◌, ℕ, IsTrue, Some, None, true, false, IfOk, IfSome, IfNone, length};
+ghost use Rattle.std.specs.Prelude.{◌≡◌, ◌≢◌, ◌+◌, ◌<◌, ◌≤◌, ◌↔◌, ℕ, IsTrue, Some, None, true, false, IfOk, IfSome, IfNone, length, []};
+ghost use Rattle.std.specs.Option.{option_map};
 ghost use Rattle.gate_flow.specs.Hosted.{IsHosted, IsOwnId};
 ghost use Rattle.gate_turns.specs.Seat.{new_seat};
 ghost use Rattle.gate_turns.specs.Lanes.{turns_due};
 ghost use Rattle.gate_turns.specs.Turns.{seat_at, HasCome, OthersStay};
 ghost use Rattle.gate_poll.specs.Peers.{owes};
-ghost use Rattle.gate_poll.specs.Table.{peer_in, OthersKept, IsOwnPeer, AreOwnPeers, IsTurnOf, AreKeptBut, IsSocketCalled};
+ghost use Rattle.gate_core.specs.Held.{connection_at};
+ghost use Rattle.gate_poll.specs.Table.{peer_in, IsLetGo, OthersKept, IsOwnPeer, AreOwnPeers, IsTurnOf, AreKeptBut, IsSocketCalled};
 
+use crate::forget::Forget;
 use crate::ids::Ids;
 use crate::limits::Limits;
 use crate::peer::{Moment, Outcome, Peer};
@@ -40,7 +43,8 @@ pub struct Table {
 }
 
 impl Table {
-    ghost use Rattle.gate_poll.specs.Table.{IsTableKept, Serves};
+    ghost use Rattle.gate_poll.specs.Events.{IsInformed};
+    ghost use Rattle.gate_poll.specs.Table.{IsTableKept, Serves, LetsGo};
 
     /// No connections, and room for as many as the limits say.
     pub fn new(alloc: Global, limits: &Limits, now: Instant) -> Result<Table, AllocError>
@@ -90,6 +94,7 @@ impl Table {
         requires { IsTableKept self.old }
         ensures kept { IsTableKept self.new }
         ensures next { self.old.ids.next ≤ self.new.ids.next }
+        ensures peers { self.new.peers ≡ self.old.peers }
         ensures turns { self.new.turns ≡ self.old.turns }
     {
         self.ids.take()
@@ -97,15 +102,18 @@ impl Table {
 
     /// Takes a socket in, under an id that was not used before. Where the system, the gateway or memory refuses it, it is
     /// dropped.
-    pub fn take_in<S: Store>(
+    pub fn take_in<S: Store, F: Forget>(
         &mut self,
         poll: &Poll,
         mut stream: TcpStream,
         lobby: &mut Lobby<S>,
+        forgets: &mut F,
         now: Instant,
     )
         requires { IsTableKept self.old }
         ensures served { Serves self.old self.new lobby.old lobby.new }
+        ensures let_go { LetsGo (F.forgot forgets.old) (F.forgot forgets.new) self.old self.new
+            lobby.old lobby.new }
         ensures due { turns_due self.new.turns.lanes ≡ turns_due self.old.turns.lanes }
     {
         gate_flow::laws::gateways_are_hosted();
@@ -125,7 +133,7 @@ impl Table {
         match add(&mut self.peers, &mut self.turns, id, peer) {
             None => self.tools.counts.opens(self.turns.len()),
             Some(flow) => {
-                give_up(lobby, flow);
+                give_up(lobby, forgets, flow);
                 self.tools.counts.refuses();
             }
         }
@@ -134,43 +142,51 @@ impl Table {
     /// A socket was reported ready. An id that is not open changes nothing.
     pub fn is_ready(&mut self, id: u64, readable: bool, writable: bool)
         requires { IsTableKept self.old }
+        ensures told { IsInformed id readable writable self.old.turns self.new.turns }
         ensures kept { IsTableKept self.new }
         ensures ids { self.new.ids ≡ self.old.ids }
+        ensures peers { self.new.peers ≡ self.old.peers }
         ensures due { turns_due self.new.turns.lanes ≡ turns_due self.old.turns.lanes }
     {
         self.turns.report(id, readable, writable);
     }
 
     /// A round of turns, as `Turns` gives them.
-    pub fn round<S: Store, R: Clock + CpuClock + Log>(
+    pub fn round<S: Store, F: Forget, R: Clock + CpuClock + Log>(
         &mut self,
         rt: &R,
         lobby: &mut Lobby<S>,
+        forgets: &mut F,
         now: Instant,
     )
         requires kept { IsTableKept self.old }
         requires over { turns_due self.old.turns.lanes ≡ 0 }
         ensures served { Serves self.old self.new lobby.old lobby.new }
+        ensures let_go { LetsGo (F.forgot forgets.old) (F.forgot forgets.new) self.old self.new
+            lobby.old lobby.new }
         ensures over { turns_due self.new.turns.lanes ≡ 0 }
     {
         gate_flow::laws::gateways_are_hosted();
         let mut moment = Moment::at(rt, now);
         self.turns.begin_round();
         'turns: while let Some(chosen) = self.turns.next() {
-            self.turn(rt, lobby, chosen, &mut moment);
+            self.turn(rt, lobby, forgets, chosen, &mut moment);
         }
     }
 
     /// A connection has its turn.
-    fn turn<S: Store, R: Clock + CpuClock + Log>(
+    fn turn<S: Store, F: Forget, R: Clock + CpuClock + Log>(
         &mut self,
         rt: &R,
         lobby: &mut Lobby<S>,
+        forgets: &mut F,
         chosen: Chosen,
         moment: &mut Moment,
     )
         requires { IsTurnOf chosen.id self.old.ids.next self.old.peers.entries self.old.turns }
         ensures served { Serves self.old self.new lobby.old lobby.new }
+        ensures let_go { LetsGo (F.forgot forgets.old) (F.forgot forgets.new) self.old self.new
+            lobby.old lobby.new }
         ensures due { turns_due self.new.turns.lanes ≤ turns_due self.old.turns.lanes }
     {
         gate_flow::laws::gateways_are_hosted();
@@ -193,27 +209,37 @@ impl Table {
         );
         if !self.turns.turned(id, outcome.turned, self.stopping) {
             self.tools.tells(rt, id, &outcome, moment.now);
-            self.remove(id, lobby);
+            self.remove(id, lobby, forgets);
             moment.skips(rt);
         }
     }
 
     /// Closes a connection that has no seat any more, and gives up what the gateway holds of it.
-    fn remove<S: Store>(&mut self, id: u64, lobby: &mut Lobby<S>)
+    fn remove<S: Store, F: Forget>(&mut self, id: u64, lobby: &mut Lobby<S>, forgets: &mut F)
         requires { AreKeptBut id self.old.ids.next self.old.peers.entries self.old.turns }
         ensures served { Serves self.old self.new lobby.old lobby.new }
+        ensures let_go { LetsGo (F.forgot forgets.old) (F.forgot forgets.new) self.old self.new
+            lobby.old lobby.new }
         ensures turns { self.new.turns ≡ self.old.turns }
     {
         gate_flow::laws::gateways_are_hosted();
         let flow = take_out(&mut self.peers, id);
-        give_up_some(lobby, flow);
+        give_up_some(lobby, forgets, id, flow);
         self.tools.counts.closes(self.turns.len());
     }
 
     /// Cuts those whose time is over, at most 1,024 of them.
-    pub fn sweep<S: Store, R: Log>(&mut self, rt: &R, lobby: &mut Lobby<S>, now: Instant)
+    pub fn sweep<S: Store, F: Forget, R: Log>(
+        &mut self,
+        rt: &R,
+        lobby: &mut Lobby<S>,
+        forgets: &mut F,
+        now: Instant,
+    )
         requires { IsTableKept self.old }
         ensures served { Serves self.old self.new lobby.old lobby.new }
+        ensures let_go { LetsGo (F.forgot forgets.old) (F.forgot forgets.new) self.old self.new
+            lobby.old lobby.new }
         ensures due { turns_due self.new.turns.lanes ≡ turns_due self.old.turns.lanes }
     {
         gate_flow::laws::gateways_are_hosted();
@@ -223,14 +249,23 @@ impl Table {
             let Some(id) = self.cut.pop() else {
                 return;
             };
-            self.cut_late(rt, id, lobby, now);
+            self.cut_late(rt, id, lobby, forgets, now);
         }
     }
 
     /// Cuts a connection whose time is over, if it waits for its socket. One to which all was said is over.
-    fn cut_late<S: Store, R: Log>(&mut self, rt: &R, id: u64, lobby: &mut Lobby<S>, now: Instant)
+    fn cut_late<S: Store, F: Forget, R: Log>(
+        &mut self,
+        rt: &R,
+        id: u64,
+        lobby: &mut Lobby<S>,
+        forgets: &mut F,
+        now: Instant,
+    )
         requires { IsTableKept self.old }
         ensures served { Serves self.old self.new lobby.old lobby.new }
+        ensures let_go { LetsGo (F.forgot forgets.old) (F.forgot forgets.new) self.old self.new
+            lobby.old lobby.new }
         ensures due { turns_due self.new.turns.lanes ≡ turns_due self.old.turns.lanes }
     {
         gate_flow::laws::gateways_are_hosted();
@@ -239,7 +274,7 @@ impl Table {
         }
         let told = self.is_told(id);
         self.tools.cuts(rt, id, told, now);
-        self.remove(id, lobby);
+        self.remove(id, lobby, forgets);
     }
 
     /// Whether all was said to a connection.
@@ -251,16 +286,18 @@ impl Table {
     }
 
     /// From now on connections are closed once nothing is owed to them, those that wait for a request at once.
-    pub fn stop_all<S: Store>(&mut self, lobby: &mut Lobby<S>)
+    pub fn stop_all<S: Store, F: Forget>(&mut self, lobby: &mut Lobby<S>, forgets: &mut F)
         requires { IsTableKept self.old }
         ensures served { Serves self.old self.new lobby.old lobby.new }
+        ensures let_go { LetsGo (F.forgot forgets.old) (F.forgot forgets.new) self.old self.new
+            lobby.old lobby.new }
         ensures due { turns_due self.new.turns.lanes ≡ turns_due self.old.turns.lanes }
     {
         gate_flow::laws::gateways_are_hosted();
         self.stopping = true;
         let ids = self.all_ids();
         for id in &ids {
-            self.dismiss(*id, lobby);
+            self.dismiss(*id, lobby, forgets);
         }
     }
 
@@ -276,27 +313,31 @@ impl Table {
     }
 
     /// Closes a connection that waits for its socket and to which nothing is owed.
-    fn dismiss<S: Store>(&mut self, id: u64, lobby: &mut Lobby<S>)
+    fn dismiss<S: Store, F: Forget>(&mut self, id: u64, lobby: &mut Lobby<S>, forgets: &mut F)
         requires { IsTableKept self.old }
         ensures served { Serves self.old self.new lobby.old lobby.new }
+        ensures let_go { LetsGo (F.forgot forgets.old) (F.forgot forgets.new) self.old self.new
+            lobby.old lobby.new }
         ensures due { turns_due self.new.turns.lanes ≡ turns_due self.old.turns.lanes }
     {
         gate_flow::laws::gateways_are_hosted();
         if self.turns.dismiss(id) {
             self.tools.counts.stops();
-            self.remove(id, lobby);
+            self.remove(id, lobby, forgets);
         }
     }
 
     /// Closes all connections.
-    pub fn give_up_all<S: Store>(&mut self, lobby: &mut Lobby<S>)
+    pub fn give_up_all<S: Store, F: Forget>(&mut self, lobby: &mut Lobby<S>, forgets: &mut F)
         requires { IsTableKept self.old }
         ensures hosted { IsHosted 1 self.old.ids.next lobby.old lobby.new }
+        ensures let_go { LetsGo (F.forgot forgets.old) (F.forgot forgets.new) self.old self.new
+            lobby.old lobby.new }
+        ensures none { (id : ℕ) → peer_in self.new.peers.entries id ≡ None }
     {
         gate_flow::laws::gateways_are_hosted();
-        'all: for _ in 0..self.peers.len() {
-            let flow = take_first(&mut self.peers);
-            give_up_some(lobby, flow);
+        'all: while let Some(flow) = take_first(&mut self.peers) {
+            give_up(lobby, forgets, flow);
             self.tools.counts.stops();
         }
         self.tools.counts.closes(0);
@@ -378,8 +419,7 @@ fn add(peers: &mut BTreeMap<u64, Peer>, turns: &mut Turns, id: u64, peer: Peer) 
 fn take_out(peers: &mut BTreeMap<u64, Peer>, id: u64) -> Option<Flow>
     ensures gone { peer_in peers.new.entries id ≡ None }
     ensures others { OthersKept id peers.old.entries peers.new.entries }
-    ensures own { (next : ℕ) → IsOwnPeer next id (peer_in peers.old.entries id) →
-        IfSome result (λ flow. IsOwnId 1 next flow.id) }
+    ensures found { result ≡ option_map (λ peer. peer.flow) (peer_in peers.old.entries id) }
 {
     match peers.remove(&id) {
         Some(peer) => Some(peer.into_flow()),
@@ -391,8 +431,14 @@ fn take_out(peers: &mut BTreeMap<u64, Peer>, id: u64) -> Option<Flow>
 fn take_first(peers: &mut BTreeMap<u64, Peer>) -> Option<Flow>
     ensures own { (next : ℕ) → AreOwnPeers next peers.old.entries →
         IfSome result (λ flow. IsOwnId 1 next flow.id) }
-    ensures others { (next : ℕ) → AreOwnPeers next peers.old.entries →
+    ensures kept { (next : ℕ) → AreOwnPeers next peers.old.entries →
         AreOwnPeers next peers.new.entries }
+    ensures others { (next : ℕ) → AreOwnPeers next peers.old.entries →
+        IfSome result (λ flow. OthersKept flow.id peers.old.entries peers.new.entries) }
+    ensures fewer { IfSome result (λ _.
+        length peers.new.entries < length peers.old.entries) }
+    ensures none { IfNone result (peers.new.entries ≡ []) }
+    ensures same { IfNone result (peers.new.entries ≡ peers.old.entries) }
 {
     match peers.pop_first() {
         Some((_, peer)) => Some(peer.into_flow()),
@@ -400,24 +446,36 @@ fn take_first(peers: &mut BTreeMap<u64, Peer>) -> Option<Flow>
     }
 }
 
-/// Gives up what the gateway holds of a connection, if there is one.
-fn give_up_some<S: Store>(lobby: &mut Lobby<S>, flow: Option<Flow>)
-    ensures { (next : ℕ) → 1 ≤ next → IfSome flow (λ flow. IsOwnId 1 next flow.id) →
-        IsHosted 1 next lobby.old lobby.new }
+/// Gives up what the gateway holds of a connection, if it was there.
+fn give_up_some<S: Store, F: Forget>(
+    lobby: &mut Lobby<S>,
+    forgets: &mut F,
+    id: u64,
+    flow: Option<Flow>,
+)
+    requires { IfSome flow (λ flow. flow.id ≡ id) }
+    ensures hosted { IsHosted id (id + 1) lobby.old lobby.new }
+    ensures still { (other : ℕ) → F.forgot forgets.old other → F.forgot forgets.new other }
+    ensures let_go { IfSome flow (λ _. F.forgot forgets.new id
+        × IsLetGo id (connection_at lobby.new id)) }
+    ensures none { IfNone flow (lobby.new ≡ lobby.old) }
 {
     gate_flow::laws::gateways_are_hosted();
     match flow {
-        Some(flow) => give_up(lobby, flow),
+        Some(flow) => give_up(lobby, forgets, flow),
         None => {}
     }
 }
 
-/// Gives up what the gateway holds of a connection. Where memory is refused its entry stays.
-fn give_up<S: Store>(lobby: &mut Lobby<S>, flow: Flow)
-    ensures { IsHosted flow.id (flow.id + 1) lobby.old lobby.new }
+/// Closes a connection at the gateway, and lets go of what it holds of it. Where memory is refused its entry stays.
+fn give_up<S: Store, F: Forget>(lobby: &mut Lobby<S>, forgets: &mut F, flow: Flow)
+    ensures hosted { IsHosted flow.id (flow.id + 1) lobby.old lobby.new }
+    ensures still { (other : ℕ) → F.forgot forgets.old other → F.forgot forgets.new other }
+    ensures forgot { F.forgot forgets.new flow.id }
+    ensures let_go { IsLetGo flow.id (connection_at lobby.new flow.id) }
 {
     gate_flow::laws::gateways_are_hosted();
     let id = flow.id();
     lobby.close(flow);
-    lobby.forget(id);
+    forgets.forget(lobby, id);
 }

@@ -6,6 +6,7 @@ ghost use Rattle.std.specs.Prelude.{◌≡◌, ◌<◌, ◌≤◌, ℕ, [], leng
 ghost use Rattle.std.specs.FinMap as map;
 ghost use Rattle.grid.specs.GridState.{states};
 ghost use Rattle.gate_core.specs.Held.{AreParameters};
+ghost use Rattle.gate_core.specs.Tallies.{nothing_counted};
 
 mod serving_runtime;
 
@@ -14,6 +15,7 @@ use folder_shelf::Settings;
 use gate_core::{Gateway, GatewayFault};
 use gate_flow::Lobby;
 use gate_poll::{Limits, ServeFault, serve_on};
+use libc::net::{SO_SNDBUF, SOL_SOCKET, setsockopt};
 use log::{Log, info};
 use mio::net::TcpListener;
 use server_board::Board;
@@ -26,11 +28,15 @@ use std::env;
 use std::fs::File;
 use std::io::ErrorKind;
 use std::net::{Net, SocketAddr, ToSocketAddrs};
+use std::os::fd::AsRawFd;
 use std::rt::{Env, Files};
 use std::time::{Clock, CpuClock, Duration};
 
 /// How many bytes a secret may have.
 const MOST_SECRET: usize = 256;
+
+/// How many bytes of replies the system may buffer of a connection; Linux takes twice that for its own records too.
+const BUFFERED: i32 = 131_072;
 
 /// Does what the words of the command line ask for, up to the first fault. What is told of it goes to standard error.
 pub fn run<
@@ -123,6 +129,7 @@ fn listen_for<R: Print + Net>(rt: &R, options: &Options<'_>) -> Result<Listeners
     ensures { IfOk result (λ listeners. is_some listeners.control ≡ is_some options.now.control) }
 {
     let connections = listen(rt, options.listen, "listening")?;
+    bound_buffer(&connections);
     let control = listen_for_control(rt, options)?;
     tell(rt, "listening on", &connections)?;
     if let Some(listener) = &control {
@@ -132,6 +139,15 @@ fn listen_for<R: Print + Net>(rt: &R, options: &Options<'_>) -> Result<Listeners
         connections,
         control,
     })
+}
+
+/// Bounds what the system buffers of each connection that comes here, which takes it over from its listener. By itself it
+/// buffers up to 4 MiB, and reports room only once a third of that is free: a reader of 40,000 bytes a second would seem to
+/// take nothing for longer than a connection may be silent. Where the system refuses it, its own bound holds.
+fn bound_buffer(listener: &TcpListener) {
+    let mut bytes = [0; 16];
+    bytes[..4].copy_from_slice(&BUFFERED.to_ne_bytes());
+    setsockopt(listener.as_raw_fd(), SOL_SOCKET, SO_SNDBUF, &bytes, 4);
 }
 
 /// Listens for control requests, if that is asked for.
@@ -221,6 +237,7 @@ fn gateway_over<S: Store + Drop>(
       };
       connections = map.empty;
       grid = states S.shares S.room S.held S.failures S.honest S.history stores.items;
+      tally = nothing_counted;
     }) }
 {
     match Gateway::resume(alloc, shares.needed, shares.made, stores, secret) {

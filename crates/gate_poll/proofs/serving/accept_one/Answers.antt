@@ -1,5 +1,6 @@
 use Rattle.std.proofs.Common.{◌≤◌, refl, arith}
 use Rattle.gate_poll.proofs.Hosts.{serves_still}
+use Rattle.gate_poll.proofs.LettingGo.{none_gone}
 use Rattle.gate_poll.proofs.serving.accept_one.Goals as goal
 
 pub returns-then-not-may_accept-clause-served : goal.returns-then-not-may_accept-clause-served
@@ -34,3 +35,18 @@ returns-in-Socket-clause-served g c = c.take_in.ensures.served
 
 pub returns-in-Socket-clause-due : goal.returns-in-Socket-clause-due
 returns-in-Socket-clause-due g c = c.take_in.ensures.due
+
+pub returns-then-not-may_accept-clause-let_go : goal.returns-then-not-may_accept-clause-let_go
+returns-then-not-may_accept-clause-let_go g c = none_gone _ _ _
+
+pub returns-in-Gone-clause-let_go : goal.returns-in-Gone-clause-let_go
+returns-in-Gone-clause-let_go g c = none_gone _ _ _
+
+pub returns-in-Nobody-clause-let_go : goal.returns-in-Nobody-clause-let_go
+returns-in-Nobody-clause-let_go g c = none_gone _ _ _
+
+pub returns-in-Starved-clause-let_go : goal.returns-in-Starved-clause-let_go
+returns-in-Starved-clause-let_go g c = none_gone _ _ _
+
+pub returns-in-Socket-clause-let_go : goal.returns-in-Socket-clause-let_go
+returns-in-Socket-clause-let_go g c = c.take_in.ensures.let_go

@@ -1,33 +1,8 @@
-use Rattle.std.proofs.Common.{ℕ}
-use Rattle.gate_poll.proofs.Hosts.{and_then}
+use Rattle.std.proofs.Common.{inl, inr, ◌≡◌, ◌⊎◌, Option}
+use Rattle.gate_core.specs.Held.{Held}
+use Rattle.gate_poll.specs.Table.{IsLetGo, IsOverAt}
+use Rattle.gate_poll.proofs.LettingGo.{is_over}
 use Rattle.gate_poll.proofs.serving.serve_on.Goals as goal
 
-pub returns-in_err-events : goal.returns-in_err-events
-returns-in_err-events g c = record { hosted = (1, c.gateways_are_hosted.ensures.none 1 c.args.lobby.now) }
-
-pub returns-in_err-now : goal.returns-in_err-now
-returns-in_err-now g c = record { hosted = (1, c.gateways_are_hosted.ensures.none 1 c.args.lobby.now) }
-
-pub returns-in_err-table : goal.returns-in_err-table
-returns-in_err-table g c = record { hosted = (1, c.gateways_are_hosted.ensures.none 1 c.args.lobby.now) }
-
-pub returns-in_err-desk : goal.returns-in_err-desk
-returns-in_err-desk g c = record { hosted = (1, c.gateways_are_hosted.ensures.none 1 c.args.lobby.now) }
-
-pub returns-in_err-gate : goal.returns-in_err-gate
-returns-in_err-gate g c = record { hosted = (1, c.gateways_are_hosted.ensures.none 1 c.args.lobby.now) }
-
-pub serve-ended-requires-clause-kept : goal.serve-ended-requires-clause-kept
-serve-ended-requires-clause-kept g c = c.in_ok-table.ensures.kept
-
-pub serve-ended-requires-clause-over : goal.serve-ended-requires-clause-over
-serve-ended-requires-clause-over g c = c.in_ok-table.ensures.due
-
-pub give_up_all-requires : goal.give_up_all-requires
-give_up_all-requires g c = c.serve-ended.ensures.served.kept
-
-pub returns-in-Ok : goal.returns-in-Ok
-returns-in-Ok g c = record { hosted = (c.serve-ended.new.table.ids.next, and_then c.gateways_are_hosted.ensures.joined 1 c.serve-ended.new.table.ids.next c.args.lobby.now c.serve-ended.new.lobby c.give_up_all.new.lobby c.serve-ended.ensures.served.hosted c.give_up_all.ensures.hosted) }
-
 pub returns : goal.returns
-returns g c = record { hosted = (c.serve-ended.new.table.ids.next, and_then c.gateways_are_hosted.ensures.joined 1 c.serve-ended.new.table.ids.next c.args.lobby.now c.serve-ended.new.lobby c.give_up_all.new.lobby c.serve-ended.ensures.served.hosted c.give_up_all.ensures.hosted) }
+returns g c = record { hosted = c.serve_all.ensures.hosted; over = λ id. is_over _ id _ _ (c.serve_all.ensures.over id) }

@@ -1,5 +1,6 @@
 use Rattle.std.proofs.Common.{◌≡◌, ◌≤◌, ◌∙◌, refl, arith}
 use Rattle.gate_poll.proofs.Hosts.{serves_still}
+use Rattle.gate_poll.proofs.LettingGo.{none_gone, gone_then}
 use Rattle.gate_poll.proofs.serving.Gate.accept_some.Goals as goal
 
 pub returns-in_default-clause-served : goal.returns-in_default-clause-served
@@ -9,7 +10,7 @@ pub returns-in_default-clause-due : goal.returns-in_default-clause-due
 returns-in_default-clause-due g c = refl
 
 pub attempts-init : goal.attempts-init
-attempts-init g c = (serves_still c.args.table.now.ids.next c.args.table.now.ids.next c.args.table.now.peers.entries c.args.table.now.turns c.gateways_are_hosted.ensures.none c.gateways_are_hosted.ensures.wider c.args.lobby.now c.requires (omega arith), refl)
+attempts-init g c = (serves_still c.args.table.now.ids.next c.args.table.now.ids.next c.args.table.now.peers.entries c.args.table.now.turns c.gateways_are_hosted.ensures.none c.gateways_are_hosted.ensures.wider c.args.lobby.now c.requires (omega arith), none_gone _ _ _, refl)
 
 pub accept_one-requires : goal.accept_one-requires
 accept_one-requires g c = c.attempts.invariant.0.kept
@@ -22,7 +23,7 @@ returns-then-not-accept_one-clause-served g c = record {
 }
 
 pub returns-then-not-accept_one-clause-due : goal.returns-then-not-accept_one-clause-due
-returns-then-not-accept_one-clause-due g c = c.accept_one.ensures.due ∙ c.attempts.invariant.1
+returns-then-not-accept_one-clause-due g c = c.accept_one.ensures.due ∙ c.attempts.invariant.2
 
 pub attempts-preserved : goal.attempts-preserved
 attempts-preserved g c = (
@@ -31,11 +32,21 @@ attempts-preserved g c = (
     next_is = omega (arith, c.attempts.invariant.0.next_is, c.accept_one.ensures.served.next_is);
     hosted = c.gateways_are_hosted.ensures.joined 1 c.attempts.table.ids.next c.accept_one.new.table.ids.next c.args.lobby.now c.attempts.lobby c.accept_one.new.lobby c.accept_one.ensures.served.next_is c.attempts.invariant.0.hosted c.accept_one.ensures.served.hosted;
   },
-  c.accept_one.ensures.due ∙ c.attempts.invariant.1,
+  gone_then _ _ _ c.args.table.now.peers.entries c.attempts.table.peers.entries c.accept_one.new.table.peers.entries c.args.lobby.now c.attempts.lobby c.accept_one.new.lobby c.attempts.invariant.1 c.accept_one.ensures.let_go,
+  c.accept_one.ensures.due ∙ c.attempts.invariant.2,
 )
 
 pub returns-clause-served : goal.returns-clause-served
 returns-clause-served g c = c.attempts.invariant.0
 
 pub returns-clause-due : goal.returns-clause-due
-returns-clause-due g c = c.attempts.invariant.1
+returns-clause-due g c = c.attempts.invariant.2
+
+pub returns-in_default-clause-let_go : goal.returns-in_default-clause-let_go
+returns-in_default-clause-let_go g c = none_gone _ _ _
+
+pub returns-then-not-accept_one-clause-let_go : goal.returns-then-not-accept_one-clause-let_go
+returns-then-not-accept_one-clause-let_go g c = gone_then _ _ _ c.args.table.now.peers.entries c.attempts.table.peers.entries c.accept_one.new.table.peers.entries c.args.lobby.now c.attempts.lobby c.accept_one.new.lobby c.attempts.invariant.1 c.accept_one.ensures.let_go
+
+pub returns-clause-let_go : goal.returns-clause-let_go
+returns-clause-let_go g c = c.attempts.invariant.1

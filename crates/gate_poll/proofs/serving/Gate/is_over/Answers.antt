@@ -1,5 +1,6 @@
 use Rattle.std.proofs.Common.{◌≤◌, refl, arith}
 use Rattle.gate_poll.proofs.Hosts.{serves_still}
+use Rattle.gate_poll.proofs.LettingGo.{none_gone}
 use Rattle.gate_poll.proofs.serving.Gate.is_over.Goals as goal
 
 pub returns-then-is_asked-clause-served : goal.returns-then-is_asked-clause-served
@@ -34,3 +35,18 @@ returns-then-desk-clause-served g c = c.stop_all.ensures.served
 
 pub returns-then-desk-clause-due : goal.returns-then-desk-clause-due
 returns-then-desk-clause-due g c = c.stop_all.ensures.due
+
+pub returns-then-is_asked-clause-let_go : goal.returns-then-is_asked-clause-let_go
+returns-then-is_asked-clause-let_go g c = none_gone _ _ _
+
+pub returns-then-table-most-clause-let_go : goal.returns-then-table-most-clause-let_go
+returns-then-table-most-clause-let_go g c = none_gone _ _ _
+
+pub returns-else-table-most-clause-let_go : goal.returns-else-table-most-clause-let_go
+returns-else-table-most-clause-let_go g c = none_gone _ _ _
+
+pub returns-in-None-clause-let_go : goal.returns-in-None-clause-let_go
+returns-in-None-clause-let_go g c = none_gone _ _ _
+
+pub returns-then-desk-clause-let_go : goal.returns-then-desk-clause-let_go
+returns-then-desk-clause-let_go g c = c.stop_all.ensures.let_go

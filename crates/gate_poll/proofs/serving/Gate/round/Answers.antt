@@ -1,5 +1,9 @@
-use Rattle.std.proofs.Common.{◌≡◌, ◌≤◌, ap, arith}
+use Rattle.std.proofs.Common.{◌≡◌, ◌≤◌, ap, arith, subst, sym, ℕ}
+use Rattle.std.specs.BTreeMap.{BTreeMap}
+use Rattle.gate_poll.specs.declared.peer.Peer.{Peer}
+use Rattle.gate_poll.specs.Table.{AreLetGo}
 use Rattle.gate_poll.specs.declared.ids.Ids.{Ids}
+use Rattle.gate_poll.proofs.LettingGo.{gone_then}
 use Rattle.gate_poll.proofs.serving.Gate.round.Goals as goal
 
 pub returns-clause-served : goal.returns-clause-served
@@ -19,3 +23,14 @@ returns-clause-served g c =
           swept.hosted)
           over.hosted;
     }
+
+pub returns-clause-let_go : goal.returns-clause-let_go
+returns-clause-let_go g c =
+    gone_then _ _ _ _ _ _ c.args.lobby.now c.sweep.new.lobby c.is_over.new.lobby
+    (gone_then _ _ _ _ _ _ c.args.lobby.now c.round.new.lobby c.sweep.new.lobby
+    (gone_then _ _ _ _ _ _ c.args.lobby.now c.accept_some.new.lobby c.round.new.lobby
+    (subst (λ (t : BTreeMap ℕ Peer). AreLetGo (g.F.Forget.forgot c.args.forgets.now) (g.F.Forget.forgot c.accept_some.new.forgets) t.entries c.accept_control.new.table.peers.entries c.args.lobby.now c.accept_some.new.lobby) c.mark.ensures.peers
+    (subst (λ (t : BTreeMap ℕ Peer). AreLetGo (g.F.Forget.forgot c.args.forgets.now) (g.F.Forget.forgot c.accept_some.new.forgets) c.mark.new.table.peers.entries t.entries c.args.lobby.now c.accept_some.new.lobby) (sym c.accept_control.ensures.peers) c.accept_some.ensures.let_go))
+    c.round.ensures.let_go)
+    c.sweep.ensures.let_go)
+    c.is_over.ensures.let_go

@@ -1,5 +1,6 @@
 use Rattle.std.proofs.Common.{◌≤◌, refl, arith}
 use Rattle.gate_poll.proofs.Hosts.{serves_still}
+use Rattle.gate_poll.proofs.LettingGo.{none_gone}
 use Rattle.gate_poll.proofs.serving.Gate.sweep.Goals as goal
 
 pub returns-then-lt-clause-served : goal.returns-then-lt-clause-served
@@ -16,3 +17,9 @@ returns-clause-served g c = c.sweep.ensures.served
 
 pub returns-clause-due : goal.returns-clause-due
 returns-clause-due g c = c.sweep.ensures.due
+
+pub returns-then-lt-clause-let_go : goal.returns-then-lt-clause-let_go
+returns-then-lt-clause-let_go g c = none_gone _ _ _
+
+pub returns-clause-let_go : goal.returns-clause-let_go
+returns-clause-let_go g c = c.sweep.ensures.let_go

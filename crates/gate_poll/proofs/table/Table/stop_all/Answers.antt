@@ -1,9 +1,10 @@
 use Rattle.std.proofs.Common.{◌≡◌, ◌≤◌, ◌∙◌, refl, arith}
 use Rattle.gate_poll.proofs.Hosts.{serves_still}
+use Rattle.gate_poll.proofs.LettingGo.{none_gone, gone_then}
 use Rattle.gate_poll.proofs.table.Table.stop_all.Goals as goal
 
 pub loop-id-init : goal.loop-id-init
-loop-id-init g c = (serves_still c.args.self.now.ids.next c.args.self.now.ids.next c.args.self.now.peers.entries c.args.self.now.turns c.gateways_are_hosted.ensures.none c.gateways_are_hosted.ensures.wider c.args.lobby.now c.requires (omega arith), refl)
+loop-id-init g c = (serves_still c.args.self.now.ids.next c.args.self.now.ids.next c.args.self.now.peers.entries c.args.self.now.turns c.gateways_are_hosted.ensures.none c.gateways_are_hosted.ensures.wider c.args.lobby.now c.requires (omega arith), none_gone _ _ _, refl)
 
 pub loop-id-preserved : goal.loop-id-preserved
 loop-id-preserved g c = (
@@ -12,5 +13,6 @@ loop-id-preserved g c = (
     next_is = omega (arith, c.loop-id.invariant.0.next_is, c.dismiss.ensures.served.next_is);
     hosted = c.gateways_are_hosted.ensures.joined 1 c.loop-id.self.ids.next c.dismiss.new.self.ids.next c.args.lobby.now c.loop-id.lobby c.dismiss.new.lobby c.dismiss.ensures.served.next_is c.loop-id.invariant.0.hosted c.dismiss.ensures.served.hosted;
   },
-  c.dismiss.ensures.due ∙ c.loop-id.invariant.1,
+  gone_then _ _ _ c.args.self.now.peers.entries c.loop-id.self.peers.entries c.dismiss.new.self.peers.entries c.args.lobby.now c.loop-id.lobby c.dismiss.new.lobby c.loop-id.invariant.1 c.dismiss.ensures.let_go,
+  c.dismiss.ensures.due ∙ c.loop-id.invariant.2,
 )

@@ -1,13 +1,15 @@
-use Rattle.std.proofs.Common.{◌≡◌, ◌≤◌, ◌∙◌, refl, sym, ap, subst, arith, None, ℕ, ◌+◌}
+use Rattle.std.proofs.Common.{◌≡◌, ◌≤◌, ◌∙◌, refl, sym, ap, subst, arith, None, ℕ, ◌+◌, rules, inl}
 use Rattle.gate_flow.specs.State.{FlowState}
 use Rattle.gate_flow.specs.Hosted.{IsHosted, IsOwnId}
 use Rattle.gate_turns.specs.Lanes.{turns_due}
 use Rattle.gate_turns.specs.Turns.{TurnsState, seat_at}
 use Rattle.gate_turns.specs.declared.seat.Place.TheVariants.{Queued}
 use Rattle.gate_turns.specs.declared.seat.Lane.TheVariants.{Fresh}
-use Rattle.gate_poll.specs.Table.{peer_in}
-use Rattle.gate_poll.proofs.Hosts.{serves_still, of_own, own_then}
+use Rattle.gate_core.specs.Held.{connection_at}
+use Rattle.gate_poll.specs.Table.{peer_in, IsLetGo}
+use Rattle.gate_poll.proofs.Hosts.{serves_still, of_own, own_then, and_then}
 use Rattle.gate_poll.proofs.Keeping.{kept_more, kept_with, ids_rise, given_own, ungiven, new_owes, seat_new, neither, due_after}
+use Rattle.gate_poll.proofs.LettingGo.{none_gone, none_gone_so, one_gone, one_kept}
 use Rattle.gate_poll.proofs.table.Table.take_in.Goals as goal
 
 pub returns-in_default-clause-served : goal.returns-in_default-clause-served
@@ -61,8 +63,30 @@ returns-in-Some-add-clause-served g c =
           c.add.ensures.turn;
       next_is = (ids_rise c.take.result c.args.self.now.ids c.take.new.self c.take.ensures.given c.take.ensures.rises c.take.ensures.none);
       hosted = own_then c.gateways_are_hosted.ensures.joined c.gateways_are_hosted.ensures.wider c.take.new.self.next c.in-Some.id c.args.lobby.now c.open.new.self c.give_up.new.lobby own c.open.ensures.hosted
-          (of_own c.gateways_are_hosted.ensures.wider c.take.new.self.next c.in-Some.id c.open.new.self c.give_up.new.lobby own (subst (λ (i : ℕ). IsHosted i (i + 1) c.open.new.self c.give_up.new.lobby) mine c.give_up.ensures));
+          (of_own c.gateways_are_hosted.ensures.wider c.take.new.self.next c.in-Some.id c.open.new.self c.give_up.new.lobby own (subst (λ (i : ℕ). IsHosted i (i + 1) c.open.new.self c.give_up.new.lobby) mine c.give_up.ensures.hosted));
     }
 
 pub returns-in-Some-add-clause-due : goal.returns-in-Some-add-clause-due
 returns-in-Some-add-clause-due g c = ap (λ (x : TurnsState). turns_due x.lanes) c.in-Some-add.ensures.refused.1
+
+pub returns-in_default-clause-let_go : goal.returns-in_default-clause-let_go
+returns-in_default-clause-let_go g c = none_gone _ _ _
+
+pub returns-then-not-register-clause-let_go : goal.returns-then-not-register-clause-let_go
+returns-then-not-register-clause-let_go g c = none_gone _ _ _
+
+pub returns-in_default-open-clause-let_go : goal.returns-in_default-open-clause-let_go
+returns-in_default-open-clause-let_go g c =
+    let same : c.open.new.self ≡ c.args.lobby.now = search rules in
+    none_gone_so _ c.args.self.now.peers.entries c.args.lobby.now c.open.new.self same
+
+pub returns-in-None-clause-let_go : goal.returns-in-None-clause-let_go
+returns-in-None-clause-let_go g c =
+    one_kept _ _ c.in-Some.id c.args.self.now.peers.entries c.add.new.peers.entries c.new-peer.result c.args.lobby.now c.open.new.self (λ other is. is) c.add.ensures.others c.open.ensures.hosted c.in-None.ensures.added.1
+
+pub returns-in-Some-add-clause-let_go : goal.returns-in-Some-add-clause-let_go
+returns-in-Some-add-clause-let_go g c =
+    let mine : c.in-Some-add.flow.id ≡ c.in-Some.id = ap (λ (f : FlowState). f.id) (c.in-Some-add.ensures.refused.0 ∙ c.new-peer.ensures.flow ∙ c.in-Ok.ensures.opened) in
+    one_gone _ _ c.in-Some.id c.args.self.now.peers.entries c.add.new.peers.entries c.args.lobby.now c.give_up.new.lobby c.give_up.ensures.still c.add.ensures.others
+    (and_then c.gateways_are_hosted.ensures.joined c.in-Some.id (c.in-Some.id + 1) c.args.lobby.now c.open.new.self c.give_up.new.lobby c.open.ensures.hosted (subst (λ (i : ℕ). IsHosted i (i + 1) c.open.new.self c.give_up.new.lobby) mine c.give_up.ensures.hosted))
+    (λ none. inl (subst (λ (i : ℕ). g.F.Forget.forgot c.give_up.new.forgets i × IsLetGo i (connection_at c.give_up.new.lobby i)) mine (c.give_up.ensures.forgot, c.give_up.ensures.let_go)))

@@ -6,6 +6,7 @@ use Rattle.gate_turns.specs.Turns.{TurnsState, HasLeft, seat_at, seat_in}
 use Rattle.gate_poll.specs.Table.{peer_in, IsSocketCalled}
 use Rattle.gate_poll.proofs.Hosts.{of_own, own_then}
 use Rattle.gate_poll.proofs.Keeping.{kept_but, kept_turned, own_flow, own_called, own_more, called, called_same, closed_so, stays_so, seat_after, open_turn, due_after}
+use Rattle.gate_poll.proofs.LettingGo.{one_kept, gone_then}
 use Rattle.gate_poll.proofs.table.Table.turn.Goals as goal
 
 pub returns-in_default-clause-served : goal.returns-in_default-clause-served
@@ -64,3 +65,20 @@ returns-else-not-turned-clause-due g c =
     let had : seat_at c.shorten.new.turns c.args.chosen.id ≡ Some c.in-Some.seat = ap (λ (ss : List (ℕ × Seat)). seat_in ss c.args.chosen.id) c.shorten.ensures.seats ∙ cc in
     let now = stays_so c.turned.result c.args.chosen.id c.call-outcome.result.turned c.shorten.new.turns c.turned.new.self (seat_at c.shorten.new.turns c.args.chosen.id) (seat_at c.turned.new.self c.args.chosen.id) c.in-Some.seat c.if-not-turned.false had c.turned.ensures.turned in
     omega (arith, ap turns_due now.1.1.1.lanes, due_after now.1.0.place c.args.chosen.id c.shorten.new.turns.lanes, c.shorten.ensures.due)
+
+pub returns-in_default-clause-let_go : goal.returns-in_default-clause-let_go
+returns-in_default-clause-let_go g c = absurd (open_turn c.args.self.now.turns.seats c.args.self.now.turns.lanes c.args.self.now.turns.turn c.args.chosen.id c.seat.ensures.seated c.requires.turn cc)
+
+pub returns-then-not-turned-clause-let_go : goal.returns-then-not-turned-clause-let_go
+returns-then-not-turned-clause-let_go g c =
+    let was : IsSocketCalled c.args.chosen.id c.call-outcome.result.turned c.args.self.now.peers.entries c.call-outcome.new.peers.entries × IsOwnId 1 c.args.self.now.ids.next c.args.chosen.id =
+    called c.args.self.now.ids.next c.args.chosen.id c.args.self.now.peers.entries c.call-outcome.new.peers.entries c.call-outcome.result.turned c.in-Some.seat (peer_in c.args.self.now.peers.entries c.args.chosen.id) (seat_at c.args.self.now.turns c.args.chosen.id) (cc) (c.requires.each c.args.chosen.id) c.call-outcome.ensures.called in
+    gone_then _ _ _ c.args.self.now.peers.entries c.call-outcome.new.peers.entries c.remove.new.self.peers.entries c.args.lobby.now c.call-outcome.new.lobby c.remove.new.lobby
+    (one_kept _ _ c.args.chosen.id c.args.self.now.peers.entries c.call-outcome.new.peers.entries was.0.after c.args.lobby.now c.call-outcome.new.lobby (λ other is. is) c.call-outcome.ensures.others c.call-outcome.ensures.hosted was.0.found)
+    c.remove.ensures.let_go
+
+pub returns-else-not-turned-clause-let_go : goal.returns-else-not-turned-clause-let_go
+returns-else-not-turned-clause-let_go g c =
+    let was : IsSocketCalled c.args.chosen.id c.call-outcome.result.turned c.args.self.now.peers.entries c.call-outcome.new.peers.entries × IsOwnId 1 c.args.self.now.ids.next c.args.chosen.id =
+    called c.args.self.now.ids.next c.args.chosen.id c.args.self.now.peers.entries c.call-outcome.new.peers.entries c.call-outcome.result.turned c.in-Some.seat (peer_in c.args.self.now.peers.entries c.args.chosen.id) (seat_at c.args.self.now.turns c.args.chosen.id) (cc) (c.requires.each c.args.chosen.id) c.call-outcome.ensures.called in
+    one_kept _ _ c.args.chosen.id c.args.self.now.peers.entries c.call-outcome.new.peers.entries was.0.after c.args.lobby.now c.call-outcome.new.lobby (λ other is. is) c.call-outcome.ensures.others c.call-outcome.ensures.hosted was.0.found
