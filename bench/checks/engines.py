@@ -25,9 +25,6 @@ import http.client
 import os
 import random
 import shutil
-import signal
-import socket
-import subprocess
 import sys
 import tempfile
 import threading
@@ -35,6 +32,7 @@ import time
 
 sys.path.insert(0, os.path.join(os.path.dirname(os.path.abspath(__file__)), "../tools"))
 
+from fleet import Engine
 from kills import body_of
 from server import Client, Server, fail, serve_words, wozhinnam
 
@@ -43,64 +41,6 @@ SERVERS = 5
 BACK = 15  # seconds
 REFUSALS = (b"store full\n", b"store down\n")
 SAID = {text.decode().strip() for text in REFUSALS}
-
-
-def free_port():
-    with socket.socket() as listener:
-        listener.bind(("127.0.0.1", 0))
-        return listener.getsockname()[1]
-
-
-class Engine:
-    """A Redis server with a folder of its own."""
-
-    def __init__(self, folder, durable=True):
-        self.folder = folder
-        self.durable = durable
-        os.mkdir(folder)
-        self.port = free_port()
-        self.process = None
-
-    def start(self):
-        with open(os.path.join(self.folder, "log"), "a") as log:
-            self.process = subprocess.Popen(
-                ["redis-server", "--port", str(self.port), "--bind", "127.0.0.1", "--save", "", "--appendonly",
-                 "yes" if self.durable else "no", "--appendfsync", "always", "--maxmemory-policy", "noeviction", "--dir", self.folder], stdout=log, stderr=log)
-        for _ in range(200):
-            if self.asked(b"PING\r\n").startswith(b"+PONG"):
-                return
-            time.sleep(0.05)
-        fail("a Redis server did not start: see " + self.folder)
-
-    def asked(self, command):
-        """What it answers to a command, nothing where it doesn't."""
-        try:
-            with socket.create_connection(("127.0.0.1", self.port), timeout=5) as stream:
-                stream.sendall(command)
-                return stream.recv(4096)
-        except OSError:
-            return b""
-
-    def used(self):
-        with socket.create_connection(("127.0.0.1", self.port), timeout=5) as stream:
-            stream.sendall(b"INFO memory\r\n")
-            text = stream.recv(65536)
-        return int(text.split(b"used_memory:")[1].split(b"\r\n")[0])
-
-    def limit(self, more):
-        """Leaves it memory for so many bytes more."""
-        if not self.asked(b"CONFIG SET maxmemory %d\r\n" % (self.used() + more)).startswith(b"+OK"):
-            fail("maxmemory was refused")
-
-    def kill(self):
-        self.process.kill()
-        self.process.wait()
-
-    def pause(self):
-        self.process.send_signal(signal.SIGSTOP)
-
-    def resume(self):
-        self.process.send_signal(signal.SIGCONT)
 
 
 class Trial:
