@@ -1,0 +1,63 @@
+-- What a client asks for, as an item.
+use Rattle.std.proofs.Common.{◌≡◌, ℕ, List, [], length, false, cond, None, Ok, refl, ap, ◌∙◌, eq-eqb}
+use Rattle.std.specs.Prelude.{map}
+use Rattle.http_edge.specs.Judge.{head_parts, is_head_request}
+use Rattle.http_edge.specs.Reply.{rendered}
+use Rattle.http_edge.specs.declared.item.Head.{Head}
+use Rattle.web_request.specs.Ranges.{is_range, is_if_range, range_of}
+use Rattle.web_request.specs.Requests.{interpreted}
+use Rattle.web_request.specs.declared.head.Field.{Field as WebField}
+use Rattle.chk_file.specs.Look.{Look}
+use Rattle.chk_file.specs.World.{World}
+use Rattle.web_ops.specs.Uploads.{after_stored}
+use Rattle.gate_core.specs.Settings.{Settings, under, encoding_in}
+use Rattle.gate_core.specs.Requests.{web_field, Interpreted, asked_of}
+use Rattle.gate_core.specs.Wire.{wire_reply}
+use Rattle.gate_core.specs.Answers.{asked_reply, answer}
+use Rattle.gate_core.specs.Items.{Asked}
+use Rattle.gate_core.specs.Runs.{upload_asked, upload_by, after_entry, told}
+use Rattle.client_wire.specs.Asks.{asked_head, method_of, target_of, meant, IsAsk, IsAsked}
+use Rattle.client_wire.specs.declared.ask.Ask.{Ask}
+use Rattle.client_wire.specs.declared.ask.Ask.TheVariants.{Put, Mkdir, Read, Check}
+use Rattle.round_trips.specs.Honest.{with_asked}
+use Rattle.round_trips.specs.Said.{item_of, sent_for}
+
+abbrev pub MeantLaw : Type 0
+MeantLaw = (ask : Ask) (fields : List WebField) (body : List ℕ) → IsAsk ask → range_of fields ≡ None
+    → interpreted (record { method = method_of ask; target = target_of ask; fields = fields }) body ≡ Ok (meant ask body)
+
+abbrev head_of : List ℕ → Ask → List ℕ → Head
+head_of host ask body = head_parts (asked_head host ask (length body))
+
+no_range : (host : List ℕ) (ask : Ask) (body : List ℕ) → range_of (map web_field (head_of host ask body).fields) ≡ None
+unfolding asked_head is_range is_if_range
+no_range host ask body = refl
+
+is_asked : MeantLaw → (host : List ℕ) (ask : Ask) (body : List ℕ) → IsAsked host ask body → asked_of (head_of host ask body) body ≡ Ok (meant ask body)
+unfolding asked_head asked_of
+is_asked law host ask body is = law ask (map web_field (head_of host ask body).fields) body is.ask_is (no_range host ask body)
+
+not_head : (host : List ℕ) (ask : Ask) (body : List ℕ) → is_head_request (head_of host ask body) ≡ false
+unfolding asked_head
+not_head host Put body = refl
+not_head host Mkdir body = refl
+not_head host (Read fields) body = refl
+not_head host (Check cap verify) body = refl
+
+answered : MeantLaw → (settings : Settings) (look : Look) (host : List ℕ) (ask : Ask) (body : List ℕ) → IsAsked host ask body → answer settings look (item_of host ask body) ≡ sent_for settings look ask body
+unfolding answer
+answered law settings look host ask body is =
+    ap (λ (asked : Interpreted). rendered (wire_reply (asked_reply (encoding_in settings) look asked)) (is_head_request (head_of host ask body)) false) (is_asked law host ask body is)
+    ∙ ap (λ b. rendered (wire_reply (asked_reply (encoding_in settings) look (Ok (meant ask body)))) b false) (not_head host ask body)
+
+pub said_of : MeantLaw → (settings : Settings) (look : Look) (caller : ℕ) (secret host : List ℕ) (ask : Ask) (body : List ℕ) → IsAsked host ask body
+    → told settings look caller (Asked caller secret (item_of host ask body)) ≡ sent_for (under settings secret) look ask body
+said_of law settings look caller secret host ask body is =
+    ap (λ b. cond b (answer (under settings secret) look (item_of host ask body)) []) (eq-eqb caller caller refl)
+    ∙ answered law (under settings secret) look host ask body is
+
+pub stored_of : MeantLaw → (settings : Settings) (w : World) (caller : ℕ) (secret host : List ℕ) (ask : Ask) (body : List ℕ) → IsAsked host ask body
+    → after_entry settings (Asked caller secret (item_of host ask body)) w ≡ with_asked (under settings secret) ask body w
+unfolding upload_by
+stored_of law settings w caller secret host ask body is =
+    ap (λ (asked : Interpreted). after_stored settings.servers (upload_asked (encoding_in (under settings secret)) asked) w) (is_asked law host ask body is)

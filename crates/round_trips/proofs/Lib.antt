@@ -1,0 +1,6 @@
+pub mod Lists
+pub mod Standing
+pub mod Caps
+pub mod Got
+pub mod Items
+pub mod Readings

@@ -1,0 +1,5 @@
+use Rattle.round_trips.proofs.Items.{said_of, stored_of}
+use Rattle.round_trips.proofs.laws.asks_are_items.Goals as goal
+
+pub returns : goal.returns
+returns c = record { said = said_of c.requests_are_meant.ensures; stored = stored_of c.requests_are_meant.ensures }
