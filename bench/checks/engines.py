@@ -9,8 +9,10 @@ earlier ones. Meanwhile two servers are killed by kill -9 and started again at r
 is to be taken within fifteen seconds, by the same program, unless one is full. Then the program is started anew, and each
 file that was acknowledged in this round is read.
 
-Before the rounds one server alone is filled, and read right after it refused an upload; and emptied (FLUSHALL), after which
-an upload of what a read found missing puts it again.
+Before the rounds one server alone is filled, and read right after it refused uploads, as `store full`; and emptied
+(FLUSHALL), after which the same uploads put their files again at once. Two programs over the same servers read what the
+other one answered, at once. And a start is tried over servers that are down, at other places, of another K, N or secret,
+with a rotten text, and with a password: its status is looked at, or that it goes on.
 
 A read is to be answered 200 with the file's bytes. An upload is to be answered 200 or one of the two 503. All bytes that
 are compared were made here.
@@ -25,6 +27,8 @@ import http.client
 import os
 import random
 import shutil
+import socket
+import subprocess
 import sys
 import tempfile
 import threading
@@ -58,7 +62,7 @@ class Trial:
         self.running = None
 
     def words(self):
-        words = serve_words(self.options.program, "--shares", "3,10", "--room", str(1 << 40))
+        words = serve_words(self.options.program, "--shares", "3,10")
         for at, engine in enumerate(self.engines):
             words += ["--store", "redis:127.0.0.1:%d/%d" % (engine.port, at)]
         return words
@@ -178,45 +182,180 @@ class Trial:
                 engine.kill()
 
 
-def single(options, engine):
-    """The program over this server alone, one share a file."""
-    return wozhinnam(options.program, "--shares", "1,1", "--room", str(1 << 40), "--store", "redis:127.0.0.1:%d/one" % engine.port)
+class Faults:
+    """What isn't as it is to be: each is told, and counted."""
+
+    def __init__(self):
+        self.count = 0
+
+    def add(self, what, found):
+        self.count += 1
+        print("engines.py: %s: %r" % (what, found), file=sys.stderr)
+
+    def wants(self, what, answer, status, text=None):
+        if answer[0] != status or text is not None and answer[1] != text:
+            self.add(what, (answer[0], answer[1][:60]))
 
 
-def one_server(options, folder):
-    """What a server alone does to uploads and reads once it is full, and once it was emptied. How many faults there were."""
+def healthy(client, cap):
+    status, text = client.ask("POST", "/uri/%s?t=check&output=JSON&verify=true" % cap, b"")
+    return status == 200 and b'"healthy":true' in text
+
+
+def one_server(options, folder, faults):
+    """What a server alone does to uploads and reads once it is full, and once it was emptied."""
     engine = Engine(os.path.join(folder, "one"), durable=False)
     engine.start()
-    running = single(options, engine)
+    running = wozhinnam(options.program, "--shares", "1,1", "--store", "redis:127.0.0.1:%d/one" % engine.port)
     client = Client(running.address)
-    faults = []
-
-    def wants(what, answer, status, text=None):
-        if answer[0] != status or text is not None and answer[1] != text:
-            faults.append(what)
-            print("engines.py: %s: %r" % (what, (answer[0], answer[1][:40])), file=sys.stderr)
-
-    # Longer than what the gateway keeps of files that were read: each read asks the server.
-    first = random.Random("one").randbytes(1_500_000)
-    status, cap = client.put(first)
-    wants("an upload to one server", (status, cap), 200)
-    engine.limit(0)
-    for at in range(3):
-        wants("an upload to a full server", client.put(body_of("more %d" % at, options.most)), 503)
-        wants("a read of a full server, right after it refused an upload", client.get(cap), 200, first)
+    # The first is longer than what the gateway keeps of files that were read, so each read asks the server; the second isn't.
+    bodies = [random.Random(text).randbytes(size) for text, size in (("long", 1_500_000), ("short", 20_000))]
+    caps = []
+    for body in bodies:
+        status, cap = client.put(body)
+        faults.wants("an upload to one server", (status, cap), 200)
+        faults.wants("a read of it", client.get(cap), 200, body)
+        caps.append(cap)
+    engine.limit(-100_000)
+    for at in range(100):
+        faults.wants("an upload to a full server", client.put(body_of("more %d" % at, options.most)), 503, "store full")
+        for cap, body in zip(caps, bodies):
+            faults.wants("a read of a full server, right after it refused an upload", client.get(cap), 200, body)
     engine.limit(1 << 30)
-    wants("an upload to a server that has room again", client.put(body_of("room", options.most)), 200)
-    if not engine.asked(b"FLUSHALL\r\n").startswith(b"+OK"):
-        sys.exit("engines.py: FLUSHALL was refused")
-    lost = client.get(cap)
-    if lost[0] == 200:
-        faults.append("a read of a server that was emptied")
-    wants("an upload of what was lost", client.put(first), 200)
-    wants("a read of what was put again", client.get(cap), 200, first)
+    faults.wants("an upload to a server that has room again", client.put(body_of("room", options.most)), 200)
+    for round_ in range(2):
+        if not engine.asked(b"FLUSHALL\r\n").startswith(b"+OK"):
+            fail("FLUSHALL was refused")
+        for cap, body in zip(caps, bodies):
+            if healthy(client, cap):
+                faults.add("a check of a server that was emptied", "healthy")
+            # In the second round a read comes first, and finds what is missing or what is in the gateway's memory.
+            lost = client.get(cap) if round_ else None
+            if lost and (lost[0] == 200 and lost[1] != body or lost[0] == 200 and len(body) > 1 << 20):
+                faults.add("a read of a server that was emptied", lost[0])
+            faults.wants("the same upload, after the server was emptied", client.put(body), 200, cap)
+            if not healthy(client, cap):
+                faults.add("a check of what was put again", "not healthy")
+            faults.wants("a read of what was put again", client.get(cap), 200, body)
     client.close()
     running.kill()
     engine.kill()
-    return len(faults)
+
+
+def over(engines, *options):
+    """The words of a grid over these servers, each under the same name."""
+    return list(options) + sum([["--store", "redis:127.0.0.1:%d/both" % engine.port] for engine in engines], [])
+
+
+def two_programs(options, engines, faults):
+    """Two programs over the same servers: what one answers the other reads at once. How many files were put."""
+    running = [wozhinnam(options.program, *over(engines, "--shares", "3,10")) for _ in range(2)]
+    clients = [Client(one.address) for one in running]
+    caps = []
+    for at in range(200):
+        body = body_of("both %d" % at, options.most)
+        status, cap = clients[at % 2].put(body)
+        faults.wants("an upload at one of two programs", (status, cap), 200)
+        faults.wants("a read at the other one", clients[1 - at % 2].get(cap), 200, body)
+        if at % 10 == 0:
+            faults.wants("the same upload at the other one", clients[1 - at % 2].put(body), 200, cap)
+        caps.append((cap, body))
+    for client, one in zip(clients, running):
+        client.close()
+        one.kill()
+    return caps
+
+
+def refused(options, faults, what, words, status):
+    """A start that is to end with a status, and to name a server on standard error."""
+    ended = subprocess.run(serve_words(options.program, *words), capture_output=True, text=True, timeout=60)
+    if ended.returncode != status or "redis:" not in ended.stderr:
+        faults.add(what, (ended.returncode, ended.stderr[-300:]))
+
+
+def strangers(options, engines, caps, folder, faults):
+    """Starts over servers that are another's, or want a password."""
+    secret, password, wrong = [os.path.join(folder, name) for name in ("secret", "password", "wrong")]
+    for path, text in ((secret, "another"), (password, "open\n"), (wrong, "closed")):
+        with open(path, "w") as file:
+            file.write(text)
+    refused(options, faults, "servers at other places", over(engines[1:] + engines[:1], "--shares", "3,10"), 18)
+    refused(options, faults, "servers of another K", over(engines, "--shares", "2,10"), 19)
+    refused(options, faults, "fewer servers", over(engines[:4], "--shares", "3,10"), 19)
+    refused(options, faults, "another secret", over(engines, "--shares", "3,10", "--secret-file", secret), 19)
+    name = b"wozhinnam:both:grid"
+    text = engines[2].told(b"GET", name).split(b"\r\n", 1)[1][:64]
+    engines[2].told(b"SET", name, b"rotten")
+    refused(options, faults, "a rotten text", over(engines, "--shares", "3,10"), 17)
+    engines[2].told(b"SET", name, text)
+    engines[1].told(b"CONFIG", b"SET", b"requirepass", b"open")
+    refused(options, faults, "a wrong password", over(engines[1:2], "--shares", "3,10", "--redis-password-file", wrong), 29)
+    refused(options, faults, "a password where none is wanted", over(engines[2:3], "--shares", "3,10", "--redis-password-file", wrong), 29)
+    refused(options, faults, "an unknown host", ["--store", "redis:no.such.host.invalid:6379"], 29)
+    refused(options, faults, "no Redis server", ["--store", "redis:127.0.0.1:%d" % stranger()], 29)
+    running = wozhinnam(options.program, *over(engines, "--shares", "3,10"))
+    client = Client(running.address)
+    faults.wants("a read where a server wants a password", client.get(caps[0][0]), 200, caps[0][1])
+    client.close()
+    running.kill()
+    engines[1].asked(b"AUTH open\r\nCONFIG SET requirepass \"\"\r\n")
+
+
+def stranger():
+    """A port on which HTTP is answered."""
+    listener = socket.socket()
+    listener.bind(("127.0.0.1", 0))
+    listener.listen(8)
+
+    def answer():
+        while True:
+            stream = listener.accept()[0]
+            stream.recv(4096)
+            stream.sendall(b"HTTP/1.1 400 Bad Request\r\n\r\n")
+            stream.close()
+
+    threading.Thread(target=answer, daemon=True).start()
+    return listener.getsockname()[1]
+
+
+def without_a_server(options, engines, caps, faults):
+    """A start while a server is down: reads are answered, uploads refused, and taken once it is back."""
+    engines[4].kill()
+    with tempfile.TemporaryFile("w+") as errors:
+        running = wozhinnam(options.program, *over(engines, "--shares", "3,10"), errors=errors)
+        errors.seek(0)
+        told = errors.read()
+        if "redis:127.0.0.1:%d: served without" % engines[4].port not in told:
+            faults.add("a start without a server", told[-300:])
+    client = Client(running.address)
+    for cap, body in caps[:20]:
+        faults.wants("a read without a server", client.get(cap), 200, body)
+    faults.wants("an upload without a server", client.put(body_of("without", options.most)), 503, "store down")
+    engines[4].start()
+    until = time.monotonic() + BACK
+    while (answer := client.put(body_of("without", options.most)))[0] != 200 and time.monotonic() < until:
+        time.sleep(0.5)
+    faults.wants("an upload once the server is there", answer, 200)
+    client.close()
+    running.kill()
+
+
+def starts(options, folder):
+    """How many faults there were of one server, of two programs, and of starts."""
+    faults = Faults()
+    one_server(options, folder, faults)
+    engines = [Engine(os.path.join(folder, "s%d" % at)) for at in range(SERVERS)]
+    for engine in engines:
+        engine.start()
+    try:
+        caps = two_programs(options, engines, faults)
+        strangers(options, engines, caps, folder, faults)
+        without_a_server(options, engines, caps, faults)
+    finally:
+        for engine in engines:
+            engine.kill()
+    print("one server, two programs, starts: %d faults" % faults.count, flush=True)
+    return faults.count
 
 
 def main():
@@ -228,7 +367,7 @@ def main():
     parser.add_argument("--most", type=int, default=200_000)
     options = parser.parse_args()
     folder = tempfile.mkdtemp()
-    alone = one_server(options, folder)
+    alone = starts(options, folder)
     trial = Trial(options, folder)
     try:
         for number in range(options.rounds):

@@ -43,8 +43,8 @@ GATES = 3
 SERVERS = 5
 CLIENTS = 4
 KINDS = ("calm", "gates", "stop", "kill", "full", "failover")
-# The status of a server of another grid.
-OTHER_GRID = 22
+# The statuses of a server of another grid, and of one in another place.
+OTHER_GRID, OTHER_PLACE = 19, 18
 SAID = ("store full", "store down")
 # Seconds after which a server that was down is asked again at the latest.
 REST = 65
@@ -187,12 +187,12 @@ def refusals(program, folder):
     fleet = Fleet(program, engines, 1, folder, shares="1,2")
     wrong = []
     stores = fleet.stores
-    for what, shares, these in (("other numbers", "2,2", stores), ("another order", "1,2", stores[2:] + stores[:2])):
+    for what, shares, these, status in (("other numbers", "2,2", stores, OTHER_GRID), ("another order", "1,2", stores[2:] + stores[:2], OTHER_PLACE)):
         other = Server(serve_words(program, "--shares", shares, "--secret-file", fleet.secret, *these))
         if other.address is not None:
             wrong.append("a gateway with %s was started" % what)
             other.kill()
-        elif other.process.wait() != OTHER_GRID:
+        elif other.process.wait() != status:
             wrong.append("a gateway with %s ended with %d" % (what, other.process.returncode))
     fleet.end()
     for engine in engines:

@@ -5,12 +5,13 @@ redis-server and redis-benchmark (apt-get install redis-server redis-tools).
 share   a put and a get of a file of 500,000 bytes at 1 of 1 over one server, less what they take over a store in memory, the
         least of 240 turns each, beside the least of six runs of redis-benchmark, `SET` and `GET` of as many bytes under as
         many names, one connection
+paced   `SET` and `GET` of as many bytes by a plain client that rests between two of them
 file    a put and a get of 4 MiB at 3 of 10 over five servers, and over stores in memory
 grid    files of 4 MiB, ten times as many bytes of shares as the program may have memory (ulimit -v), put, read and checked
 
 Servers keep their data in memory alone (no append-only file), so that the disk isn't timed.
 
-usage: bench/times/engine_times.py PROGRAM [share|reads|file|grid ..]
+usage: bench/times/engine_times.py PROGRAM [share|paced|file|grid ..]
 """
 
 import os
@@ -130,26 +131,13 @@ def paced(engine, command, wanted):
     return least
 
 
-def reads(program, engines):
-    words = [["--shares", "1,1"] + store(engines[1], at) for at in (30, 31)]
-    server = served(program, words[0])
-    for at in range(ROUNDS * TURNS):
-        server.ask("PUT", "/uri", body(at, SHARE))
-    server.kill()
+def clients(program, engines):
     head = b"$%d\r\n" % SHARE
     exchanges = ((b"*3\r\n$3\r\nSET\r\n$6\r\npaced:\r\n" + head + bytes(SHARE) + b"\r\n", len("+OK\r\n")), (b"GET paced:\r\n", len(head) + SHARE + 2))
-    starts, plain, pauses = [float("inf")] * 2, float("inf"), [float("inf")] * 2
+    pauses = [float("inf")] * 2
     for _ in range(8):
-        for place in range(2):
-            server = served(program, words[place])
-            starts[place] = min(starts[place], server.seconds)
-            server.kill()
-        plain = min(plain, benchmark(engines[1])[1])
         for kind, (command, wanted) in enumerate(exchanges):
             pauses[kind] = min(pauses[kind], paced(engines[1], command, wanted))
-    read = (starts[0] - starts[1]) / (ROUNDS * TURNS)
-    print("a read of a share of %d bytes by itself: %.3f ms beside %.3f ms by redis-benchmark: %.2f times (a start %.1f ms, over none %.1f)" % (
-        SHARE, read * 1e3, plain * 1e3, read / plain, starts[0] * 1e3, starts[1] * 1e3))
     print("a plain client that asks every %d ms: SET %.2f ms, GET %.2f ms" % (PAUSE * 1e3, pauses[0] * 1e3, pauses[1] * 1e3))
 
 
@@ -187,8 +175,8 @@ def main():
         for engine in engines:
             engine.start()
         try:
-            for part in parts or ("share", "reads", "file", "grid"):
-                {"share": share, "reads": reads, "file": file, "grid": grid}[part](program, engines)
+            for part in parts or ("share", "paced", "file", "grid"):
+                {"share": share, "paced": clients, "file": file, "grid": grid}[part](program, engines)
         finally:
             for engine in engines:
                 engine.kill()

@@ -69,14 +69,18 @@ class Engine:
         except OSError:
             return b""
 
-    def told(self, section):
+    def told(self, *words):
+        """What it answers to a command of these words."""
+        return self.asked(b"*%d\r\n" % len(words) + b"".join(b"$%d\r\n%s\r\n" % (len(word), word) for word in words))
+
+    def info(self, section):
         """What INFO says of a section."""
         with socket.create_connection(("127.0.0.1", self.port), timeout=5) as stream:
             stream.sendall(b"INFO %s\r\n" % section)
             return stream.recv(65536)
 
     def used(self):
-        return int(self.told(b"memory").split(b"used_memory:")[1].split(b"\r\n")[0])
+        return int(self.info(b"memory").split(b"used_memory:")[1].split(b"\r\n")[0])
 
     def limit(self, more):
         """Leaves it memory for so many bytes more."""
@@ -137,7 +141,7 @@ class Replicated(Engine):
         super().start()
         self.replica.start("--replicaof", "127.0.0.1", str(self.primary_port))
         for _ in range(200):
-            if b"master_link_status:up" in self.replica.told(b"replication"):
+            if b"master_link_status:up" in self.replica.info(b"replication"):
                 break
             time.sleep(0.1)
         self.front = Front(os.path.dirname(self.folder), [self.primary_port, self.replica.port], self.CHECK)

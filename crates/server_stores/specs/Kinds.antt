@@ -1,4 +1,5 @@
 -- Where a server has its shares.
+use Rattle.server_options.specs.declared.store_names.RedisPlace.{RedisPlace}
 use Rattle.server_options.specs.declared.store_names.StoreWanted.{StoreWanted}
 use Rattle.server_options.specs.declared.store_names.StoreWanted.TheVariants.{Memory, Folder, Disk, Redis}
 use Rattle.server_stores.specs.declared.either_store.EitherStore.{EitherStore}
@@ -17,13 +18,13 @@ abbrev pub IsOnDisk : {M F D N : Type 0} → EitherStore M (EitherStore F (Eithe
 IsOnDisk (Second (Second (First store))) = Unit {0}
 IsOnDisk _ = ⊥
 
-abbrev pub IsOnRedis : {M F D N : Type 0} → EitherStore M (EitherStore F (EitherStore D N)) → Type 0
-IsOnRedis (Second (Second (Second store))) = Unit {0}
-IsOnRedis _ = ⊥
+abbrev pub IsOnRedis : {M F D N : Type 0} → EitherStore M (EitherStore F (EitherStore D N)) → (N → Type 0) → Type 0
+IsOnRedis (Second (Second (Second store))) IsOpened = IsOpened store
+IsOnRedis _ IsOpened = ⊥
 
--- as it was wanted
-abbrev pub IsOfKind : {M F D N : Type 0} → StoreWanted → EitherStore M (EitherStore F (EitherStore D N)) → Type 0
-IsOfKind (Memory room) store = IsInMemory store
-IsOfKind (Folder path room) store = IsInFolder store
-IsOfKind (Disk path room) store = IsOnDisk store
-IsOfKind (Redis place room) store = IsOnRedis store
+-- as it was wanted: on a Redis server as it is opened for that place
+abbrev pub IsOfKind : {M F D N : Type 0} → StoreWanted → EitherStore M (EitherStore F (EitherStore D N)) → (RedisPlace → N → Type 0) → Type 0
+IsOfKind (Memory room) store IsOpened = IsInMemory store
+IsOfKind (Folder path room) store IsOpened = IsInFolder store
+IsOfKind (Disk path room) store IsOpened = IsOnDisk store
+IsOfKind (Redis place room) store IsOpened = IsOnRedis store (IsOpened place)

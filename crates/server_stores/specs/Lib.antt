@@ -1,6 +1,7 @@
--- Independent of each other.
+-- Independent of each other, but for Opened, which cites Prefix.
 pub mod Differences
 pub mod Kinds
+pub mod Opened
 pub mod Places
 pub mod Prefix
 pub mod Seen

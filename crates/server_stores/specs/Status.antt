@@ -2,8 +2,10 @@
 use Rattle.std.specs.Prelude.{ℕ}
 use Rattle.folder_shelf.specs.declared.fault.FolderFault.{FolderFault}
 use Rattle.folder_shelf.specs.declared.fault.FolderFault.TheVariants as folder
+use Rattle.redis_store.specs.declared.fault.ServerFault.{ServerFault}
+use Rattle.redis_store.specs.declared.fault.ServerFault.TheVariants as server
 use Rattle.server_stores.specs.declared.fault.ProgramFault.{ProgramFault}
-use Rattle.server_stores.specs.declared.fault.ProgramFault.TheVariants.{PollFailed, Arguments, Shares, Stores, Room, New, NoAddress, AddressInUse, NotAllowed, NotBound, SecretUnread, SecretTooLong, FewHandles, NoMemory, NotPrinted, NotThere, NoneAbove, Empty, Folder, OtherGrid, Twice, NewFolder, DiskFull, NoRoom, NotEmpty, OtherCount, ImageUnread, BadImage, ImageUnwritten, NotWell, RedisUnknown, Redis, RedisUnread, PasswordUnread}
+use Rattle.server_stores.specs.declared.fault.ProgramFault.TheVariants.{PollFailed, Arguments, Shares, Stores, Room, New, NoAddress, AddressInUse, NotAllowed, NotBound, SecretUnread, SecretTooLong, FewHandles, NoMemory, NotPrinted, NotThere, NoneAbove, Empty, Folder, OtherGrid, Twice, NewFolder, DiskFull, NoRoom, NotEmpty, OtherCount, ImageUnread, BadImage, ImageUnwritten, NotWell, RedisUnknown, Redis, PasswordUnread}
 
 -- the status where a folder was refused; 20 is between them, that of a full disk
 abbrev pub folder_status : FolderFault → ℕ
@@ -17,6 +19,14 @@ folder_status (folder.OtherPlace place) = 18
 folder_status folder.OtherGrid = 19
 folder_status folder.Failed = 21
 folder_status folder.NoMemory = 10
+
+-- the status where a Redis server was refused: as of a folder where it is another's, or its settings are rotten
+abbrev pub server_status : ServerFault → ℕ
+server_status server.SettingsRotten = 17
+server_status (server.OtherPlace place) = 18
+server_status server.OtherGrid = 19
+server_status server.OtherSecret = 19
+server_status _ = 29
 
 -- the status of a fault; 0 is that of a run that was stopped, or that did what it was asked
 abbrev pub status_of : ProgramFault → ℕ
@@ -51,6 +61,5 @@ status_of (BadImage place) = 26
 status_of ImageUnwritten = 27
 status_of NotWell = 28
 status_of RedisUnknown = 29
-status_of (Redis fault) = 29
-status_of (RedisUnread fault) = 29
+status_of (Redis fault) = server_status fault
 status_of PasswordUnread = 30

@@ -1,10 +1,10 @@
 //! Why the program ended before it was stopped.
 ghost use Rattle.std.specs.Prelude.{◌≡◌};
-ghost use Rattle.server_stores.specs.Status.{status_of, folder_status};
+ghost use Rattle.server_stores.specs.Status.{status_of, folder_status, server_status};
 
 use crate::difference::Difference;
 use folder_shelf::FolderFault;
-use redis_shelf::RedisFault;
+use redis_store::ServerFault;
 use share_shelf::{OpenFault, ShelfFault};
 use share_store::StoreFault;
 use std::alloc::{AllocError, AllocFailed};
@@ -106,12 +106,9 @@ pub enum ProgramFault {
     /// The host of a Redis server isn't known.
     #[error("there is no such host")]
     RedisUnknown,
-    /// A Redis server gave no answer at the start, or refused.
+    /// A Redis server is another's, or gave at the start what is no answer.
     #[error("the Redis server can't be used: {0}")]
-    Redis(RedisFault),
-    /// A Redis server that answered failed while its shares were read.
-    #[error("the Redis server failed while its shares were read: {0}")]
-    RedisUnread(RedisFault),
+    Redis(ServerFault),
     /// The file of the Redis servers' password could not be read.
     #[error("the Redis password file can't be read")]
     PasswordUnread,
@@ -134,7 +131,6 @@ impl ProgramFault {
             ProgramFault::OtherCount(_, _) => true,
             ProgramFault::RedisUnknown => true,
             ProgramFault::Redis(_) => true,
-            ProgramFault::RedisUnread(_) => true,
             _ => false,
         }
     }
@@ -180,8 +176,7 @@ impl ProgramFault {
             ProgramFault::ImageUnwritten => 27,
             ProgramFault::NotWell => 28,
             ProgramFault::RedisUnknown => 29,
-            ProgramFault::Redis(_) => 29,
-            ProgramFault::RedisUnread(_) => 29,
+            ProgramFault::Redis(fault) => status_of_server(fault),
             ProgramFault::PasswordUnread => 30,
         }
     }
@@ -202,6 +197,19 @@ fn status_of_folder(fault: &FolderFault) -> u8
         FolderFault::OtherGrid => 19,
         FolderFault::Failed => 21,
         FolderFault::NoMemory => 10,
+    }
+}
+
+/// The status with which the program exits where a Redis server was refused: that of a folder where it is another's.
+fn status_of_server(fault: &ServerFault) -> u8
+    ensures { result ≡ server_status fault.now }
+{
+    match fault {
+        ServerFault::SettingsRotten => 17,
+        ServerFault::OtherPlace(_) => 18,
+        ServerFault::OtherGrid => 19,
+        ServerFault::OtherSecret => 19,
+        _ => 29,
     }
 }
 

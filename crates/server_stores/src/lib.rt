@@ -19,8 +19,6 @@ pub mod seen;
 pub mod places;
 /// Files of a few bytes.
 pub mod small_files;
-/// Bytes as text.
-mod escaped;
 /// Stores on Redis servers.
 mod redis_stores;
 /// The stores of the gateway.

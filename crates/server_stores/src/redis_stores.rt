@@ -1,47 +1,36 @@
 //! Stores on Redis servers.
-ghost use Rattle.std.specs.Prelude.{◌≡◌, IfOk};
+ghost use Rattle.std.specs.Prelude.{◌≡◌, true, IfOk, IfNone, IfSome};
 ghost use Rattle.std.specs.Option.{option_map};
+ghost use Rattle.server_stores.specs.Opened.{IsDown, IsOpenedAs, IsToldAs};
 ghost use Rattle.server_stores.specs.Prefix.{prefix};
 
-use crate::escaped::Escaped;
 use crate::fault::ProgramFault;
 use crate::small_files::read_at_most;
+use folder_shelf::Settings;
 use log::{Log, info, warn};
 use octets::Bytes;
-use redis_shelf::{RedisFault, RedisShelf, Settings, TcpLink, Times};
+use redis_store::{PacedLink, RedisStore, Server, ServerFault};
 use server_options::RedisPlace;
-use share_shelf::{OpenFault, Shelf, ShelfFault};
-use share_store::{Store, StoreFault};
-use shelf_store::ShelfStore;
 use std::alloc::{AllocError, Global};
 use std::net::{Net, SocketAddr, ToSocketAddrs};
 use std::rt::Files;
-use std::time::{Clock, Duration};
-
-/// For how many seconds a connection to a Redis server is waited for.
-const CONNECT_SECONDS: u64 = 1;
-
-/// For how many seconds a command may be written and its reply come.
-const EXCHANGE_SECONDS: u64 = 5;
-
-/// For how many seconds a Redis server is left alone after a fault.
-const REST_SECONDS: u64 = 5;
+use std::time::Clock;
 
 /// How many bytes a share may have on a Redis server: more than one of the largest body has.
 const LONGEST: u32 = 67_108_864;
 
 /// A store whose shares are on a Redis server alone.
-pub type RedisStore<R> = ShelfStore<RedisShelf<TcpLink<R>>>;
+pub type OnRedis<R> = RedisStore<PacedLink<R>>;
 
 /// How a store on a Redis server is opened.
 #[derive(Clone, Copy)]
 pub struct RedisOpening<'a> {
     /// The server, and the store's name there.
     pub place: RedisPlace<'a>,
+    /// Whose it is to be.
+    pub settings: Settings,
     /// The server's password, if it wants one.
     pub password: Option<&'a [u8]>,
-    /// How many bytes of shares it takes.
-    pub room: u64,
 }
 
 /// How many bytes a password may have, with a line's end behind it.
@@ -68,127 +57,128 @@ pub fn read_password<R: AllocGlobal + Files>(
     Ok(Some(password))
 }
 
-/// Opens a store on a Redis server: asks it for its shares, reads each once for its length, and logs what is left alone.
-/// A fault is told by the server's name.
+/// Opens a store on a Redis server, which is asked whose it is and nothing else. One that is down is logged: its store
+/// asks again when it is called. One that is another's is refused, and told by its name.
 pub fn open_on_redis<R: AllocGlobal + Net + Clock + Clone + Drop + Log + Eprint>(
     rt: &R,
     opening: &RedisOpening<'_>,
-) -> Result<RedisStore<R>, ProgramFault> {
-    let address = opening.place.address;
+) -> Result<OnRedis<R>, ProgramFault>
+    ensures { IfOk result (λ store. IsOpenedAs opening.now.place.name.now opening.now.settings
+        (option_map (λ password. password.now) opening.now.password)
+        store.grid store.longest store.connection.first) }
+{
     match open_place(rt, opening) {
-        Ok(store) => {
-            log_opened(rt, address, store.held(), store.shelf());
-            Ok(store)
-        }
-        Err(fault) => {
-            if fault.is_of_a_store() {
-                let _ = eprintln!(rt; "wozhinnam: redis:{address}: {fault}");
-            }
-            Err(fault)
-        }
+        Ok(store) => Ok(store),
+        Err(fault) => Err(told(rt, opening.place.address, fault)),
     }
 }
 
-/// Logs how many bytes of shares a Redis server has, and how many names are left alone.
-fn log_opened<R: Net + Clock + Drop + Log>(
-    rt: &R,
-    address: &str,
-    held: u64,
-    shelf: &RedisShelf<TcpLink<R>>,
-) {
-    info!(rt; "redis:{address}: {held} bytes of shares");
-    let (names, count) = shelf.strangers();
-    for name in names {
-        let told = Escaped(name.as_slice());
-        warn!(rt; "redis:{address}: no share and left alone: {told}");
+/// Tells a fault of a Redis server by the server's name on standard error.
+fn told<R: Eprint>(rt: &R, address: &str, fault: ProgramFault) -> ProgramFault {
+    if fault.is_of_a_store() {
+        let _ = eprintln!(rt; "wozhinnam: redis:{address}: {fault}");
     }
-    if count > names.len() as u64 {
-        warn!(rt; "redis:{address}: {count} names that are no share's are left alone");
-    }
+    fault
 }
 
-/// The store at the first address of a server that answers.
-fn open_place<R: AllocGlobal + Net + Clock + Clone + Drop>(
+/// The store at the first address of a server that answers, or else at the first of all.
+fn open_place<R: AllocGlobal + Net + Clock + Clone + Drop + Log>(
     rt: &R,
     opening: &RedisOpening<'_>,
-) -> Result<RedisStore<R>, ProgramFault> {
-    let Ok(addresses) = opening.place.address.to_socket_addrs(rt) else {
+) -> Result<OnRedis<R>, ProgramFault>
+    ensures { IfOk result (λ store. IsOpenedAs opening.now.place.name.now opening.now.settings
+        (option_map (λ password. password.now) opening.now.password)
+        store.grid store.longest store.connection.first) }
+{
+    let name = opening.place.address;
+    let Ok(addresses) = name.to_socket_addrs(rt) else {
         return Err(ProgramFault::RedisUnknown);
     };
-    let mut fault = ProgramFault::RedisUnknown;
+    let mut first = None;
     for address in addresses {
-        match reach(rt, address, opening) {
-            Ok(shelf) => return open_shelf(rt.alloc(), shelf, opening.room),
-            Err(refused) => fault = refused,
+        if let Some(store) = reach(rt, address, opening)? {
+            info!(rt; "redis:{name}: in use");
+            return Ok(store);
+        }
+        if first.is_none() {
+            first = Some(address);
         }
     }
-    Err(fault)
+    let Some(address) = first else {
+        return Err(ProgramFault::RedisUnknown);
+    };
+    warn!(rt; "redis:{name}: served without, until it answers");
+    store_at(rt, address, opening)
 }
 
-/// The store over a shelf.
-fn open_shelf<R: Net + Clock + Drop>(
-    alloc: Global,
-    shelf: RedisShelf<TcpLink<R>>,
-    room: u64,
-) -> Result<RedisStore<R>, ProgramFault> {
-    match ShelfStore::open(alloc, shelf, room) {
-        Ok(store) => Ok(store),
-        Err((fault, shelf)) => Err(why_not_opened(fault, shelf.last_fault())),
-    }
-}
-
-/// Why a store was not opened over a Redis server that had answered, by the fault in which its shelf failed last.
-fn why_not_opened(fault: OpenFault, last: Option<RedisFault>) -> ProgramFault {
-    match fault {
-        OpenFault::Shelf(ShelfFault::NoMemory) => ProgramFault::NoMemory,
-        OpenFault::Store(StoreFault::NoMemory) => ProgramFault::NoMemory,
-        OpenFault::Store(StoreFault::Full) => ProgramFault::NoRoom,
-        _ => match last {
-            Some(last) => ProgramFault::RedisUnread(last),
-            None => ProgramFault::RedisUnread(RedisFault::OtherReply),
+/// The store at this address, which was asked whose it is. `None` where it is down, which is logged.
+fn reach<R: AllocGlobal + Net + Clock + Clone + Drop + Log>(
+    rt: &R,
+    address: SocketAddr,
+    opening: &RedisOpening<'_>,
+) -> Result<Option<OnRedis<R>>, ProgramFault>
+    ensures opened { IfOk result (λ found. IfSome found (λ store. IsOpenedAs opening.now.place.name.now
+        opening.now.settings (option_map (λ password. password.now) opening.now.password)
+        store.grid store.longest store.connection.first)) }
+    ensures open { IfOk result (λ found. IfSome found (λ store. store.connection.is_open ≡ true)) }
+{
+    let mut store = store_at(rt, address, opening)?;
+    match store.reach() {
+        Ok(()) => Ok(Some(store)),
+        Err(fault) => match why_refused(fault) {
+            Some(refused) => Err(refused),
+            None => {
+                warn!(rt; "redis:{}: not at {address}: {fault}", opening.place.address);
+                Ok(None)
+            }
         },
     }
 }
 
-/// The shelf on the server at this address, which answered.
-fn reach<R: AllocGlobal + Net + Clock + Clone + Drop>(
+/// The store at this address. Nothing is asked yet.
+fn store_at<R: AllocGlobal + Net + Clock + Clone + Drop>(
     rt: &R,
     address: SocketAddr,
     opening: &RedisOpening<'_>,
-) -> Result<RedisShelf<TcpLink<R>>, ProgramFault> {
-    let link = TcpLink::new(rt.clone()?, address, times());
-    let settings = settings_of(rt.alloc(), opening)?;
-    let mut shelf = RedisShelf::new(rt.alloc(), link, settings);
-    match shelf.read([0; 16], 0) {
-        Ok(_) => Ok(shelf),
-        Err(ShelfFault::NoMemory) => Err(ProgramFault::NoMemory),
-        Err(ShelfFault::Failed) => Err(why_not_reached(shelf.last_fault())),
-    }
+) -> Result<OnRedis<R>, ProgramFault>
+    ensures { IfOk result (λ store. IsOpenedAs opening.now.place.name.now opening.now.settings
+        (option_map (λ password. password.now) opening.now.password)
+        store.grid store.longest store.connection.first) }
+{
+    let link = PacedLink::new(rt.clone()?, address);
+    let server = server_of(rt.alloc(), opening)?;
+    Ok(RedisStore::new(rt.alloc(), link, server)?)
 }
 
-/// Why a Redis server didn't answer.
-fn why_not_reached(fault: Option<RedisFault>) -> ProgramFault {
+/// Why a start is refused where a server answered so to its first question. A server that is down is no reason.
+fn why_refused(fault: ServerFault) -> Option<ProgramFault>
+    ensures down { IfNone result (IsDown fault) }
+    ensures refused { IfSome result (λ refused. (IsDown fault → ⊥) × IsToldAs fault refused) }
+{
     match fault {
-        Some(fault) => ProgramFault::Redis(fault),
-        None => ProgramFault::Redis(RedisFault::Link),
+        ServerFault::Link | ServerFault::NotOpened | ServerFault::Resting => None,
+        ServerFault::NoMemory => Some(ProgramFault::NoMemory),
+        _ => Some(ProgramFault::Redis(fault)),
     }
 }
 
-/// What a shelf has to know of its server.
-fn settings_of(alloc: Global, opening: &RedisOpening<'_>) -> Result<Settings, AllocError>
-    ensures grid { IfOk result (λ settings. settings.grid ≡ prefix opening.now.place.name.now) }
-    ensures password { IfOk result (λ settings. settings.password
+/// What a store has to know of its server.
+fn server_of(alloc: Global, opening: &RedisOpening<'_>) -> Result<Server, AllocError>
+    ensures grid { IfOk result (λ server. server.grid ≡ prefix opening.now.place.name.now) }
+    ensures settings { IfOk result (λ server. server.settings ≡ opening.now.settings) }
+    ensures password { IfOk result (λ server. server.password
         ≡ option_map (λ password. password.now) opening.now.password) }
+    ensures longest { IfOk result (λ server. server.longest ≡ 67_108_864) }
 {
     let password = match opening.password {
         Some(password) => Some(Bytes::from_slice(alloc, password)?),
         None => None,
     };
-    Ok(Settings {
+    Ok(Server {
         grid: names_begin(alloc, opening.place.name)?,
+        settings: opening.settings,
         password,
         longest: LONGEST,
-        rest: REST_SECONDS,
     })
 }
 
@@ -198,12 +188,4 @@ fn names_begin(alloc: Global, name: &str) -> Result<Bytes, AllocError>
 {
     let text = format!(in alloc; "wozhinnam:{name}:")?;
     Ok(Bytes::from_vec(text.into_bytes()))
-}
-
-/// How long a Redis server is waited for.
-fn times() -> Times {
-    Times {
-        connect: Duration::from_secs(CONNECT_SECONDS),
-        exchange: Duration::from_secs(EXCHANGE_SECONDS),
-    }
 }

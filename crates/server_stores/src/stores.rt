@@ -1,11 +1,13 @@
 //! The stores of the gateway.
-ghost use Rattle.std.specs.Prelude.{IfOk};
+ghost use Rattle.std.specs.Prelude.{◌≡◌, IfOk};
+ghost use Rattle.std.specs.Option.{option_map};
 ghost use Rattle.server_stores.specs.Kinds.{IsOfKind, IsOnRedis};
+ghost use Rattle.server_stores.specs.Opened.{IsOpenedAs};
 
 use crate::either_store::EitherStore;
 use crate::fault::ProgramFault;
 use crate::folders::{DiskStore, FolderStore, Opening, look, named, open_folder, open_on_disk};
-use crate::redis_stores::{RedisOpening, RedisStore, open_on_redis, read_password};
+use crate::redis_stores::{OnRedis, RedisOpening, open_on_redis, read_password};
 use crate::seen::{Seen, log_new, refuse_mistakes};
 use folder_shelf::Settings;
 use log::Log;
@@ -19,7 +21,7 @@ use std::time::Clock;
 /// A server's store: in memory alone, in memory and in a folder, on a disk alone, or on a Redis server.
 pub type ServerStore<R> = EitherStore<
     MemStore,
-    EitherStore<FolderStore<R>, EitherStore<DiskStore<R>, RedisStore<R>>>,
+    EitherStore<FolderStore<R>, EitherStore<DiskStore<R>, OnRedis<R>>>,
 >;
 
 /// The stores that are wanted, opened in their order: the settings are those of the grid's first server. Each folder
@@ -139,7 +141,7 @@ fn leads_to<R: Net + AllocGlobal>(rt: &R, name: &str, address: SocketAddr) -> bo
 /// What stores are opened with, wherever they have their shares.
 #[derive(Clone, Copy)]
 struct Asked<'a> {
-    /// Those of a server's folder.
+    /// Those of the server at hand.
     settings: Settings,
     /// Whether changes in folders are synced.
     synced: bool,
@@ -147,7 +149,22 @@ struct Asked<'a> {
     password: Option<&'a [u8]>,
 }
 
-impl Asked<'_> {
+impl<'a> Asked<'a> {
+    /// How a store at this place is opened.
+    fn on_redis(&self, place: RedisPlace<'a>) -> RedisOpening<'a>
+        ensures { result ≡ record {
+          place = place.entry;
+          settings = self.now.settings;
+          password = self.now.password;
+        } }
+    {
+        RedisOpening {
+            place,
+            settings: self.settings,
+            password: self.password,
+        }
+    }
+
     /// How a folder with this room is opened.
     fn opening(&self, room: u64) -> Opening {
         Opening {
@@ -164,7 +181,9 @@ fn open_wanted<R: Files<File = File> + AllocGlobal + Net + Clock + Clone + Drop 
     wanted: &StoreWanted<'_>,
     asked: &Asked<'_>,
 ) -> Result<ServerStore<R>, ProgramFault>
-    ensures { IfOk result (λ store. IsOfKind wanted.now store) }
+    ensures { IfOk result (λ store. IsOfKind wanted.now store (λ place on_redis. IsOpenedAs
+        place.name.now asked.now.settings (option_map (λ password. password.now) asked.now.password)
+        on_redis.grid on_redis.longest on_redis.connection.first)) }
 {
     match wanted {
         StoreWanted::Memory(room) => Ok(EitherStore::First(MemStore::new(rt.alloc(), *room))),
@@ -178,25 +197,21 @@ fn open_wanted<R: Files<File = File> + AllocGlobal + Net + Clock + Clone + Drop 
             Ok(store) => Ok(EitherStore::Second(EitherStore::Second(EitherStore::First(store)))),
             Err(fault) => Err(fault),
         },
-        StoreWanted::Redis(place, room) => open_redis(rt, *place, *room, asked.password),
+        StoreWanted::Redis(place, _) => open_redis(rt, &asked.on_redis(*place)),
     }
 }
 
 /// Opens one store on a Redis server.
 fn open_redis<R: Files + AllocGlobal + Net + Clock + Clone + Drop + Log + Eprint>(
     rt: &R,
-    place: RedisPlace<'_>,
-    room: u64,
-    password: Option<&[u8]>,
+    opening: &RedisOpening<'_>,
 ) -> Result<ServerStore<R>, ProgramFault>
-    ensures { IfOk result IsOnRedis }
+    ensures { IfOk result (λ store. IsOnRedis store (λ on_redis. IsOpenedAs
+        opening.now.place.name.now opening.now.settings
+        (option_map (λ password. password.now) opening.now.password)
+        on_redis.grid on_redis.longest on_redis.connection.first)) }
 {
-    let opening = RedisOpening {
-        place,
-        password,
-        room,
-    };
-    match open_on_redis(rt, &opening) {
+    match open_on_redis(rt, opening) {
         Ok(store) => Ok(EitherStore::Second(EitherStore::Second(EitherStore::Second(store)))),
         Err(fault) => Err(fault),
     }
