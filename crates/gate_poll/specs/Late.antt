@@ -41,13 +41,13 @@ abbrev pub begun_at : Instant → Pace → Pace
 begun_at now pace = record pace { counts = true; began = now; moved = 0; again = pace.counts }
 
 -- with so many bytes more, where they count
-abbrev pub with_bytes : Instant → ℕ → Pace → Pace
-with_bytes now count pace = record pace { last = now; moved = if pace.counts then min (pace.moved + count) (2 ^ 64 - 1) else pace.moved }
+abbrev pub with_moved : Instant → ℕ → Pace → Pace
+with_moved now count pace = record pace { last = now; moved = if pace.counts then min (pace.moved + count) (2 ^ 64 - 1) else pace.moved }
 
 -- after so many bytes were moved
 abbrev pub moved_by : Limits → Instant → ℕ → Pace → Pace
 moved_by limits now zero pace = pace
-moved_by limits now (suc n) pace = with_bytes now (suc n) (if begins_now limits now pace then begun_at now pace else pace)
+moved_by limits now (suc n) pace = with_moved now (suc n) (if begins_now limits now pace then begun_at now pace else pace)
 
 -- after a write blocked: the count of a taker begins, and anew once it lasted
 abbrev pub blocked_at : Limits → Instant → Pace → Pace
