@@ -1,10 +1,12 @@
-//! What the cases are about: a shelf in memory, a store of each kind, a file system with a folder, and a server's shelf.
+//! What the cases are about: a shelf in memory, a store of each kind, a file system with a folder, and a server's shelf and
+//! store.
 use crate::folders::{self, Folder};
 use crate::redis_shelves::{self, Played};
-use crate::{kept_stores, shelf_stores, shelves};
+use crate::{kept_stores, redis_stores, shelf_stores, shelves};
 use case_lines::{Answers, Case, NoAnswer};
 use kept_store::KeptStore;
 use redis_shelf::RedisShelf;
+use redis_store::RedisStore;
 use share_shelf::FailShelf;
 use shelf_store::ShelfStore;
 use std::alloc::Global;
@@ -22,6 +24,8 @@ pub struct Bench {
     folder: Option<Folder>,
     /// A shelf on a server that answers what it was told to.
     redis: Option<RedisShelf<Played>>,
+    /// A store on such a server.
+    shared: Option<RedisStore<Played>>,
 }
 
 impl Bench {
@@ -33,6 +37,7 @@ impl Bench {
             stored: None,
             folder: None,
             redis: None,
+            shared: None,
         }
     }
 }
@@ -45,6 +50,7 @@ impl Answers for Bench {
             "stored" => shelf_stores::answer(alloc, &self.shelf, &mut self.stored, case),
             "folder" => folders::answer(alloc, &mut self.folder, case),
             "redis" => redis_shelves::answer(alloc, &mut self.redis, case),
+            "shared" => redis_stores::answer(alloc, &mut self.shared, case),
             _ => Err(NoAnswer::Question),
         }
     }

@@ -10,6 +10,8 @@ mod folders;
 mod kept_stores;
 /// Shelves on a Redis server.
 mod redis_shelves;
+/// Stores on a Redis server.
+mod redis_stores;
 /// Calls of shelves.
 mod shelf_calls;
 /// Stores whose bytes are on a shelf.

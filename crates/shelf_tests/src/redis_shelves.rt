@@ -29,6 +29,36 @@ pub struct Played {
 }
 
 impl Played {
+    /// A server that gives so many bytes at once, and the replies that stand from a place on.
+    pub fn new(
+        alloc: Global,
+        at_once: u64,
+        case: &Case<'_>,
+        from: usize,
+    ) -> Result<Played, NoAnswer> {
+        let mut replies = Vec::new(alloc);
+        for at in from..case.len() {
+            replies.push(case.bytes(alloc, at)?)?;
+        }
+        replies.reverse();
+        Ok(Played {
+            replies,
+            waiting: Vec::new(alloc),
+            read: 0,
+            told: Vec::new(alloc),
+            clock: 0,
+            at_once: at_once as usize,
+        })
+    }
+
+    /// What it was told.
+    pub fn into_told(self, alloc: Global) -> Result<String, NoAnswer> {
+        match String::from_utf8(self.told) {
+            Ok(text) => debug(alloc, &text),
+            Err(_) => fixed(alloc, "no text"),
+        }
+    }
+
     /// Writes down what it is told.
     fn write_down(&mut self, bytes: &[u8]) -> Result<(), LinkFault> {
         for byte in bytes {
@@ -94,23 +124,6 @@ fn settings(
     })
 }
 
-/// The server of a case: how many bytes it gives at once stand at place 2, and its replies from place 5 on.
-fn server_of(alloc: Global, case: &Case<'_>) -> Result<Played, NoAnswer> {
-    let mut replies = Vec::new(alloc);
-    for at in 5..case.len() {
-        replies.push(case.bytes(alloc, at)?)?;
-    }
-    replies.reverse();
-    Ok(Played {
-        replies,
-        waiting: Vec::new(alloc),
-        read: 0,
-        told: Vec::new(alloc),
-        clock: 0,
-        at_once: case.number(2)? as usize,
-    })
-}
-
 /// A shelf on such a server: for how many seconds the server is left alone and the password stand at places 3 and 4. No
 /// bytes are no password.
 fn made(alloc: Global, case: &Case<'_>) -> Result<RedisShelf<Played>, NoAnswer> {
@@ -120,7 +133,8 @@ fn made(alloc: Global, case: &Case<'_>) -> Result<RedisShelf<Played>, NoAnswer> 
         false => Some(Bytes::from_vec(password)),
     };
     let settings = settings(alloc, 6, password, case.number(3)?)?;
-    Ok(RedisShelf::new(alloc, server_of(alloc, case)?, settings))
+    let server = Played::new(alloc, case.number(2)?, case, 5)?;
+    Ok(RedisShelf::new(alloc, server, settings))
 }
 
 /// The answer to a case of a shelf on a server.
@@ -173,8 +187,5 @@ fn told(alloc: Global, held: Option<RedisShelf<Played>>) -> Result<String, NoAns
     let Some(shelf) = held else {
         return Err(NoAnswer::Question);
     };
-    match String::from_utf8(shelf.into_link().told) {
-        Ok(text) => debug(alloc, &text),
-        Err(_) => fixed(alloc, "no text"),
-    }
+    shelf.into_link().into_told(alloc)
 }

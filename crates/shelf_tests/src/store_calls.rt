@@ -33,7 +33,7 @@ fn with_bytes<S: Store>(alloc: Global, store: &mut S, answer: &str) -> Result<St
 }
 
 /// The answer to the call that begins at a place, if one does.
-fn call<S: Store>(
+pub fn call<S: Store>(
     alloc: Global,
     store: &mut S,
     case: &Case<'_>,
