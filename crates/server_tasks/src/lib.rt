@@ -147,7 +147,10 @@ fn listen_for<R: Print + Net>(rt: &R, options: &Options<'_>) -> Result<Listeners
 fn bound_buffer(listener: &TcpListener) {
     let mut bytes = [0; 16];
     bytes[..4].copy_from_slice(&BUFFERED.to_ne_bytes());
-    setsockopt(listener.as_raw_fd(), SOL_SOCKET, SO_SNDBUF, &bytes, 4);
+    // SAFETY: what the call requires of the option and of the length is shown, and it keeps nothing of the bytes.
+    unsafe {
+        setsockopt(listener.as_raw_fd(), SOL_SOCKET, SO_SNDBUF, &bytes, 4);
+    }
 }
 
 /// Listens for control requests, if that is asked for.
