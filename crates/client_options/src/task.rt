@@ -1,5 +1,12 @@
 //! What the client is asked for.
 
+ghost use Rattle.std.specs.Prelude.{◌≡◌, IfOk, map, option_map, string_bytes};
+ghost use Rattle.clap.specs.Faults.{fault_of};
+ghost use Rattle.clap.specs.Kinds.{FailsBy};
+ghost use Rattle.clap.specs.Words.{first_of, found_of, rows_of, subcommand_rows_of};
+ghost use Rattle.client_options.specs.Asked.{AreOptionsOf, IsNodeOf, IsTask, is_set, word_of, words_of};
+ghost use Rattle.client_options.specs.CommandLine.{woz};
+
 use crate::arguments::program;
 use clap::{ArgMatches, Error};
 use std::alloc::{AllocError, Global};
@@ -60,65 +67,64 @@ pub enum Task<'a> {
 }
 
 /// Reads the words of a command line, the program's name first.
-pub fn read_words<'a>(alloc: Global, words: &'a [String]) -> Result<Options<'a>, Error> {
+pub fn read_words<'a>(alloc: Global, words: &'a [String]) -> Result<Options<'a>, Error>
+    ensures refused { FailsBy (fault_of woz (map string_bytes words.now)) result }
+    ensures read { IfOk result (AreOptionsOf (map string_bytes words.now)) }
+{
     let matches = program(alloc)?.try_get_matches_from(words)?;
     let task = read_task(alloc, &matches)?;
     Ok(Options {
-        gateway: matches.get_str("gateway"),
-        quiet: matches.get_flag("quiet"),
+        gateway: find_word(&matches, "gateway"),
+        quiet: has_flag(&matches, "quiet"),
         task,
     })
 }
 
 /// Reads what is to be done.
-fn read_task<'a>(alloc: Global, matches: &ArgMatches<'a>) -> Result<Task<'a>, AllocError> {
+fn read_task<'a>(alloc: Global, matches: &ArgMatches<'a>) -> Result<Task<'a>, AllocError>
+    ensures { IfOk result (IsTask (subcommand_rows_of matches.now)) }
+{
     if let Some(given) = matches.subcommand_matches("put") {
-        return Ok(Task::Put {
-            what: given.get_str("what").unwrap_or("-"),
-            recursive: given.get_flag("recursive"),
-        });
-    }
-    if let Some(given) = matches.subcommand_matches("get") {
-        return Ok(Task::Get {
+        Ok(Task::Put {
+            what: word_of(given, "what"),
+            recursive: has_flag(given, "recursive"),
+        })
+    } else if let Some(given) = matches.subcommand_matches("get") {
+        Ok(Task::Get {
             node: node_of(given),
-            file: given.get_str("file"),
-            recursive: given.get_flag("recursive"),
-        });
-    }
-    if let Some(given) = matches.subcommand_matches("ls") {
-        return Ok(Task::List {
+            file: find_word(given, "file"),
+            recursive: has_flag(given, "recursive"),
+        })
+    } else if let Some(given) = matches.subcommand_matches("ls") {
+        Ok(Task::List {
             node: node_of(given),
-            json: given.get_flag("json"),
-        });
-    }
-    if let Some(given) = matches.subcommand_matches("check") {
-        return Ok(Task::Check {
+            json: has_flag(given, "json"),
+        })
+    } else if let Some(given) = matches.subcommand_matches("check") {
+        Ok(Task::Check {
             node: node_of(given),
-            verify: given.get_flag("verify"),
-            read: given.get_flag("read"),
-            recursive: given.get_flag("recursive"),
-        });
-    }
-    if let Some(given) = matches.subcommand_matches("repair") {
-        return Ok(Task::Repair {
+            verify: has_flag(given, "verify"),
+            read: has_flag(given, "read"),
+            recursive: has_flag(given, "recursive"),
+        })
+    } else if let Some(given) = matches.subcommand_matches("repair") {
+        Ok(Task::Repair {
             node: node_of(given),
-            recursive: given.get_flag("recursive"),
-        });
+            recursive: has_flag(given, "recursive"),
+        })
+    } else if let Some(given) = matches.subcommand_matches("mkdir") {
+        Ok(Task::Mkdir(words_of(alloc, given, "children")?))
+    } else {
+        // `clap` takes no words without a verb.
+        Err(AllocError)
     }
-    let mut children = Vec::new(alloc);
-    if let Some(given) = matches.subcommand_matches("mkdir") {
-        if let Some(values) = given.get_strs("children") {
-            for value in values {
-                children.push(*value)?;
-            }
-        }
-    }
-    Ok(Task::Mkdir(children))
 }
 
 /// The cap, and what follows its first `/`.
-fn node_of<'a>(given: &ArgMatches<'a>) -> Node<'a> {
-    let text = given.get_str("node").unwrap_or("");
+fn node_of<'a>(given: &ArgMatches<'a>) -> Node<'a>
+    ensures { IsNodeOf (rows_of (found_of given.now)) result }
+{
+    let text = word_of(given, "node");
     match text.split_once('/') {
         Some((cap, path)) => Node { cap, path },
         None => Node {
@@ -126,4 +132,47 @@ fn node_of<'a>(given: &ArgMatches<'a>) -> Node<'a> {
             path: "",
         },
     }
+}
+
+/// Whether a flag is set.
+fn has_flag(given: &ArgMatches<'_>, name: &str) -> bool
+    ensures { result ≡ is_set name.now (rows_of (found_of given.now)) }
+{
+    match find_word(given, name) {
+        Some(word) => word == "true",
+        None => false,
+    }
+}
+
+/// The word under a name, or an empty one.
+fn word_of<'a>(given: &ArgMatches<'a>, name: &str) -> &'a str
+    ensures { result.now ≡ word_of name.now (rows_of (found_of given.now)) }
+{
+    match find_word(given, name) {
+        Some(word) => word,
+        None => "",
+    }
+}
+
+/// The word under a name, if one was given.
+fn find_word<'a>(given: &ArgMatches<'a>, name: &str) -> Option<&'a str>
+    ensures { option_map (λ s. s.now) result ≡ first_of name.now (rows_of (found_of given.now)) }
+{
+    given.get_str(name)
+}
+
+/// All words under a name, in their order.
+fn words_of<'a>(
+    alloc: Global,
+    given: &ArgMatches<'a>,
+    name: &str,
+) -> Result<Vec<&'a str>, AllocError>
+    ensures { IfOk result (λ words. map (λ s. s.now) words.items
+        ≡ words_of name.now (rows_of (found_of given.now))) }
+{
+    let mut words = Vec::new(alloc);
+    if let Some(values) = given.get_strs(name) {
+        words.extend_from_slice(values)?;
+    }
+    Ok(words)
 }

@@ -1,0 +1,3 @@
+pub mod CommandLine
+-- Over it.
+pub mod Asked
