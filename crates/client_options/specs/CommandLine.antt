@@ -20,31 +20,31 @@ abbrev pub recursive : Rule
 recursive = record (flag (codes "recursive")) { short = Some 114 }
 
 -- a word by its place
-abbrev pub placed : List ℕ → Rule
-placed name = record (new_rule name) { value_names = 1 }
+abbrev pub placed_rule : List ℕ → Rule
+placed_rule name = record (new_rule name) { value_names = 1 }
 
 -- one that has to stand
 abbrev pub needed : List ℕ → Rule
-needed name = record (placed name) { required = true }
+needed name = record (placed_rule name) { required = true }
 
 -- one or more that have to stand
 abbrev pub needed_all : List ℕ → Rule
 needed_all name = record (needed name) { action = Some Append }
 
 -- the cap, and a path below it
-abbrev pub node : Rule
-node = needed (codes "node")
+abbrev pub node_rule : Rule
+node_rule = needed (codes "node")
 
 -- a verb and what may stand behind it
 abbrev pub verb : List ℕ → List Rule → Shape
 verb name rules = record (new_shape name) { rules = rules }
 
-abbrev pub verbs : List Shape
-verbs = verb (codes "put") (recursive ∷ needed (codes "what") ∷ [])
-    ∷ verb (codes "get") (recursive ∷ node ∷ placed (codes "file") ∷ [])
-    ∷ verb (codes "ls") (flag (codes "json") ∷ node ∷ [])
-    ∷ verb (codes "check") (flag (codes "verify") ∷ flag (codes "read") ∷ recursive ∷ node ∷ [])
-    ∷ verb (codes "repair") (recursive ∷ node ∷ [])
+abbrev pub verb_shapes : List Shape
+verb_shapes = verb (codes "put") (recursive ∷ needed (codes "what") ∷ [])
+    ∷ verb (codes "get") (recursive ∷ node_rule ∷ placed_rule (codes "file") ∷ [])
+    ∷ verb (codes "ls") (flag (codes "json") ∷ node_rule ∷ [])
+    ∷ verb (codes "check") (flag (codes "verify") ∷ flag (codes "read") ∷ recursive ∷ node_rule ∷ [])
+    ∷ verb (codes "repair") (recursive ∷ node_rule ∷ [])
     ∷ verb (codes "mkdir") (needed_all (codes "children") ∷ [])
     ∷ []
 
@@ -57,7 +57,7 @@ woz = record {
     has_version = true;
     subcommand_required = true;
   };
-  subs = verbs;
+  subs = verb_shapes;
 }
 
 -- an argument has this rule
