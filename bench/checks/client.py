@@ -223,6 +223,11 @@ def parts(client, server, folder):
     client.run(server.url, "get", "-r", tree, "with long again")
     same_trees(os.path.join(folder, "with long"), os.path.join(folder, "with long again"))
     client.run(server.url, "check", "--read", cap)
+    if len(client.text(server.url, "check", cap).splitlines()) != 1 + count:
+        fail("a check of a file in parts doesn't look at each part")
+    if len(client.text(server.url, "check", tree).splitlines()) != 1:
+        fail("a check of a folder looks at more than its directory")
+    client.run(server.url, "repair", cap)
 
     seen = []
 

@@ -1,2 +1,3 @@
--- One file.
+-- Independent of each other.
 pub mod Causes
+pub mod Had

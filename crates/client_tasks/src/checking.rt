@@ -1,4 +1,6 @@
 //! Checking and repairing.
+ghost use Rattle.std.specs.Prelude.{IfOk, IfSome};
+ghost use Rattle.client_tasks.specs.Had.{IsAskedCheck, IsReadThrough, IsStoredHad};
 
 use crate::disk::Nowhere;
 use crate::fault::TaskFault;
@@ -30,7 +32,9 @@ pub fn read_all<R: AllocGlobal + Eprint + Drop, E: Exchange>(
     cap: &Cap,
     recursive: bool,
     told: bool,
-) -> Result<(), TaskFault> {
+) -> Result<(), TaskFault>
+    ensures { IfOk result (λ done. IsReadThrough recursive cap.now) }
+{
     let alloc = rt.alloc();
     if !recursive {
         if let Cap::DirChk(_) | Cap::DirLit(_) = cap {
@@ -46,8 +50,8 @@ pub fn read_all<R: AllocGlobal + Eprint + Drop, E: Exchange>(
     Ok(read?)
 }
 
-/// Prints what the gateway says of the shares of what a cap is of, and with `recursive` of all that it leads to. `NotWell`
-/// where it says that some are missing or not good.
+/// Prints what the gateway says of the shares of what a cap is of, of a file in parts and of each part, and with `recursive`
+/// of all that it leads to. `NotWell` where it says that some are missing or not good.
 pub fn check<R: AllocGlobal + Print, E: Exchange>(
     rt: &R,
     gateway: &mut E,
@@ -64,9 +68,7 @@ pub fn check<R: AllocGlobal + Print, E: Exchange>(
             break;
         };
         well = check_one(rt, gateway, &cap, verify)? && well;
-        if recursive {
-            push_children(alloc, gateway, &cap, &mut left)?;
-        }
+        push_children(alloc, gateway, &cap, recursive, &mut left)?;
     }
     if !left.is_empty() {
         return Err(TaskFault::Tree(TreeFault::TooMany));
@@ -106,7 +108,10 @@ fn ask_report<E: Exchange>(
     gateway: &mut E,
     cap: &Cap,
     verify: bool,
-) -> Result<Option<Report>, TaskFault> {
+) -> Result<Option<Report>, TaskFault>
+    ensures { IfOk result (λ report. IfSome report (λ said.
+        IsAskedCheck E.told gateway.old cap.now verify gateway.new)) }
+{
     let Some(cap) = weaken(cap) else {
         return Ok(None);
     };
@@ -151,16 +156,19 @@ fn read_report(alloc: Global, body: &[u8]) -> Result<Option<Report>, AllocError>
     }
 }
 
-/// Appends the caps of a directory's children.
+/// Appends the caps of a directory's children: with `recursive` of each, else of the parts of a file alone.
 fn push_children<E: Exchange>(
     alloc: Global,
     gateway: &mut E,
     cap: &Cap,
+    recursive: bool,
     left: &mut Vec<Cap>,
 ) -> Result<(), TaskFault> {
     if let Cap::DirChk(_) | Cap::DirLit(_) = cap {
         let directory = fetch_directory(alloc, gateway, cap)?;
-        return push_caps(alloc, &directory, left);
+        if recursive || parts_size(alloc, &directory)?.is_some() {
+            return push_caps(alloc, &directory, left);
+        }
     }
     Ok(())
 }
@@ -173,8 +181,8 @@ fn push_caps(alloc: Global, directory: &Directory, left: &mut Vec<Cap>) -> Resul
     Ok(())
 }
 
-/// Has missing shares put back of what a cap is of, and with `recursive` of all that it leads to: what isn't healthy is read,
-/// held against its cap and stored again. `NotWell` where it was stored under another cap.
+/// Has missing shares put back of what a cap is of, of a file in parts and of each part, and with `recursive` of all that it
+/// leads to: what isn't healthy is read, held against its cap and stored again. `NotWell` where it was stored under another cap.
 pub fn repair<R: AllocGlobal + Print, E: Exchange>(
     rt: &R,
     gateway: &mut E,
@@ -189,9 +197,7 @@ pub fn repair<R: AllocGlobal + Print, E: Exchange>(
             return Ok(());
         };
         repair_one(rt, gateway, &cap)?;
-        if recursive {
-            push_children(alloc, gateway, &cap, &mut left)?;
-        }
+        push_children(alloc, gateway, &cap, recursive, &mut left)?;
     }
     Err(TaskFault::Tree(TreeFault::TooMany))
 }
@@ -227,7 +233,9 @@ fn store_again<E: Exchange>(
     alloc: Global,
     gateway: &mut E,
     fields: &ReadFields,
-) -> Result<(), TaskFault> {
+) -> Result<(), TaskFault>
+    ensures { IfOk result (λ done. IsStoredHad fields.now) }
+{
     let bytes = fetch_stored(alloc, gateway, fields)?;
     let (made, _) = put_file(alloc, gateway, bytes)?;
     if has_fields(&made, fields) {

@@ -1,4 +1,7 @@
 //! Caps and paths as they are given.
+ghost use Rattle.std.specs.Prelude.{IfOk};
+ghost use Rattle.caps.specs.CapTexts.{IsCapText};
+ghost use Rattle.client_tasks.specs.Had.{IsCapOf};
 
 use crate::fault::TaskFault;
 use caps::{Cap, CapFault, parse_bytes};
@@ -12,7 +15,9 @@ use unicode_normalization::to_nfc;
 const MOST_OF_A_CAP_FILE: usize = 4096;
 
 /// The cap of a text, or of the file whose name follows `@`.
-pub fn read_cap<R: Files + AllocGlobal>(rt: &R, text: &str) -> Result<Cap, TaskFault> {
+pub fn read_cap<R: Files + AllocGlobal>(rt: &R, text: &str) -> Result<Cap, TaskFault>
+    ensures { IfOk result (IsCapOf text.now) }
+{
     match text.strip_prefix('@') {
         Some(path) => {
             let Ok(bytes) = fs::read(rt, path) else {
@@ -28,7 +33,9 @@ pub fn read_cap<R: Files + AllocGlobal>(rt: &R, text: &str) -> Result<Cap, TaskF
 }
 
 /// The cap of a text.
-fn cap_of(alloc: Global, text: &[u8]) -> Result<Cap, TaskFault> {
+fn cap_of(alloc: Global, text: &[u8]) -> Result<Cap, TaskFault>
+    ensures { IfOk result (λ cap. IsCapText cap text.now) }
+{
     match parse_bytes(alloc, text) {
         Ok(cap) => Ok(cap),
         Err(CapFault::NoMemory) => Err(TaskFault::NoMemory),

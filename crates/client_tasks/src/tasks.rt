@@ -1,4 +1,6 @@
 //! Reading the words, and doing what they ask for.
+ghost use Rattle.std.specs.Prelude.{◌≡◌, IsTrue, IfOk, IfSome, string_bytes};
+ghost use Rattle.client_tasks.specs.Had.{IsEndOf, IsReadAt};
 
 use crate::checking::{check, read_all, repair};
 use crate::fault::TaskFault;
@@ -7,6 +9,7 @@ use crate::getting::{get_to_file, get_to_folder, get_to_output};
 use crate::given::{read_cap, read_names};
 use crate::listing::{list, list_json};
 use crate::putting::{make_folder, put_folder, put_one};
+use caps::Cap;
 use client_core::{Exchange, walk};
 use client_link::Redialing;
 use client_options::{Node, Options, Task, read_words};
@@ -71,7 +74,10 @@ fn run_with<R: Env + Print + Eprint + Input + AllocGlobal + Files + Net + Clone 
 }
 
 /// The gateway's URL: that of the words, or else of the environment.
-fn url_of<R: Env + AllocGlobal>(rt: &R, options: &Options<'_>) -> Result<String, TaskFault> {
+fn url_of<R: Env + AllocGlobal>(rt: &R, options: &Options<'_>) -> Result<String, TaskFault>
+    ensures { IfSome options.now.gateway (λ url. IfOk result (λ text.
+        string_bytes text ≡ url.now)) }
+{
     if let Some(url) = options.gateway {
         return Ok(String::from_str(rt.alloc(), url)?);
     }
@@ -111,9 +117,7 @@ fn do_task<R: Print + Eprint + Input + AllocGlobal + Files + Clone + Drop, E: Ex
             recursive,
         } => check_node(rt, gateway, node, *verify, *read, *recursive, told),
         Task::Repair { node, recursive } => {
-            let cap = read_cap(rt, node.cap)?;
-            let names = read_names(rt.alloc(), node.path)?;
-            let end = walk(rt.alloc(), gateway, &cap, &names)?;
+            let end = end_of(rt, gateway, node)?;
             repair(rt, gateway, end, *recursive)
         }
         Task::Mkdir(children) => make_folder(rt, gateway, children),
@@ -168,13 +172,27 @@ fn check_node<R: Print + Eprint + AllocGlobal + Files + Drop, E: Exchange>(
     read: bool,
     recursive: bool,
     told: bool,
-) -> Result<(), TaskFault> {
-    let cap = read_cap(rt, node.cap)?;
-    let names = read_names(rt.alloc(), node.path)?;
-    let end = walk(rt.alloc(), gateway, &cap, &names)?;
+) -> Result<(), TaskFault>
+    ensures { IsTrue read → IfOk result (λ done. IsReadAt node.now recursive) }
+{
+    let end = end_of(rt, gateway, node)?;
     if read {
         read_all(rt, gateway, &end, recursive, told)
     } else {
         check(rt, gateway, end, verify, recursive)
     }
+}
+
+/// The cap to which the names of a node lead from its cap.
+fn end_of<R: AllocGlobal + Files, E: Exchange>(
+    rt: &R,
+    gateway: &mut E,
+    node: &Node<'_>,
+) -> Result<Cap, TaskFault>
+    ensures { IfOk result (IsEndOf node.now) }
+{
+    let cap = read_cap(rt, node.cap)?;
+    let names = read_names(rt.alloc(), node.path)?;
+    let end = walk(rt.alloc(), gateway, &cap, &names)?;
+    Ok(end)
 }
