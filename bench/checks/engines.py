@@ -216,7 +216,8 @@ def one_server(options, folder, faults):
         faults.wants("an upload to one server", (status, cap), 200)
         faults.wants("a read of it", client.get(cap), 200, body)
         caps.append(cap)
-    engine.limit(-100_000)
+    # Half of what it uses, so that nothing that it gives back makes room.
+    engine.limit(-engine.used() // 2)
     for at in range(100):
         faults.wants("an upload to a full server", client.put(body_of("more %d" % at, options.most)), 503, "store full")
         for cap, body in zip(caps, bodies):

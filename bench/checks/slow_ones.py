@@ -107,14 +107,19 @@ class Slow:
         size = 16_000_000
         stream.sendall(b"PUT /uri HTTP/1.1\r\nHost: stuck\r\nContent-Length: %d\r\n\r\n" % size + b"a" * (size - 1000))
         began = time.monotonic()
+        stream.settimeout(silence * 0.9)
         try:
             while time.monotonic() < began + 6 * silence:
-                time.sleep(silence * 0.9)
-                stream.sendall(b"a")
+                try:
+                    # An end that comes meanwhile, and no reply.
+                    if not stream.recv(1):
+                        break
+                except TimeoutError:
+                    stream.sendall(b"a")
         except OSError:
             pass
         took = time.monotonic() - began
-        if took > 4 * silence:
+        if took > 3.5 * silence:
             self.words.append("a body that drips was still taken after %d seconds" % took)
         stream.close()
 
