@@ -1,14 +1,11 @@
 -- Vectors whose lanes run side by side.
-use Rattle.std.proofs.Common.{◌≡◌, ℕ, ◌+◌, ◌-◌, ◌*◌, ◌<◌, ◌≤◌, zero, suc, List, [], ◌∷◌, ◌++◌, slice_index, w32, get_or, refl, sym, ap, ◌∙◌, arith}
-use Rattle.std.proofs.lemmas.List.FromFn.{get_or-map-range_with_len}
+use Rattle.std.proofs.Common.{zero, suc, [], ◌∷◌, ◌++◌, ◌*◌, length, take, subst, ◌^◌, w32, map, get_or, refl, ◌≡◌, ℕ, ◌+◌, ◌-◌, ◌<◌, ◌≤◌, List, slice_index, sym, ap, ◌∙◌, arith}
+use Rattle.std.specs.Borrow.{Bor}
 use Rattle.std.specs.Int.{from_be_bytes}
-use Rattle.sha2.specs.Sha256.{add32, add_state, compress, first_words, next_word, round, round_constants, rounds, schedule, small_sigma0, small_sigma1}
+use Rattle.std.proofs.lemmas.List.FromFn.{get_or-map-range_with_len}
+use Rattle.sha2.specs.Sha256.{add32, first_words, next_word, round, round_constants, rounds, schedule, small_sigma0, small_sigma1}
 use Rattle.sha2.proofs.Schedule256.{rounds_next, slice_index-schedule_next}
-use Rattle.tag_hash.specs.Lanes.{four, one_of, scheduled, together, vectors}
-
--- one of the vectors
-pub vectors_at : (n : ℕ) (f : ℕ → ℕ → ℕ) (k : ℕ) → k < n → get_or (vectors n f) k [] ≡ four (f k)
-vectors_at n f k lt = get_or-map-range_with_len (λ k. four (f k)) 0 n k k [] lt (omega arith)
+use Rattle.tag_hash.specs.Lanes.{bytes_in, eight, scheduled, together, vectors}
 
 -- a word of the schedules from the four words before it
 pub scheduled_next : (b : ℕ → List ℕ) (t k : ℕ) → t + 24 ≤ 64 → k < 8 → (j : ℕ)
@@ -28,15 +25,15 @@ scheduled_next b t k le lt j =
     ∙ ap (λ (i : ℕ). add32 (add32 (add32 (small_sigma1 (s (t + (k + 14)))) (s (t + (k + 9)))) (small_sigma0 (s (t + (k + 1))))) (s i)) e16)
 
 -- the same places of a schedule, counted from sixteen words on
-pub scheduled_from : (b : ℕ → List ℕ) (t k : ℕ) → four (scheduled b (t + 16 + k)) ≡ four (scheduled b (t + (16 + k)))
-scheduled_from b t k = let e : t + 16 + k ≡ t + (16 + k) = omega arith in ap (λ (i : ℕ). four (scheduled b i)) e
+pub scheduled_from : {V : Type 0} (of : (ℕ → ℕ) → V) (b : ℕ → List ℕ) (t k : ℕ) → of (scheduled b (t + 16 + k)) ≡ of (scheduled b (t + (16 + k)))
+scheduled_from of b t k = let e : t + 16 + k ≡ t + (16 + k) = omega arith in ap (λ (i : ℕ). of (scheduled b i)) e
 
 -- a vector of the schedules' next words
-pub next_vector : (b : ℕ → List ℕ) (t k : ℕ) (x : List ℕ) → t + 24 ≤ 64 → k < 8
-    → x ≡ four (λ j. add32 (add32 (add32 (small_sigma1 (scheduled b (t + (k + 14)) j)) (scheduled b (t + (k + 9)) j))
+pub next_vector : {V : Type 0} (of : (ℕ → ℕ) → V) (b : ℕ → List ℕ) (t k : ℕ) (x : V) → t + 24 ≤ 64 → k < 8
+    → x ≡ of (λ j. add32 (add32 (add32 (small_sigma1 (scheduled b (t + (k + 14)) j)) (scheduled b (t + (k + 9)) j))
     (small_sigma0 (scheduled b (t + (k + 1)) j))) (scheduled b (t + k) j))
-    → x ≡ four (scheduled b (t + 16 + k))
-next_vector b t k x le lt e = e ∙ (λ i. four (λ j. scheduled_next b t k le lt j i))
+    → x ≡ of (scheduled b (t + 16 + k))
+next_vector of b t k x le lt e = e ∙ (λ i. of (λ j. scheduled_next b t k le lt j i))
 
 -- one round more
 pub round_more : (b h : List ℕ) (t : ℕ) → round (rounds h (schedule b 48) t) (slice_index round_constants t) (slice_index (schedule b 48) t) ≡ rounds h (schedule b 48) (t + 1)
@@ -50,36 +47,52 @@ first_words_same a b same (suc n) =
     λ i. first_words_same a b same n i
     ++ from_be_bytes w32 (same (4 * n) i ∷ same (4 * n + 1) i ∷ same (4 * n + 2) i ∷ same (4 * n + 3) i ∷ []) ∷ []
 
-schedule_same : (a b : List ℕ) → ((k : ℕ) → slice_index a k ≡ slice_index b k) → (n : ℕ) → schedule a n ≡ schedule b n
+-- what is past a block's end counts as zeros
+pub schedule_same : (a b : List ℕ) → ((k : ℕ) → slice_index a k ≡ slice_index b k) → (n : ℕ) → schedule a n ≡ schedule b n
 unfolding schedule
 schedule_same a b same zero = first_words_same a b same 16
 schedule_same a b same (suc n) = ap (λ w. w ++ next_word w (n + 16) ∷ []) (schedule_same a b same n)
 
--- what is past a block's end counts as zeros
-pub compress_same : (h a b : List ℕ) → ((k : ℕ) → slice_index a k ≡ slice_index b k) → compress h a ≡ compress h b
-unfolding compress
-compress_same h a b same = ap (λ w. add_state h (rounds h w 64)) (schedule_same a b same 48)
-
--- a block of each message, by its lane
-pub together_blocks : (h : ℕ → List ℕ) (f : List ℕ → List ℕ) (a b c d x y z u : List ℕ)
-    → ((k : ℕ) → slice_index x k ≡ slice_index (f a) k) → ((k : ℕ) → slice_index y k ≡ slice_index (f b) k)
-    → ((k : ℕ) → slice_index z k ≡ slice_index (f c) k) → ((k : ℕ) → slice_index u k ≡ slice_index (f d) k)
-    → together 8 (λ j. compress (h j) (one_of x y z u j)) ≡ together 8 (λ j. compress (h j) (f (one_of a b c d j)))
-together_blocks h f a b c d x y z u ea eb ec ed =
-    rw (compress_same (h 0) x (f a) ea, compress_same (h 1) y (f b) eb, compress_same (h 2) z (f c) ec, compress_same (h 3) u (f d) ed) refl
-
 -- what holds of each lane
-pub each_lane : (P : ℕ → Type 0) → P 0 → P 1 → P 2 → P 3 → (j : ℕ) → j < 4 → P j
-each_lane P first second third last zero lt = first
-each_lane P first second third last (suc zero) lt = second
-each_lane P first second third last (suc (suc zero)) lt = third
-each_lane P first second third last (suc (suc (suc zero))) lt = last
-each_lane P first second third last (suc (suc (suc (suc j)))) lt = absurd (omega arith)
+pub each_lane : (P : ℕ → Type 0) → P 0 → P 1 → P 2 → P 3 → P 4 → P 5 → P 6 → P 7 → (j : ℕ) → j < 8 → P j
+each_lane P a b c d e f g h zero lt = a
+each_lane P a b c d e f g h (suc zero) lt = b
+each_lane P a b c d e f g h (suc (suc zero)) lt = c
+each_lane P a b c d e f g h (suc (suc (suc zero))) lt = d
+each_lane P a b c d e f g h (suc (suc (suc (suc zero)))) lt = e
+each_lane P a b c d e f g h (suc (suc (suc (suc (suc zero))))) lt = f
+each_lane P a b c d e f g h (suc (suc (suc (suc (suc (suc zero)))))) lt = g
+each_lane P a b c d e f g h (suc (suc (suc (suc (suc (suc (suc zero))))))) lt = h
+each_lane P a b c d e f g h (suc (suc (suc (suc (suc (suc (suc (suc j)))))))) lt = absurd (omega arith)
 
-pub four_at : (f : ℕ → ℕ) (j : ℕ) → j < 4 → slice_index (four f) j ≡ f j
-four_at f = each_lane (λ j. slice_index (four f) j ≡ f j) refl refl refl refl
+-- no byte string, which stands past a list's end
+abbrev pub no_bytes : Bor (List ℕ)
+no_bytes = record { ref_ptr = (0, 0); now = [] }
 
--- one word of one lane
-pub word_of_lane : (v : List (List ℕ)) (h : ℕ → List ℕ) (k j : ℕ) → v ≡ together 8 h → k < 8 → j < 4 → slice_index (get_or v k []) j ≡ slice_index (h j) k
-word_of_lane v h k j e kt jt =
-    rw (e, vectors_at 8 (λ k j. slice_index (h j) k) k kt) (four_at (λ i. slice_index (h i) k) j jt)
+-- one of some byte strings
+pub bytes_at : (l : List (Bor (List ℕ))) (k : ℕ) (d : Bor (List ℕ)) → d.now ≡ [] → get_or (map (λ (block : Bor (List ℕ)). block.now) l) k [] ≡ (get_or l k d).now
+bytes_at [] k d e = sym e
+bytes_at (x ∷ l) zero d e = refl
+bytes_at (x ∷ l) (suc k) d e = bytes_at l k d e
+
+-- the values that hashes are of, in their order
+pub hashed : (f : List ℕ → List ℕ) (hashes : List (List ℕ)) (values : List (Bor (List ℕ))) → length values ≤ length hashes
+    → ((j : ℕ) → j < length values → get_or hashes j [] ≡ f (bytes_in values j)) → take (length values) hashes ≡ map (λ (value : Bor (List ℕ)). f value.now) values
+hashed f hashes [] le each = refl
+hashed f [] (x ∷ values) le each = absurd (omega arith)
+hashed f (y ∷ hashes) (x ∷ values) le each =
+    λ i. each 0 (omega arith) i ∷ hashed f hashes values (omega arith) (λ j lt. each (suc j) (omega arith)) i
+
+vectors_at : {V : Type 0} (of : (ℕ → ℕ) → V) (n : ℕ) (f : ℕ → ℕ → ℕ) (k : ℕ) (d : V) → k < n → get_or (vectors of n f) k d ≡ of (f k)
+vectors_at of n f k d lt = get_or-map-range_with_len (λ k. of (f k)) 0 n k k d lt (omega arith)
+
+-- a vector of words, one of each list
+pub vector_of_lane : {V : Type 0} (of : (ℕ → ℕ) → V) (v : List V) (h : ℕ → List ℕ) (k : ℕ) (d : V) → v ≡ together of 8 h → k < 8 → get_or v k d ≡ of (λ j. slice_index (h j) k)
+vector_of_lane of v h k d e lt = rw e (vectors_at of 8 (λ k j. slice_index (h j) k) k d lt)
+
+pub eight_at : (f : ℕ → ℕ) (j : ℕ) → j < 8 → slice_index (eight f) j ≡ f j
+eight_at f = each_lane (λ j. slice_index (eight f) j ≡ f j) refl refl refl refl refl refl refl refl
+
+-- one of some values, behind a prefix that leaves it short
+pub short_at : (p : List ℕ) (values : List (Bor (List ℕ))) (j : ℕ) → length p + length (bytes_in values j) < 2 ^ 60 → length p + length (get_or values j no_bytes).now < 2 ^ 60
+short_at p values j short = subst (λ (v : List ℕ). length p + length v < 2 ^ 60) (bytes_at values j no_bytes refl) short

@@ -1,9 +1,9 @@
-//! SHA-256's compression (FIPS 180-4, 6.2.2) of four blocks at once: vector by vector, with a message in each lane.
-ghost use Rattle.std.specs.Prelude.{◌≡◌, ℕ, List, ◌+◌, ◌-◌, ◌*◌, ◌/◌, ◌%◌, ◌^◌, ◌<◌, ◌≤◌, length, bit_or};
-ghost use Rattle.sha2.specs.Sha256.{add32, add_state, big_sigma0, big_sigma1, ch, compress, maj, round, small_sigma0, small_sigma1, word_at};
-ghost use Rattle.tag_hash.specs.Lanes.{four, one_of, scheduled, together, variables_at, words_from};
+//! SHA-256's compression (FIPS 180-4, 6.2.2) of several blocks at once: vector by vector, with a message in each lane.
+ghost use Rattle.std.specs.Prelude.{◌≡◌, ℕ, List, ◌+◌, ◌-◌, ◌*◌, ◌<◌, ◌≤◌};
+ghost use Rattle.sha2.specs.Sha256.{add32, add_state, compress, round, small_sigma0, small_sigma1, word_at};
+ghost use Rattle.tag_hash.specs.Lanes.{AreBlocks, scheduled, together, variables_at, words_from};
 
-use std::simd::prelude::*;
+use crate::words::Words;
 
 /// The round constants (4.2.2).
 const ROUND_CONSTANTS: [u32; 64] = [
@@ -17,133 +17,104 @@ const ROUND_CONSTANTS: [u32; 64] = [
     0x748F82EE, 0x78A5636F, 0x84C87814, 0x8CC70208, 0x90BEFFFA, 0xA4506CEB, 0xBEF9A3F7, 0xC67178F2,
 ];
 
-/// Bit by bit, `y` where `x` has a 1 and `z` where it has a 0.
-#[inline(always)]
-fn choice(x: u32x4, y: u32x4, z: u32x4) -> u32x4
-    ensures { (f g h : ℕ → ℕ) → x ≡ four f → y ≡ four g → z ≡ four h
-        → result ≡ four (λ j. ch (f j) (g j) (h j)) }
-{
-    (x & y) ^ (!x & z)
-}
-
-/// Bit by bit, what most of the three have: `y`, but where it differs from both others. In the next round `x ^ y` is
-/// `y ^ z`, which is then at hand.
-#[inline(always)]
-fn majority(x: u32x4, y: u32x4, z: u32x4) -> u32x4
-    ensures { (f g h : ℕ → ℕ) → x ≡ four f → y ≡ four g → z ≡ four h
-        → result ≡ four (λ j. maj (f j) (g j) (h j)) }
-{
-    y ^ ((x ^ y) & (y ^ z))
-}
-
-/// A rotation to the right.
-#[inline(always)]
-fn rotated(x: u32x4, n: u32) -> u32x4
-    requires above { 0 < n }
-    requires below { n < 32 }
-    ensures { (f : ℕ → ℕ) → x ≡ four f
-        → result ≡ four (λ j. bit_or (f j / 2 ^ n) (f j * 2 ^ (32 - n) % 2 ^ 32)) }
-{
-    (x >> u32x4::splat(n)) | (x << u32x4::splat(32 - n))
-}
-
-/// The upper case sigma 0 (4.1.2), its rotations by 2, 13 and 22 nested into one another.
-#[inline(always)]
-fn upper_sigma0(x: u32x4) -> u32x4
-    ensures { (f : ℕ → ℕ) → x ≡ four f → result ≡ four (λ j. big_sigma0 (f j)) }
-{
-    rotated(x ^ rotated(x ^ rotated(x, 9), 11), 2)
-}
-
-/// The upper case sigma 1 (4.1.2), its rotations by 6, 11 and 25 nested.
-#[inline(always)]
-fn upper_sigma1(x: u32x4) -> u32x4
-    ensures { (f : ℕ → ℕ) → x ≡ four f → result ≡ four (λ j. big_sigma1 (f j)) }
-{
-    rotated(x ^ rotated(x ^ rotated(x, 14), 5), 6)
-}
-
-/// The lower case sigma 0 (4.1.2), its rotations by 7 and 18 nested.
-#[inline(always)]
-fn lower_sigma0(x: u32x4) -> u32x4
-    ensures { (f : ℕ → ℕ) → x ≡ four f → result ≡ four (λ j. small_sigma0 (f j)) }
-{
-    rotated(x ^ rotated(x, 11), 7) ^ (x >> u32x4::splat(3))
-}
-
-/// The lower case sigma 1 (4.1.2), its rotations by 17 and 19 nested.
-#[inline(always)]
-fn lower_sigma1(x: u32x4) -> u32x4
-    ensures { (f : ℕ → ℕ) → x ≡ four f → result ≡ four (λ j. small_sigma1 (f j)) }
-{
-    rotated(x ^ rotated(x, 2), 17) ^ (x >> u32x4::splat(10))
-}
-
 /// The word at byte `at` of a block.
 #[inline(always)]
-fn word(block: &[u8], at: usize) -> u32
-    requires { at + 4 ≤ length block.now }
+fn word(block: &[u8; 64], at: usize) -> u32
+    requires { at + 4 ≤ 64 }
     ensures { result ≡ word_at block.now at }
 {
     u32::from_be_bytes([block[at], block[at + 1], block[at + 2], block[at + 3]])
 }
 
-/// The words of four blocks.
+/// Word `i` of each block.
 #[inline(always)]
-fn first_words(a: &[u8], b: &[u8], c: &[u8], d: &[u8]) -> [u32x4; 16]
-    requires long_a { length a.now ≡ 64 }
-    requires long_b { length b.now ≡ 64 }
-    requires long_c { length c.now ≡ 64 }
-    requires long_d { length d.now ≡ 64 }
-    ensures { result ≡ words_from (one_of a.now b.now c.now d.now) 0 }
+fn words_at<L: Words>(blocks: &[&[u8; 64]; 8], i: usize) -> L
+    requires { i < 16 }
+    ensures { (b : ℕ → List ℕ) → AreBlocks blocks.now b → result ≡ L.of (scheduled b (0 + i)) }
 {
-    let mut words = [u32x4::splat(0); 16];
-    for i in 0..16usize {
-        let at = 4 * i;
-        words[i] = u32x4::from_array([word(a, at), word(b, at), word(c, at), word(d, at)]);
-    }
-    words
+    let at = 4 * i;
+    let [a, b, c, d, e, f, g, h] = *blocks;
+    L::gathered(&[
+        word(a, at),
+        word(b, at),
+        word(c, at),
+        word(d, at),
+        word(e, at),
+        word(f, at),
+        word(g, at),
+        word(h, at),
+    ])
+}
+
+/// The words of as many of the blocks as there are lanes.
+#[inline(always)]
+pub(crate) fn first_words<L: Words>(blocks: &[&[u8; 64]; 8]) -> [L; 16]
+    ensures { (b : ℕ → List ℕ) → AreBlocks blocks.now b → result ≡ words_from L.of b 0 }
+{
+    [
+        words_at(blocks, 0),
+        words_at(blocks, 1),
+        words_at(blocks, 2),
+        words_at(blocks, 3),
+        words_at(blocks, 4),
+        words_at(blocks, 5),
+        words_at(blocks, 6),
+        words_at(blocks, 7),
+        words_at(blocks, 8),
+        words_at(blocks, 9),
+        words_at(blocks, 10),
+        words_at(blocks, 11),
+        words_at(blocks, 12),
+        words_at(blocks, 13),
+        words_at(blocks, 14),
+        words_at(blocks, 15),
+    ]
 }
 
 /// The schedules' next word, from those sixteen, fifteen, seven and two words before it.
 #[inline(always)]
-fn next_word(sixteenth: u32x4, fifteenth: u32x4, seventh: u32x4, second: u32x4) -> u32x4
-    ensures { (f g h k : ℕ → ℕ) → sixteenth ≡ four f → fifteenth ≡ four g → seventh ≡ four h
-        → second ≡ four k
-        → result ≡ four (λ j. add32 (add32 (add32 (small_sigma1 (k j)) (h j))
+fn next_word<L: Words>(sixteenth: L, fifteenth: L, seventh: L, second: L) -> L
+    ensures { (f g h k : ℕ → ℕ) → sixteenth ≡ L.of f → fifteenth ≡ L.of g → seventh ≡ L.of h
+        → second ≡ L.of k
+        → result ≡ L.of (λ j. add32 (add32 (add32 (small_sigma1 (k j)) (h j))
         (small_sigma0 (g j))) (f j)) }
 {
-    lower_sigma1(second) + seventh + lower_sigma0(fifteenth) + sixteenth
+    let early = second.lower_sigma1().plus(seventh);
+    early.plus(fifteenth.lower_sigma0()).plus(sixteenth)
 }
 
 /// One round (6.2.2, step 3).
 #[inline(always)]
-fn round(v: [u32x4; 8], constant: u32, word: u32x4) -> [u32x4; 8]
-    ensures { (vs : ℕ → List ℕ) (x : ℕ → ℕ) → v ≡ together 8 vs → word ≡ four x
-        → result ≡ together 8 (λ j. round (vs j) constant (x j)) }
+fn round<L: Words>(v: [L; 8], constant: u32, word: L) -> [L; 8]
+    ensures { (vs : ℕ → List ℕ) (x : ℕ → ℕ) → v ≡ together L.of 8 vs → word ≡ L.of x
+        → result ≡ together L.of 8 (λ j. round (vs j) constant (x j)) }
 {
     let [a, b, c, d, e, f, g, h] = v;
-    let first = h + upper_sigma1(e) + choice(e, f, g) + u32x4::splat(constant) + word;
-    let second = upper_sigma0(a) + majority(a, b, c);
-    [first + second, a, b, c, d + first, e, f, g]
+    let first = h
+        .plus(e.upper_sigma1())
+        .plus(e.choice(f, g))
+        .plus(L::splat(constant))
+        .plus(word);
+    let second = a.upper_sigma0().plus(a.majority(b, c));
+    [first.plus(second), a, b, c, d.plus(first), e, f, g]
 }
 
 /// Round `from + place`, with its word.
 #[inline(always)]
-fn numbered_round(v: [u32x4; 8], word: u32x4, from: usize, place: usize) -> [u32x4; 8]
+fn numbered_round<L: Words>(v: [L; 8], word: L, from: usize, place: usize) -> [L; 8]
     requires { from + place < 64 }
-    ensures { (b h : ℕ → List ℕ) → word ≡ four (scheduled b (from + place))
-        → v ≡ variables_at b h (from + place)
-        → result ≡ variables_at b h (from + (place + 1)) }
+    ensures { (b h : ℕ → List ℕ) → word ≡ L.of (scheduled b (from + place))
+        → v ≡ variables_at L.of b h (from + place)
+        → result ≡ variables_at L.of b h (from + (place + 1)) }
 {
     round(v, ROUND_CONSTANTS[from + place], word)
 }
 
 /// The first sixteen rounds, with the words of the blocks.
 #[inline(always)]
-fn first_rounds(v: [u32x4; 8], w: &[u32x4; 16]) -> [u32x4; 8]
-    ensures { (b h : ℕ → List ℕ) → w.now ≡ words_from b 0 → v ≡ variables_at b h 0
-        → result ≡ variables_at b h 16 }
+fn first_rounds<L: Words>(v: [L; 8], w: [L; 16]) -> [L; 8]
+    ensures { (b h : ℕ → List ℕ) → w ≡ words_from L.of b 0 → v ≡ variables_at L.of b h 0
+        → result ≡ variables_at L.of b h 16 }
 {
     let v = numbered_round(v, w[0], 0, 0);
     let v = numbered_round(v, w[1], 0, 1);
@@ -163,18 +134,16 @@ fn first_rounds(v: [u32x4; 8], w: &[u32x4; 16]) -> [u32x4; 8]
     numbered_round(v, w[15], 0, 15)
 }
 
-/// Eight rounds from `from` on, by the sixteen words before them. Each next word is made as its round needs it, and the
-/// eight of them follow the last eight of those sixteen.
-///
-/// So few, since a loop of sixteen is too long for a processor to keep it decoded.
+/// The words that eight rounds from `from` on make, after the last eight of the sixteen before them, and the variables.
 #[inline(always)]
-fn later_rounds(v: [u32x4; 8], w: &mut [u32x4; 16], from: usize) -> [u32x4; 8]
+fn later_rounds<L: Words>(v: [L; 8], w: [L; 16], from: usize) -> ([L; 16], [L; 8])
     requires after { 16 ≤ from }
     requires within { from + 8 ≤ 64 }
-    ensures { (b : ℕ → List ℕ) → w.old ≡ words_from b (from - 16)
-        → (w.new ≡ words_from b (from - 8))
-        × ((h : ℕ → List ℕ) → v ≡ variables_at b h from
-        → result ≡ variables_at b h (from + 8)) }
+    ensures words { (b : ℕ → List ℕ) → w ≡ words_from L.of b (from - 16)
+        → result.0 ≡ words_from L.of b (from - 8) }
+    ensures rounded { (b h : ℕ → List ℕ) → w ≡ words_from L.of b (from - 16)
+        → v ≡ variables_at L.of b h from
+        → result.1 ≡ variables_at L.of b h (from + 8) }
 {
     let w0 = next_word(w[0], w[1], w[9], w[14]);
     let v = numbered_round(v, w0, from, 0);
@@ -192,45 +161,44 @@ fn later_rounds(v: [u32x4; 8], w: &mut [u32x4; 16], from: usize) -> [u32x4; 8]
     let v = numbered_round(v, w6, from, 6);
     let w7 = next_word(w[7], w[8], w0, w5);
     let v = numbered_round(v, w7, from, 7);
-    *w = [
-        w[8], w[9], w[10], w[11], w[12], w[13], w[14], w[15], w0, w1, w2, w3, w4, w5, w6, w7,
-    ];
-    v
+    (
+        [
+            w[8], w[9], w[10], w[11], w[12], w[13], w[14], w[15], w0, w1, w2, w3, w4, w5, w6, w7,
+        ],
+        v,
+    )
 }
 
 /// The hash values with the outcome of the rounds added (6.2.2, step 4).
 #[inline(always)]
-fn sums(h: [u32x4; 8], v: [u32x4; 8]) -> [u32x4; 8]
-    ensures { (hs vs : ℕ → List ℕ) → h ≡ together 8 hs → v ≡ together 8 vs
-        → result ≡ together 8 (λ j. add_state (hs j) (vs j)) }
+fn sums<L: Words>(h: [L; 8], v: [L; 8]) -> [L; 8]
+    ensures { (hs vs : ℕ → List ℕ) → h ≡ together L.of 8 hs → v ≡ together L.of 8 vs
+        → result ≡ together L.of 8 (λ j. add_state (hs j) (vs j)) }
 {
     [
-        h[0] + v[0],
-        h[1] + v[1],
-        h[2] + v[2],
-        h[3] + v[3],
-        h[4] + v[4],
-        h[5] + v[5],
-        h[6] + v[6],
-        h[7] + v[7],
+        h[0].plus(v[0]),
+        h[1].plus(v[1]),
+        h[2].plus(v[2]),
+        h[3].plus(v[3]),
+        h[4].plus(v[4]),
+        h[5].plus(v[5]),
+        h[6].plus(v[6]),
+        h[7].plus(v[7]),
     ]
 }
 
 /// The compression of one block more in each lane.
-pub(crate) fn compress_four(state: &mut [u32x4; 8], a: &[u8], b: &[u8], c: &[u8], d: &[u8])
-    requires long_a { length a.now ≡ 64 }
-    requires long_b { length b.now ≡ 64 }
-    requires long_c { length c.now ≡ 64 }
-    requires long_d { length d.now ≡ 64 }
-    ensures { (h : ℕ → List ℕ) → state.old ≡ together 8 h
-        → state.new ≡ together 8 (λ j. compress (h j) (one_of a.now b.now c.now d.now j)) }
+#[inline(always)]
+pub(crate) fn compressed<L: Words>(state: [L; 8], words: [L; 16]) -> [L; 8]
+    ensures { (b h : ℕ → List ℕ) → words ≡ words_from L.of b 0 → state ≡ together L.of 8 h
+        → result ≡ together L.of 8 (λ j. compress (h j) (b j)) }
 {
-    let mut words = first_words(a, b, c, d);
-    let mut v = first_rounds(*state, &words);
+    let mut w = words;
+    let mut v = first_rounds(state, w);
     for turn in 2..8usize {
-        let next = later_rounds(v, &mut words, 8 * turn);
+        let (next_words, next) = later_rounds(v, w, 8 * turn);
+        w = next_words;
         v = next;
     }
-    let sum = sums(*state, v);
-    *state = sum;
+    sums(state, v)
 }

@@ -12,10 +12,12 @@ mod decimals;
 mod netstrings;
 /// Tagged hashes.
 mod hashes;
-/// SHA-256 of four messages at once.
-mod four;
+/// SHA-256 of several messages at once.
+mod messages;
 /// Its compression, in the lanes of vectors.
 mod lanes;
+/// Vectors of words.
+mod words;
 /// Tagged hashes of many values under one tag.
 mod batch;
 /// What holds of the definitions.

@@ -5,9 +5,9 @@ use Rattle.tag_hash.proofs.LaneLemmas.{round_more}
 use Rattle.tag_hash.proofs.lanes.numbered_round.Goals as goal
 
 pub returns : goal.returns
-returns c = λ b h word ev.
+returns g c = λ b h word ev.
     let t : ℕ = c.args.from + c.args.place in
     let later : t + 1 ≡ c.args.from + (c.args.place + 1) = omega arith in
     c.round.ensures (λ j. rounds (h j) (schedule (b j) 48) t) (scheduled b t) ev word
-    ∙ (λ i. together 8 (λ j. round_more (b j) (h j) t i))
-    ∙ ap (variables_at b h) later
+    ∙ (λ i. together g.L.Words.of 8 (λ j. round_more (b j) (h j) t i))
+    ∙ ap (variables_at g.L.Words.of b h) later
