@@ -1,11 +1,9 @@
 -- Round keys and rounds one after another.
-use Rattle.std.proofs.Common.{◌≡◌, ℕ, zero, suc, ◌+◌, List, length, get_or, refl, add-one}
+use Rattle.std.proofs.Common.{◌≡◌, ℕ, ◌+◌, List, refl, add-one}
 use Rattle.aes_ctr.specs.Field.{times_x}
 use Rattle.aes_ctr.specs.Rounds.{sub_bytes, shift_rows, mix_columns, add_round_key}
 use Rattle.aes_ctr.specs.KeyExpansion.{next_round_key, round_key, x_power}
 use Rattle.aes_ctr.specs.Cipher.{after_rounds, encrypt}
-use Rattle.aes_ctr.specs.Planes.{lanes}
-use Rattle.aes_ctr.proofs.StateLemmas.{list_of_16}
 
 -- one power more
 pub x_power_more : (n : ℕ) → times_x (x_power n) ≡ x_power (n + 1)
@@ -16,12 +14,6 @@ x_power_more n = rw add-one
 pub round_key_more : (key : List ℕ) (n : ℕ) → next_round_key (round_key key n) n ≡ round_key key (n + 1)
 unfolding round_key
 round_key_more key n = rw add-one
-
--- a round key as a vector
-pub round_key_lanes : (key : List ℕ) (n : ℕ) → length key ≡ 16 → round_key key n ≡ lanes (λ i. get_or (round_key key n) i 0)
-unfolding round_key next_round_key
-round_key_lanes key zero long = list_of_16 key long
-round_key_lanes key (suc n) long = refl
 
 -- no round yet
 pub no_rounds : (key block : List ℕ) → add_round_key block (round_key key 0) ≡ after_rounds key block 0

@@ -10,7 +10,7 @@ use std::simd::prelude::*;
 
 /// The sums of planes that are multiplied: the lowest plane itself, and y1 to y21.
 #[inline(always)]
-fn input_sums(x: [u8x16; 8]) -> [u8x16; 22]
+fn input_sums(x: [u8x32; 8]) -> [u8x32; 22]
     ensures { (f : ℕ → List ℕ) → x ≡ vectors 8 f → result ≡ vectors 22 (λ i. input_sums (f i)) }
 {
     let [u7, u6, u5, u4, u3, u2, u1, u0] = x;
@@ -45,7 +45,7 @@ fn input_sums(x: [u8x16; 8]) -> [u8x16; 22]
 
 /// The norms of the bytes in the field of 16 elements, whose inverses are wanted: t21 to t24.
 #[inline(always)]
-fn norm(y: [u8x16; 22]) -> [u8x16; 4]
+fn norm(y: [u8x32; 22]) -> [u8x32; 4]
     ensures { (f : ℕ → List ℕ) → y ≡ vectors 22 f → result ≡ vectors 4 (λ i. norm (f i)) }
 {
     let t2 = y[12] & y[15];
@@ -76,7 +76,7 @@ fn norm(y: [u8x16; 22]) -> [u8x16; 4]
 
 /// The inverses in the field of 16 elements, t29, t33, t37 and t40, and the sums of their bits, t41 to t45.
 #[inline(always)]
-fn inverse_of_norm(t: [u8x16; 4]) -> [u8x16; 9]
+fn inverse_of_norm(t: [u8x32; 4]) -> [u8x32; 9]
     ensures { (f : ℕ → List ℕ) → t ≡ vectors 4 f → result ≡ vectors 9 (λ i. inverse_of_norm (f i)) }
 {
     let [t21, t22, t23, t24] = t;
@@ -106,7 +106,7 @@ fn inverse_of_norm(t: [u8x16; 4]) -> [u8x16; 9]
 
 /// The products of these inverses and the sums of the input: z0 to z17.
 #[inline(always)]
-fn products(y: [u8x16; 22], t: [u8x16; 9]) -> [u8x16; 18]
+fn products(y: [u8x32; 22], t: [u8x32; 9]) -> [u8x32; 18]
     ensures { (f g : ℕ → List ℕ) → y ≡ vectors 22 f → t ≡ vectors 9 g
         → result ≡ vectors 18 (λ i. products (f i) (g i)) }
 {
@@ -135,10 +135,10 @@ fn products(y: [u8x16; 22], t: [u8x16; 9]) -> [u8x16; 18]
 
 /// The planes of the outcome, from the products.
 #[inline(always)]
-fn output_sums(z: [u8x16; 18]) -> [u8x16; 8]
+fn output_sums(z: [u8x32; 18]) -> [u8x32; 8]
     ensures { (f : ℕ → List ℕ) → z ≡ vectors 18 f → result ≡ vectors 8 (λ i. output_sums 255 (f i)) }
 {
-    let ones = u8x16::splat(255);
+    let ones = u8x32::splat(255);
     let t46 = z[15] ^ z[16];
     let t47 = z[10] ^ z[11];
     let t48 = z[5] ^ z[13];
@@ -172,9 +172,9 @@ fn output_sums(z: [u8x16; 18]) -> [u8x16; 8]
     [s7 ^ ones, s6 ^ ones, s5, s4, s3, s2 ^ ones, s1 ^ ones, s0]
 }
 
-/// SubBytes (FIPS 197, section 5.1.1) on each of eight states.
+/// SubBytes (FIPS 197, section 5.1.1) on each of sixteen states.
 #[inline(always)]
-pub(crate) fn substituted(x: [u8x16; 8]) -> [u8x16; 8]
+pub(crate) fn substituted(x: [u8x32; 8]) -> [u8x32; 8]
     ensures { (s : ℕ → List ℕ) → ((j i : ℕ) → slice_index (s j) i < 256) → x ≡ planes s
         → result ≡ planes (λ j. sub_bytes (s j)) }
 {

@@ -50,23 +50,24 @@ impl Key {
         let mut done = 0;
         while done < bytes.len() {
             let place = offset + done as u64;
-            let skip = (place % 128) as usize;
-            let end = bytes.len().min(done + (128 - skip));
+            let skip = (place % 256) as usize;
+            let end = bytes.len().min(done + (256 - skip));
             apply_in_group(&keys, place, &mut bytes[done..end]);
             done = end;
         }
     }
 }
 
-/// `apply` to bytes whose places are in one group of eight blocks of the keystream, by the planes of the key's round keys.
-fn apply_in_group(keys: &[[u8x16; 8]; 11], place: u64, bytes: &mut [u8])
+/// `apply` to bytes whose places are in one group of sixteen blocks of the keystream, by the planes of the key's round
+/// keys.
+fn apply_in_group(keys: &[[u8x32; 8]; 11], place: u64, bytes: &mut [u8])
     requires fits { place + length bytes.old < 2 ^ 64 }
-    requires within { place % 128 + length bytes.old ≤ 128 }
+    requires within { place % 256 + length bytes.old ≤ 256 }
     ensures { (key : List ℕ) → ((i : ℕ) → slice_index key i < 256) → AreKeyPlanes key keys.now
         → bytes.new ≡ crypt_from key place bytes.old }
 {
-    let stream = group(keys, place / 128);
-    add(bytes, &stream[(place % 128) as usize..]);
+    let stream = group(keys, place / 256);
+    add(bytes, &stream[(place % 256) as usize..]);
 }
 
 /// Adds to each byte the one at its place in `stream`.

@@ -1,4 +1,4 @@
-//! The keystream (SP 800-38A, section 6.5), eight blocks at a time.
+//! The keystream (SP 800-38A, section 6.5), sixteen blocks at a time.
 
 ghost use Rattle.std.specs.Prelude.{◌≡◌, ℕ, List, ◌+◌, ◌*◌, ◌/◌, ◌%◌, ◌^◌, ◌<◌, slice_index, nat_eq, if◌then◌else◌};
 ghost use Rattle.aes_ctr.specs.Keystream.{counter_block, stream};
@@ -6,34 +6,35 @@ ghost use Rattle.aes_ctr.specs.Planes.{AreKeyPlanes, each_block, lanes, place, p
 
 use crate::planes::added;
 use crate::rounds::encrypted;
-use crate::transposition::{blocks_of, planes_of};
+use crate::transposition::{beside, blocks_of, lower, planes_of, twice, upper};
 use std::simd::prelude::*;
 
-/// The 128 bytes of group `number` of the keystream, which is of eight blocks.
+/// The 256 bytes of group `number` of the keystream, which is of sixteen blocks.
 #[inline(always)]
-pub(crate) fn group(keys: &[[u8x16; 8]; 11], number: u64) -> [u8; 128]
-    requires { number < 2 ^ 57 }
+pub(crate) fn group(keys: &[[u8x32; 8]; 11], number: u64) -> [u8; 256]
+    requires { number < 2 ^ 56 }
     ensures { (key : List ℕ) → ((i : ℕ) → slice_index key i < 256) → AreKeyPlanes key keys.now
-        → (i : ℕ) → i < 128 → slice_index result i ≡ stream key (128 * number + i) }
+        → (i : ℕ) → i < 256 → slice_index result i ≡ stream key (256 * number + i) }
 {
-    let blocks = encrypted(keys, counter_planes(8 * number));
+    let blocks = encrypted(keys, counter_planes(16 * number));
     joined(blocks_of(blocks))
 }
 
-/// The planes of eight counter blocks in a row, from block `number` on.
-fn counter_planes(number: u64) -> [u8x16; 8]
-    requires { number % 8 ≡ 0 }
+/// The planes of sixteen counter blocks in a row, from block `number` on.
+fn counter_planes(number: u64) -> [u8x32; 8]
+    requires { number % 16 ≡ 0 }
     ensures { result ≡ planes (λ j. counter_block (number + j)) }
 {
-    let first = u8x16::from_array((number as u128).to_be_bytes());
-    added(planes_of(first), &places())
+    let low = (number as u128).to_be_bytes();
+    let high = ((number + 8) as u128).to_be_bytes();
+    added(planes_of(beside(low, high)), &places())
 }
 
-/// The planes of eight blocks of which each has its place among them in its last byte.
-fn places() -> [u8x16; 8]
-    ensures { result ≡ planes place }
+/// The planes of sixteen blocks of which each has its place in its half in its last byte.
+fn places() -> [u8x32; 8]
+    ensures { result ≡ planes (λ j. place (j % 8)) }
 {
-    let zeros = u8x16::splat(0);
+    let zeros = u8x32::splat(0);
     [
         last_byte(0xaa),
         last_byte(0xcc),
@@ -46,21 +47,22 @@ fn places() -> [u8x16; 8]
     ]
 }
 
-/// Zeros, and a last byte.
-fn last_byte(byte: u8) -> u8x16
-    ensures { result ≡ lanes (λ i. if nat_eq i 15 then byte else 0) }
+/// Zeros, and a last byte, in each half.
+fn last_byte(byte: u8) -> u8x32
+    ensures { result ≡ lanes (λ i. if nat_eq (i % 16) 15 then byte else 0) }
 {
-    u8x16::from_array([0, 0, 0, 0, 0, 0, 0, 0, 0, 0, 0, 0, 0, 0, 0, byte])
+    twice([0, 0, 0, 0, 0, 0, 0, 0, 0, 0, 0, 0, 0, 0, 0, byte])
 }
 
-/// The bytes of eight blocks in a row.
-fn joined(blocks: [u8x16; 8]) -> [u8; 128]
-    ensures { (s : ℕ → List ℕ) → blocks ≡ each_block s → (i : ℕ) → i < 128
+/// The bytes of sixteen blocks in a row.
+fn joined(blocks: [u8x32; 8]) -> [u8; 256]
+    ensures { (s : ℕ → List ℕ) → blocks ≡ each_block s → (i : ℕ) → i < 256
         → slice_index result i ≡ slice_index (s (i / 16)) (i % 16) }
 {
-    let mut bytes = [0u8; 128];
+    let mut bytes = [0u8; 256];
     for j in 0..8usize {
-        bytes[16 * j..16 * j + 16].copy_from_slice(&blocks[j].to_array());
+        bytes[16 * j..16 * j + 16].copy_from_slice(&lower(blocks[j]));
+        bytes[128 + 16 * j..128 + 16 * j + 16].copy_from_slice(&upper(blocks[j]));
     }
     bytes
 }

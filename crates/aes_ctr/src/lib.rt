@@ -8,17 +8,17 @@
 mod circuit;
 // A key, and its keystream added to bytes.
 mod key;
-// The keystream, eight blocks at a time.
+// The keystream, sixteen blocks at a time.
 mod keystream;
 // What holds of bytes under a keystream.
 pub mod laws;
-// The other steps of a round, on eight states bit by bit.
+// The other steps of a round, on sixteen states bit by bit.
 mod planes;
-// The cipher's rounds on eight blocks.
+// The cipher's rounds on sixteen blocks.
 mod rounds;
 // The round keys of a key.
 mod schedule;
-// Eight blocks bit by bit, and back.
+// Sixteen blocks bit by bit, and back.
 mod transposition;
 
 pub use key::Key;

@@ -1,21 +1,21 @@
 //! The round keys of a key (FIPS 197, section 5.2).
 
-ghost use Rattle.std.specs.Prelude.{◌≡◌, ℕ, List, length};
+ghost use Rattle.std.specs.Prelude.{◌≡◌, ℕ, List};
 ghost use Rattle.aes_ctr.specs.Field.{times_x};
 ghost use Rattle.aes_ctr.specs.Rounds.{sub_bytes};
 ghost use Rattle.aes_ctr.specs.KeyExpansion.{next_round_key, x_power, AreRoundKeys};
 ghost use Rattle.aes_ctr.specs.Planes.{AreKeyPlanes};
 
 use crate::circuit::substituted;
-use crate::transposition::{blocks_of, planes_of};
+use crate::transposition::{blocks_of, lower, planes_of, twice};
 use std::simd::prelude::*;
 
 /// SubBytes (section 5.1.1), as the cipher does it.
 fn sub_bytes(state: [u8; 16]) -> [u8; 16]
     ensures { result ≡ sub_bytes state }
 {
-    let planes = substituted(planes_of(u8x16::from_array(state)));
-    blocks_of(planes)[0].to_array()
+    let planes = substituted(planes_of(twice(state)));
+    lower(blocks_of(planes)[0])
 }
 
 /// A byte times x in the field (section 4.2.1).
@@ -56,14 +56,13 @@ pub(crate) fn expanded(key: [u8; 16]) -> [[u8; 16]; 11]
     keys
 }
 
-/// The planes of a key's round keys, each for all of eight states.
-pub(crate) fn key_planes(keys: &[[u8; 16]; 11]) -> [[u8x16; 8]; 11]
-    ensures { (key : List ℕ) → length key ≡ 16 → AreRoundKeys key keys.now
-        → AreKeyPlanes key result }
+/// The planes of a key's round keys, each for all of sixteen states.
+pub(crate) fn key_planes(keys: &[[u8; 16]; 11]) -> [[u8x32; 8]; 11]
+    ensures { (key : List ℕ) → AreRoundKeys key keys.now → AreKeyPlanes key result }
 {
-    let mut planes = [[u8x16::splat(0); 8]; 11];
+    let mut planes = [[u8x32::splat(0); 8]; 11];
     for n in 0..11 {
-        let of_one = planes_of(u8x16::from_array(keys[n]));
+        let of_one = planes_of(twice(keys[n]));
         planes[n] = of_one;
     }
     planes

@@ -3,16 +3,17 @@
 use crate::Key;
 use crate::rounds::encrypted;
 use crate::schedule::{expanded, key_planes};
-use crate::transposition::{blocks_of, planes_of};
+use crate::transposition::{blocks_of, lower, planes_of, twice};
 use hex::FromHex;
 use std::process::Abort;
 use std::simd::prelude::*;
 use std::test::Fail;
 
 /// A key, an offset that is a multiple of 16 or not, bytes, and what `openssl enc -aes-128-ctr` made of them. The tenth
-/// one ends where the offsets do. In those after it more than the lowest byte of a counter changes: blocks 255, 256 and
-/// 257, 65535 and 65536, and those where the third byte, the fourth and the sixth begin to change.
-const OPENSSL: [(&str, u64, &str, &str); 19] = [
+/// one ends where the offsets do. In the nine after it more than the lowest byte of a counter changes: blocks 255, 256 and
+/// 257, 65535 and 65536, and those where the third byte, the fourth and the sixth begin to change. The last ones lie where
+/// a group of sixteen blocks ends, or its first half, and the last of all is longer than a group.
+const OPENSSL: [(&str, u64, &str, &str); 30] = [
     ("e6acc2691ab2452ebc0a3cf47a489703", 0, "47", "88"),
     (
         "bab34b0975dde57ec8c694972afc89b4",
@@ -122,6 +123,67 @@ const OPENSSL: [(&str, u64, &str, &str); 19] = [
         "64046fc3b88ce9194cd93382c621d0b815162649c9173a65e34f6d8824210519",
         "7ed8d0e63579533d5549b45c1e73f7e6c72a5b6c64edea143ec23da0c385fb56",
     ),
+    (
+        "c4b771095f16b197a1edf8423a513cd1",
+        112,
+        "a65f644d1718838a924d7ed69bd8ab251956bc2a25c8a748fa84c164aa7dbb3c",
+        "9654e5ecddecbb45207b177d2d5d7dd387cafe52123f50241d26c51b15c0c91a",
+    ),
+    (
+        "f252e4f360e75cf1e4789e44d1baa9ec",
+        125,
+        "bf9427166fc1cb",
+        "cd6bf5fc335780",
+    ),
+    (
+        "3d49662909c8e976969dbd0835d2d6f4",
+        128,
+        "6302d5ea8c14ec291ce9d3be9f2c3a34",
+        "2f7986871f7f5ddd32e760fecd752877",
+    ),
+    (
+        "034d730afe7595953bc372fe19c2cdbd",
+        135,
+        "f9f53ca63c1a797df7e19426dfb49db71a9fabb651f89fccd9",
+        "4eb62a007eda2adaad9217cf94a3a47189b78330514ea8d9be",
+    ),
+    (
+        "dad4270739fefa0d818b48721edda4dd",
+        248,
+        "e66e4def098748847e1d4ce154d9af93",
+        "e0cce2312ceaf011420d0dd6ecdc11b5",
+    ),
+    (
+        "3e8e2cbc7cd062a5722ffcf9709a98ad",
+        250,
+        "ef7c9b8b8dd377bf19de3046e9e06c79f4555ab2b713d2080191ad860508",
+        "ce2719d91cce16666a57171ff8b2c34862bd2eaaf80b515b1ea660139cce",
+    ),
+    ("c119c979e13028c95824bf3d8fe13dc9", 255, "e282", "1509"),
+    (
+        "d80d422bc7797e62e0f645f013c88740",
+        256,
+        "49677ed3d0d473e98a01a027a83a6b46",
+        "bade562a234f3c0d2dcfbaed8ede73c5",
+    ),
+    (
+        "3ba00db73497b4685de3f582c0113923",
+        383,
+        "fd403375fecd6ba0939447e4d4ac513c067448",
+        "0d391c54616095869df93d60a842998d5447e0",
+    ),
+    (
+        "d59f3cc58b9b63fc54c25d82438add86",
+        500,
+        "ff045d1ba8c8d7aa84972fb4f72aa2e2f4e539ac8fa13644",
+        "b1e5e4aab09c2648565d911ca10b46ffb4cebfeeef3b788a",
+    ),
+    (
+        "33e3a018311cf9dc23bb4f2358264c50",
+        3,
+        "c3b2aaad6db16314d7d8bd7c2bea142bf33e399351c13a158bb03612988d4c06df2b48ddcdafb4aba1c7dbd6bcfb8099c60173b301f06b0a699184d21343f74bbc3e1138aa020b47a8caff5412929f7135991c9f96ece140f6c4983eb0b31103dc97c4179c3da89b0df309500929961c930e22c42f161fc601a9ca7c47a475f71a6dd9c1d23bb7c70c7f1a8877c1bd8357bb13786a2041cbf62f37b2e9e2e34bd6de282c1fc9276d9c26333a0dd8ade09fe69eddbea6c14115e98c19609b5e196ce63f533c6d520a0d6573e8268e54b1264815b61bb8e69cd0385a492287ab0aec8315975cab9c13211e1c2e1b1402a8b209390eebf575bcb882908e210debf806d3f438aaf16f920390f51353c99244ebeecd66b884464b53a640fe5cec470d2dccddff1edf577901dfa20e",
+        "2bc59e775b09eaf3b66e43e1df09d84d671fcc3ad19cb3d37b08b9022d9591ce197df076e587ec00a23ea086ae3ef2fbd9a19e795454d5c971f1a908f4dfc9c25f749d10f570d910a8d0ebc9368183f18f3fe317e8d23975f5f8bafc4a0e28ea69273acd639ce9311f188916ab91d548f722f7509a5e4b3e11bfc17346c013b16c2020dec758b64a3d72f796bd06f5f80c7eba9ff8895da86186f8f8ced30e1496425e8e53d809bf54eb47349b460dde48e1cc657f746b5c55fe4b19bcfb0c12448916656be64e0b6cd7bcb3e4517732a6c9c4212f3da102cef46d3606f6997fbfc473aecb0480f49aeb0b9bee33442020e83554b5b9b2e8ce7ffe86ba6411ce95a107b25d88c30da805a7f4f6df95a663252d86a80a4032e4f92a0a4deea281524faf95e9aaf3ef663f59dd",
+    ),
 ];
 
 #[test]
@@ -210,10 +272,10 @@ const EXAMPLES: [(&str, &str, &str, &str); 6] = [
 ];
 
 /// The bytes with the block's encryption.
-fn encryption(key: [u8; 16], block: [u8; 16], bytes: [u8; 16]) -> [u8; 16] {
+fn encryption(key: [u8; 16], plain: [u8; 16], bytes: [u8; 16]) -> [u8; 16] {
     let keys = key_planes(&expanded(key));
-    let blocks = blocks_of(encrypted(&keys, planes_of(u8x16::from_array(block))));
-    (blocks[7] ^ u8x16::from_array(bytes)).to_array()
+    let blocks = blocks_of(encrypted(&keys, planes_of(twice(plain))));
+    (u8x16::from_array(lower(blocks[7])) ^ u8x16::from_array(bytes)).to_array()
 }
 
 /// The 16 bytes that a text in hex is.

@@ -10,10 +10,10 @@ returns c = λ key low expanded.
     let bytes = c.args.bytes.now in
     let group = c.group-stream.result in
     crypt_from_each key p bytes c.add.new.bytes c.add.auto.bytes (λ i h.
-    let within : i < 128 - p % 128 = omega arith in
-    let inside : p % 128 + i < 128 = omega arith in
-    let at : 128 * (p / 128) + (p % 128 + i) ≡ p + i = omega arith in
+    let within : i < 256 - p % 256 = omega arith in
+    let inside : p % 256 + i < 256 = omega arith in
+    let at : 256 * (p / 256) + (p % 256 + i) ≡ p + i = omega arith in
     c.add.ensures i h
     ∙ ap (bit_xor (get_or bytes i 0))
-    (get_or-take (128 - p % 128) (drop (p % 128) group) i 0 within ∙ get_or-drop (p % 128) group i 0
-    ∙ c.group-stream.ensures key low expanded (p % 128 + i) inside ∙ ap (stream key) at))
+    (get_or-take (256 - p % 256) (drop (p % 256) group) i 0 within ∙ get_or-drop (p % 256) group i 0
+    ∙ c.group-stream.ensures key low expanded (p % 256 + i) inside ∙ ap (stream key) at))

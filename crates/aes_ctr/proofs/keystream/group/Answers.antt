@@ -7,8 +7,8 @@ use Rattle.aes_ctr.proofs.keystream.group.Goals as goal
 pub returns : goal.returns
 unfolding stream
 returns c = λ key low expanded i lt.
-    let first = 8 * c.args.number in
-    let at = 128 * c.args.number + i in
+    let first = 16 * c.args.number in
+    let at = 256 * c.args.number + i in
     let out : ℕ → List ℕ = λ j. encrypt key (counter_block (first + j)) in
     let blocks = c.encrypted-blocks.ensures key (λ j. counter_block (first + j)) low (λ j. counter_low (first + j)) expanded c.counter_planes.ensures in
     let each = c.blocks_of.ensures out (λ j. encrypt_low key (counter_block (first + j)) low) blocks in

@@ -1,13 +1,13 @@
-use Rattle.std.proofs.Common.{ℕ, List, [], get_or, refl, ap, slice_index}
+use Rattle.std.proofs.Common.{ℕ, List, [], get_or, refl, ap}
 use Rattle.aes_ctr.specs.Rounds.{shift_rows}
-use Rattle.aes_ctr.specs.Planes.{sliced}
+use Rattle.aes_ctr.specs.Planes.{byte_in, sliced}
 use Rattle.aes_ctr.proofs.planes.shifted.Goals as goal
 
 pub returns : goal.returns
 unfolding shift_rows
 returns c = λ s ex.
     let at : ℕ → List (List ℕ) → List ℕ = λ k l. get_or l k [] in
-    let f : ℕ → ℕ → ℕ = λ k i. sliced (λ j. slice_index (s j) i) k in
+    let f : ℕ → ℕ → ℕ = λ k i. sliced (byte_in s i) k in
     rw (
       c.turned.ensures (f 0) (ap (at 0) ex),
       c.turned-2.ensures (f 1) (ap (at 1) ex),

@@ -17,7 +17,7 @@ loop-done-preserved c =
     let j = c.min-end.result in
     let long : length now ≡ length bs = omega arith in
     let inner = get_or c.self.inside.round_keys 0 [] in
-    let group = c.apply_in_group.ensures inner c.self.invariant.1 (c.key_planes-keys.ensures inner c.self.invariant.0 c.self.invariant.2)
+    let group = c.apply_in_group.ensures inner c.self.invariant.1 (c.key_planes-keys.ensures inner c.self.invariant.2)
     ∙ ap (λ (k : List ℕ). crypt_from k (p + i) (take (j - i) (drop i now))) c.self.view_is in
     let end_is = c.min-end.ensures in
     let low : i ≤ j = omega arith in
