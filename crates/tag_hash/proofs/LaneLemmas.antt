@@ -5,7 +5,7 @@ use Rattle.std.specs.Int.{from_be_bytes}
 use Rattle.std.proofs.lemmas.List.FromFn.{get_or-map-range_with_len}
 use Rattle.sha2.specs.Sha256.{add32, first_words, next_word, round, round_constants, rounds, schedule, small_sigma0, small_sigma1}
 use Rattle.sha2.proofs.Schedule256.{rounds_next, slice_index-schedule_next}
-use Rattle.tag_hash.specs.Lanes.{bytes_in, eight, scheduled, together, vectors}
+use Rattle.tag_hash.specs.Lanes.{lane_bytes, eight, scheduled, together, vectors}
 
 -- a word of the schedules from the four words before it
 pub scheduled_next : (b : ℕ → List ℕ) (t k : ℕ) → t + 24 ≤ 64 → k < 8 → (j : ℕ)
@@ -77,7 +77,7 @@ bytes_at (x ∷ l) (suc k) d e = bytes_at l k d e
 
 -- the values that hashes are of, in their order
 pub hashed : (f : List ℕ → List ℕ) (hashes : List (List ℕ)) (values : List (Bor (List ℕ))) → length values ≤ length hashes
-    → ((j : ℕ) → j < length values → get_or hashes j [] ≡ f (bytes_in values j)) → take (length values) hashes ≡ map (λ (value : Bor (List ℕ)). f value.now) values
+    → ((j : ℕ) → j < length values → get_or hashes j [] ≡ f (lane_bytes values j)) → take (length values) hashes ≡ map (λ (value : Bor (List ℕ)). f value.now) values
 hashed f hashes [] le each = refl
 hashed f [] (x ∷ values) le each = absurd (omega arith)
 hashed f (y ∷ hashes) (x ∷ values) le each =
@@ -94,5 +94,5 @@ pub eight_at : (f : ℕ → ℕ) (j : ℕ) → j < 8 → slice_index (eight f) j
 eight_at f = each_lane (λ j. slice_index (eight f) j ≡ f j) refl refl refl refl refl refl refl refl
 
 -- one of some values, behind a prefix that leaves it short
-pub short_at : (p : List ℕ) (values : List (Bor (List ℕ))) (j : ℕ) → length p + length (bytes_in values j) < 2 ^ 60 → length p + length (get_or values j no_bytes).now < 2 ^ 60
+pub short_at : (p : List ℕ) (values : List (Bor (List ℕ))) (j : ℕ) → length p + length (lane_bytes values j) < 2 ^ 60 → length p + length (get_or values j no_bytes).now < 2 ^ 60
 short_at p values j short = subst (λ (v : List ℕ). length p + length v < 2 ^ 60) (bytes_at values j no_bytes refl) short

@@ -33,9 +33,9 @@ abbrev pub variables_at : {V : Type 0} → ((ℕ → ℕ) → V) → (ℕ → Li
 variables_at of b h t = together of 8 (λ j. rounds (h j) (schedule (b j) 48) t)
 
 -- bytes j of some
-abbrev pub bytes_in : List (Bor (List ℕ)) → ℕ → List ℕ
-bytes_in all j = slice_index_or (map (λ bytes. bytes.now) all) j []
+abbrev pub lane_bytes : List (Bor (List ℕ)) → ℕ → List ℕ
+lane_bytes all j = slice_index_or (map (λ bytes. bytes.now) all) j []
 
 -- that eight blocks are those that b gives by their lanes; what is past a block's end counts as zeros
-abbrev pub AreBlocks : List (Bor (List ℕ)) → (ℕ → List ℕ) → Type 0
-AreBlocks blocks b = (j : ℕ) → j < 8 → (k : ℕ) → slice_index (bytes_in blocks j) k ≡ slice_index (b j) k
+abbrev pub AreLaneBlocks : List (Bor (List ℕ)) → (ℕ → List ℕ) → Type 0
+AreLaneBlocks blocks b = (j : ℕ) → j < 8 → (k : ℕ) → slice_index (lane_bytes blocks j) k ≡ slice_index (b j) k

@@ -1,7 +1,7 @@
 //! Tagged hashes of many values under one tag, eight or four at a time.
 ghost use Rattle.std.specs.Prelude.{◌≡◌, ℕ, [], ◌+◌, ◌<◌, ◌≤◌, ◌^◌, ◌++◌, length, map, take, slice_index_or, IfOk, IsTrue};
 ghost use Rattle.std.specs.List.{All};
-ghost use Rattle.tag_hash.specs.Lanes.{bytes_in};
+ghost use Rattle.tag_hash.specs.Lanes.{lane_bytes};
 ghost use Rattle.tag_hash.specs.Netstring.{netstring};
 ghost use Rattle.tag_hash.specs.Tagged.{tagged};
 
@@ -64,9 +64,9 @@ fn pay(values: &[&[u8]], fifths: usize) -> bool
 /// The tagged hashes of as many values as there are lanes; `room` is for the words of their blocks.
 fn side_by_side<L: Words>(room: [L; 16], tag: &[u8], values: &[&[u8]; 8]) -> [[u8; 32]; 8]
     requires short_tag { length tag.now ≤ 60 }
-    requires short { (j : ℕ) → j < 8 → length (bytes_in values.now j) < 2 ^ 58 }
+    requires short { (j : ℕ) → j < 8 → length (lane_bytes values.now j) < 2 ^ 58 }
     ensures { (j : ℕ) → j < 8 → j < L.lanes
-        → slice_index_or result j [] ≡ tagged tag.now (bytes_in values.now j) }
+        → slice_index_or result j [] ≡ tagged tag.now (lane_bytes values.now j) }
 {
     let (text, len) = short_netstring(tag);
     let once = sha256_each(room, &text[..len], values);
@@ -75,8 +75,8 @@ fn side_by_side<L: Words>(room: [L; 16], tag: &[u8], values: &[&[u8]; 8]) -> [[u
 
 /// Hashes as values that are hashed again.
 fn as_values<'a>(hashes: &'a [[u8; 32]; 8]) -> [&'a [u8]; 8]
-    ensures each { (j : ℕ) → j < 8 → bytes_in result j ≡ slice_index_or hashes.now j [] }
-    ensures long { (j : ℕ) → j < 8 → length (bytes_in result j) ≡ 32 }
+    ensures each { (j : ℕ) → j < 8 → lane_bytes result j ≡ slice_index_or hashes.now j [] }
+    ensures long { (j : ℕ) → j < 8 → length (lane_bytes result j) ≡ 32 }
 {
     [
         &hashes[0], &hashes[1], &hashes[2], &hashes[3], &hashes[4], &hashes[5], &hashes[6],
@@ -175,9 +175,9 @@ fn push_group<L: Words>(
 fn in_lanes<'a>(values: &[&'a [u8]]) -> [&'a [u8]; 8]
     requires { 0 < length values.now }
     ensures own { (j : ℕ) → j < 8 → j < length values.now
-        → bytes_in result j ≡ bytes_in values.now j }
+        → lane_bytes result j ≡ lane_bytes values.now j }
     ensures short { (m : ℕ) → All (λ value. length value.now < m) values.now
-        → (j : ℕ) → j < 8 → length (bytes_in result j) < m }
+        → (j : ℕ) → j < 8 → length (lane_bytes result j) < m }
 {
     [
         in_lane(values, 0),
@@ -194,7 +194,7 @@ fn in_lanes<'a>(values: &[&'a [u8]]) -> [&'a [u8]; 8]
 /// The value that lane `j` hashes: the one at that place, or else the first.
 fn in_lane<'a>(values: &[&'a [u8]], j: usize) -> &'a [u8]
     requires { 0 < length values.now }
-    ensures own { j < length values.now → result.now ≡ bytes_in values.now j }
+    ensures own { j < length values.now → result.now ≡ lane_bytes values.now j }
     ensures short { (m : ℕ) → All (λ value. length value.now < m) values.now → length result.now < m }
 {
     if j < values.len() {

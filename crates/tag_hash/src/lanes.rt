@@ -1,7 +1,7 @@
 //! SHA-256's compression (FIPS 180-4, 6.2.2) of several blocks at once: vector by vector, with a message in each lane.
 ghost use Rattle.std.specs.Prelude.{◌≡◌, ℕ, List, ◌+◌, ◌-◌, ◌*◌, ◌<◌, ◌≤◌};
 ghost use Rattle.sha2.specs.Sha256.{add32, add_state, compress, round, small_sigma0, small_sigma1, word_at};
-ghost use Rattle.tag_hash.specs.Lanes.{AreBlocks, scheduled, together, variables_at, words_from};
+ghost use Rattle.tag_hash.specs.Lanes.{AreLaneBlocks, scheduled, together, variables_at, words_from};
 
 use crate::words::Words;
 
@@ -30,7 +30,7 @@ fn word(block: &[u8; 64], at: usize) -> u32
 #[inline(always)]
 fn words_at<L: Words>(blocks: &[&[u8; 64]; 8], i: usize) -> L
     requires { i < 16 }
-    ensures { (b : ℕ → List ℕ) → AreBlocks blocks.now b → result ≡ L.of (scheduled b (0 + i)) }
+    ensures { (b : ℕ → List ℕ) → AreLaneBlocks blocks.now b → result ≡ L.of (scheduled b (0 + i)) }
 {
     let at = 4 * i;
     let [a, b, c, d, e, f, g, h] = *blocks;
@@ -49,7 +49,7 @@ fn words_at<L: Words>(blocks: &[&[u8; 64]; 8], i: usize) -> L
 /// The words of as many of the blocks as there are lanes.
 #[inline(always)]
 pub(crate) fn first_words<L: Words>(blocks: &[&[u8; 64]; 8]) -> [L; 16]
-    ensures { (b : ℕ → List ℕ) → AreBlocks blocks.now b → result ≡ words_from L.of b 0 }
+    ensures { (b : ℕ → List ℕ) → AreLaneBlocks blocks.now b → result ≡ words_from L.of b 0 }
 {
     [
         words_at(blocks, 0),

@@ -1,7 +1,7 @@
 //! SHA-256 (FIPS 180-4) of up to eight messages that begin alike, one in each lane.
 ghost use Rattle.std.specs.Prelude.{◌≡◌, ◌≢◌, ◌-◌, ℕ, List, [], ◌++◌, ◌+◌, ◌*◌, ◌/◌, ◌^◌, ◌<◌, ◌≤◌, length, take, drop, slice_index, slice_index_or};
 ghost use Rattle.sha2.specs.Sha256.{digest_bytes, initial_hash_256, padded_message, sha256};
-ghost use Rattle.tag_hash.specs.Lanes.{bytes_in, together, words_from};
+ghost use Rattle.tag_hash.specs.Lanes.{lane_bytes, together, words_from};
 
 use crate::lanes::{compressed, first_words};
 use crate::words::Words;
@@ -70,11 +70,11 @@ fn inside<'a>(value: &'a [u8], from: usize) -> &'a [u8; 64]
 #[inline(always)]
 fn block_words<L: Words>(prefix: &[u8], values: &[&[u8]; 8], shortest: usize, n: usize) -> [L; 16]
     requires short { (j : ℕ) → j < 8
-        → length prefix.now + length (bytes_in values.now j) < 2 ^ 60 }
-    requires within { (j : ℕ) → j < 8 → shortest ≤ length (bytes_in values.now j) }
+        → length prefix.now + length (lane_bytes values.now j) < 2 ^ 60 }
+    requires within { (j : ℕ) → j < 8 → shortest ≤ length (lane_bytes values.now j) }
     requires near { n < 2 ^ 55 }
     ensures { result ≡ words_from L.of (λ j. take 64 (drop (n * 64)
-        (padded_message (prefix.now ++ bytes_in values.now j)))) 0 }
+        (padded_message (prefix.now ++ lane_bytes values.now j)))) 0 }
 {
     let [a, b, c, d, e, f, g, h] = *values;
     let at = 64 * n;
@@ -180,9 +180,9 @@ pub(crate) fn sha256_each<L: Words>(
     values: &[&[u8]; 8],
 ) -> [[u8; 32]; 8]
     requires short { (j : ℕ) → j < 8
-        → length prefix.now + length (bytes_in values.now j) < 2 ^ 60 }
+        → length prefix.now + length (lane_bytes values.now j) < 2 ^ 60 }
     ensures { (j : ℕ) → j < 8 → j < L.lanes
-        → slice_index_or result j [] ≡ sha256 (prefix.now ++ bytes_in values.now j) }
+        → slice_index_or result j [] ≡ sha256 (prefix.now ++ lane_bytes values.now j) }
 {
     let [a, b, c, d, e, f, g, h] = *values;
     let counts = [

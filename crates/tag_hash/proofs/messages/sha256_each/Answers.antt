@@ -3,7 +3,7 @@ use Rattle.std.specs.Borrow.{Bor}
 use Rattle.std.proofs.lemmas.Bool.{cases_lt}
 use Rattle.sha2.specs.Sha256.{digest_bytes, hash_after, initial_hash_256, padded_message, sha256}
 use Rattle.sha2.proofs.Absorbing256.{hash_after_next}
-use Rattle.tag_hash.specs.Lanes.{bytes_in, together}
+use Rattle.tag_hash.specs.Lanes.{lane_bytes, together}
 use Rattle.tag_hash.proofs.LaneLemmas.{bytes_at, each_lane, no_bytes, short_at}
 use Rattle.tag_hash.proofs.PaddedMessage.{length-padded}
 use Rattle.tag_hash.proofs.messages.sha256_each.Goals as goal
@@ -19,7 +19,7 @@ at_its_end p v n e =
 
 -- how many blocks a message has
 blocks_of : (p : List ℕ) (values : List (Bor (List ℕ))) (j : ℕ) {n : ℕ} → n ≡ (length p + length (get_or values j no_bytes).now + 72) / 64
-    → n ≡ (length p + length (bytes_in values j) + 72) / 64
+    → n ≡ (length p + length (lane_bytes values j) + 72) / 64
 blocks_of p values j e = e ∙ ap (λ (v : List ℕ). (length p + length v + 72) / 64) (sym (bytes_at values j no_bytes refl))
 
 pub loop-n-init : goal.loop-n-init
@@ -37,7 +37,7 @@ pub loop-n-preserved : goal.loop-n-preserved
 loop-n-preserved g c =
     let p = c.args.prefix.now in
     let values = c.args.values.now in
-    let v : ℕ → List ℕ = bytes_in values in
+    let v : ℕ → List ℕ = lane_bytes values in
     let of = g.L.Words.of in
     let hash : ℕ → List ℕ = λ j. hash_after initial_hash_256 (padded_message (p ++ v j)) (c.loop-n.n + 1) in
     let counts : List ℕ = c.block_count.result ∷ c.block_count-2.result ∷ c.block_count-3.result ∷ c.block_count-4.result ∷ c.block_count-5.result ∷ c.block_count-6.result ∷ c.block_count-7.result ∷ c.block_count-8.result ∷ [] in
@@ -84,5 +84,5 @@ block_words-words-requires g c =
     let few : (j n : ℕ) → j < 8 → n ≡ (length p + length (get_or values j no_bytes).now + 72) / 64 → n < 2 ^ 55 =
     λ j n lt e. omega (arith, short_at p values j (c.requires.short j lt), e) in
     let small : (j : ℕ) → j < 8 → slice_index counts j < 2 ^ 55 = each_lane _ (few 0 _ (omega arith) c.block_count.ensures) (few 1 _ (omega arith) c.block_count-2.ensures) (few 2 _ (omega arith) c.block_count-3.ensures) (few 3 _ (omega arith) c.block_count-4.ensures) (few 4 _ (omega arith) c.block_count-5.ensures) (few 5 _ (omega arith) c.block_count-6.ensures) (few 6 _ (omega arith) c.block_count-7.ensures) (few 7 _ (omega arith) c.block_count-8.ensures) in
-    let within : (j : ℕ) → j < 8 → c.shortest_of-shortest.result ≤ length (bytes_in values j) = each_lane _ (omega (arith, c.shortest_of-shortest.ensures 0 (omega arith), ap length (bytes_at values 0 no_bytes refl))) (omega (arith, c.shortest_of-shortest.ensures 1 (omega arith), ap length (bytes_at values 1 no_bytes refl))) (omega (arith, c.shortest_of-shortest.ensures 2 (omega arith), ap length (bytes_at values 2 no_bytes refl))) (omega (arith, c.shortest_of-shortest.ensures 3 (omega arith), ap length (bytes_at values 3 no_bytes refl))) (omega (arith, c.shortest_of-shortest.ensures 4 (omega arith), ap length (bytes_at values 4 no_bytes refl))) (omega (arith, c.shortest_of-shortest.ensures 5 (omega arith), ap length (bytes_at values 5 no_bytes refl))) (omega (arith, c.shortest_of-shortest.ensures 6 (omega arith), ap length (bytes_at values 6 no_bytes refl))) (omega (arith, c.shortest_of-shortest.ensures 7 (omega arith), ap length (bytes_at values 7 no_bytes refl))) in
+    let within : (j : ℕ) → j < 8 → c.shortest_of-shortest.result ≤ length (lane_bytes values j) = each_lane _ (omega (arith, c.shortest_of-shortest.ensures 0 (omega arith), ap length (bytes_at values 0 no_bytes refl))) (omega (arith, c.shortest_of-shortest.ensures 1 (omega arith), ap length (bytes_at values 1 no_bytes refl))) (omega (arith, c.shortest_of-shortest.ensures 2 (omega arith), ap length (bytes_at values 2 no_bytes refl))) (omega (arith, c.shortest_of-shortest.ensures 3 (omega arith), ap length (bytes_at values 3 no_bytes refl))) (omega (arith, c.shortest_of-shortest.ensures 4 (omega arith), ap length (bytes_at values 4 no_bytes refl))) (omega (arith, c.shortest_of-shortest.ensures 5 (omega arith), ap length (bytes_at values 5 no_bytes refl))) (omega (arith, c.shortest_of-shortest.ensures 6 (omega arith), ap length (bytes_at values 6 no_bytes refl))) (omega (arith, c.shortest_of-shortest.ensures 7 (omega arith), ap length (bytes_at values 7 no_bytes refl))) in
     (omega arith, (c.requires.short, (within, omega (arith, c.longest_of-longest.ensures.below (2 ^ 55) (omega arith) small))))
