@@ -1,7 +1,8 @@
 -- The segments of a download.
-use Rattle.std.proofs.Common.{◌≡◌, ◌⊎◌, inl, inr, ◌≤◌, ◌<◌, ℕ, ◌+◌, ◌-◌, ◌*◌, List, [], length, map, take, drop, min, get_or, sym, ap, ◌∙◌, arith, length-drop}
+use Rattle.std.proofs.Common.{◌≡◌, ◌⊎◌, inl, inr, ◌≤◌, ◌<◌, ℕ, ◌+◌, ◌-◌, ◌*◌, ◌/◌, List, [], length, map, take, drop, min, get_or, sym, ap, ◌∙◌, arith, length-drop}
 use Rattle.std.specs.Int.{div_ceil}
 use Rattle.std.specs.List.{range_with_len}
+use Rattle.std.proofs.Math.Nat.{div-mul-le_self}
 use Rattle.std.proofs.lemmas.Grind.{div_ceil_times}
 use Rattle.std.proofs.lemmas.List.{take_min, drop_all, drop-drop}
 use Rattle.std.proofs.lemmas.List.FromFn.{get_or-map-range_with_len}
@@ -30,6 +31,33 @@ pub next_left : (p : ParamsValue) (plain : List ℕ) (at : ℕ) → (left_of p p
 next_left p plain at =
     let e : (at + 1) * segment_size p ≡ at * segment_size p + segment_size p = grind arith in
     ap (λ n. drop n plain) e ∙ sym (drop-drop (segment_size p) (at * segment_size p) plain)
+
+-- from a later segment on
+pub later_left : (p : ParamsValue) (plain : List ℕ) (at n : ℕ) → (left_of p plain (at + n)).left ≡ drop (n * segment_size p) (left_of p plain at).left
+later_left p plain at n =
+    let e : (at + n) * segment_size p ≡ at * segment_size p + n * segment_size p = grind arith in
+    ap (λ m. drop m plain) e ∙ sym (drop-drop (n * segment_size p) (at * segment_size p) plain)
+
+-- a segment that begins within the file is one of its segments
+pub begins_within : (p : ParamsValue) (at : ℕ) → 0 < segment_size p → at * segment_size p < p.size → at < segment_count p
+unfolding segment_count
+begins_within p at some within =
+    let covers : p.size ≤ div_ceil p.size (segment_size p) * segment_size p = (div_ceil_times p.size (segment_size p) some).0 in
+    grind (arith, covers, within)
+
+-- so many pieces are no more than their bytes
+pub counted_within : (n each size : ℕ) → 0 < each → n * each < size → n < size
+counted_within n each size some within = grind (arith, some, within)
+
+-- so does the one in which a byte is that is left
+pub passes_within : (p : ParamsValue) (plain : List ℕ) (at bytes : ℕ) → 0 < segment_size p → length plain ≡ p.size → bytes < length (left_of p plain at).left
+    → (at + bytes / segment_size p) * segment_size p < p.size
+passes_within p plain at bytes some long lt =
+    let each : ℕ = segment_size p in
+    let n : ℕ = bytes / each in
+    let le : n * each ≤ bytes = div-mul-le_self bytes each in
+    let e : (at + n) * each ≡ at * each + n * each = grind arith in
+    omega (arith, le, e, length-drop (at * each) plain, long, lt)
 
 -- a segment has a byte, and no more than are left
 pub segment_some : (p : ParamsValue) → 0 < p.k → 0 < p.size → 0 < segment_size p

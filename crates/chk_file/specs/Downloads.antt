@@ -1,5 +1,5 @@
 -- Downloads: bytes that are given a segment at a time.
-use Rattle.std.specs.Prelude.{◌≡◌, ◌<◌, ℕ, ◌*◌, List, [], length, take, drop}
+use Rattle.std.specs.Prelude.{◌≡◌, ◌<◌, ◌≤◌, ℕ, ◌+◌, ◌*◌, List, [], length, take, drop}
 use Rattle.share_codec.specs.Params.{ParamsValue}
 use Rattle.share_codec.specs.Segments.{segment_size}
 
@@ -23,3 +23,10 @@ pub record IsGiven (given : List ℕ) (old new : DownloadValue) : Type 0 where
 pub record IsDone (old new : DownloadValue) : Type 0 where
   pub nothing : old.left ≡ []
   pub same : new ≡ old
+
+-- so many bytes were passed over, no more than were asked for, and less than a segment fewer
+pub record IsPassed (passed asked : ℕ) (old new : DownloadValue) : Type 0 where
+  pub within : passed ≤ asked
+  pub near : asked < passed + old.each
+  pub left : new.left ≡ drop passed old.left
+  pub each : new.each ≡ old.each

@@ -1,6 +1,6 @@
 //! Downloads: the bytes of a file, a segment at a time.
-ghost use Rattle.std.specs.Prelude.{◌≡◌, IfOk, OnErr, MatchOption};
-ghost use Rattle.chk_file.specs.Downloads.{IsGiven, IsDone};
+ghost use Rattle.std.specs.Prelude.{◌≡◌, ◌<◌, length, IfOk, OnErr, MatchOption};
+ghost use Rattle.chk_file.specs.Downloads.{IsGiven, IsDone, IsPassed};
 
 use crate::pins::Pins;
 use crate::whole::Whole;
@@ -66,6 +66,18 @@ impl Download {
         match &mut self.source {
             Source::Whole(whole) => whole.next(self.alloc),
             Source::Pinned(pins) => pins.next(self.alloc),
+        }
+    }
+
+    /// Passes over bytes of which at least one is left behind: whole segments that end within the next `bytes` bytes, so
+    /// that the byte behind these is in the next segment. No segment is decoded. It gives how many bytes it passed over.
+    pub fn skip(&mut self, bytes: usize) -> usize
+        requires { bytes < length self.old.left }
+        ensures { IsPassed result bytes self.old self.new }
+    {
+        match &mut self.source {
+            Source::Whole(whole) => whole.skip(bytes),
+            Source::Pinned(pins) => pins.skip(bytes),
         }
     }
 }

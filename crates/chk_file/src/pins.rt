@@ -4,7 +4,7 @@ ghost use Rattle.aes_ctr.specs.Crypt.{crypt};
 ghost use Rattle.share_codec.specs.Segments.{segment_count, segment_size};
 ghost use Rattle.chk_file.specs.Taken.{AreTaken};
 ghost use Rattle.chk_file.specs.Fit.{crypttext_from};
-ghost use Rattle.chk_file.specs.Downloads.{left_of, IsGiven, IsDone};
+ghost use Rattle.chk_file.specs.Downloads.{left_of, IsGiven, IsDone, IsPassed};
 
 use crate::cipher::apply_keystream_at;
 use crate::segment::add_segment;
@@ -69,6 +69,21 @@ impl Pins {
         let bytes = segment(alloc, &self.params, self.key, &self.shares, self.at)?;
         self.at += 1;
         Ok(Some(bytes))
+    }
+
+    /// Passes over the segments that end within the next `bytes` bytes, and gives how many bytes these are.
+    pub(crate) fn skip(&mut self, bytes: usize) -> usize
+        requires { bytes < length self.old.left }
+        ensures { IsPassed result bytes self.old self.new }
+    {
+        share_codec::laws::segments_are_joined_again();
+        erasure::laws::decoded_blocks_are_the_given();
+        keystream_by_place();
+        parts_agree();
+        let each = self.params.segment_size();
+        let count = bytes / each;
+        self.at += count;
+        count * each
     }
 }
 

@@ -1,7 +1,7 @@
 //! Bytes that are held whole, and given a piece at a time.
-ghost use Rattle.std.specs.Prelude.{◌≡◌, ◌<◌, IfOk, OnErr, MatchOption};
+ghost use Rattle.std.specs.Prelude.{◌≡◌, ◌<◌, length, IfOk, OnErr, MatchOption};
 ghost use Rattle.std.specs.Rc.{rc_slice_items};
-ghost use Rattle.chk_file.specs.Downloads.{IsGiven, IsDone};
+ghost use Rattle.chk_file.specs.Downloads.{IsGiven, IsDone, IsPassed};
 
 use std::alloc::{AllocError, Global};
 use std::marker::Model;
@@ -50,5 +50,14 @@ impl Whole {
         let bytes = Vec::from_slice(alloc, &self.bytes.as_slice()[self.at..end])?;
         self.at = end;
         Ok(Some(bytes))
+    }
+
+    /// Passes over bytes of which at least one is left behind, all of them.
+    pub(crate) fn skip(&mut self, bytes: usize) -> usize
+        requires { bytes < length self.old.left }
+        ensures { IsPassed result bytes self.old self.new }
+    {
+        self.at += bytes;
+        bytes
     }
 }
