@@ -1,8 +1,9 @@
 #!/bin/sh
 # Times the work on a body of 4 MiB by `gate_bench`, built for x86-64-v2 and for x86-64-v3, and by the programs that others
-# do it with, in turn, and prints the least time of each and their ratios. A processor without AVX2 runs the first alone. It is no test. A peer that isn't installed is left out: OpenSSL, without the
-# processor's AES instructions and with them, zfec, and Python over zfec, OpenSSL's AES and hashlib, which puts and gets
-# the body in the same formats (Debian: openssl, python3-zfec, python3-cryptography).
+# do it with, in turn, and prints the least time of each and their ratios. A processor without AVX2 runs the first alone.
+# It is no test. A peer that isn't installed is left out: OpenSSL, without the processor's AES instructions and with them,
+# zfec, and Python over zfec, OpenSSL's AES and hashlib, which puts and gets the body in the same formats (Debian:
+# openssl, python3-zfec, python3-cryptography).
 #
 #     bench/times/compare.sh [ROUNDS]
 #
