@@ -8,17 +8,7 @@ use Rattle.std.proofs.Math.Seq.{drop-append-add, take-append-add}
 whole : (left segment rest : List ℕ) (each : ℕ) → segment ≡ take each left → rest ≡ drop each left → left ≡ segment ++ rest
 whole left segment rest each is remains = sym (take-append-drop each left) ∙ (λ i. sym is i ++ sym remains i)
 
--- past a whole segment
-pub passed : (left segment rest : List ℕ) (each skip : ℕ) → segment ≡ take each left → rest ≡ drop each left → length segment ≤ skip → drop (skip - length segment) rest ≡ drop skip left
-passed left segment rest each skip is remains within =
-    let e : length segment + (skip - length segment) ≡ skip = omega (arith, within) in
-    sym (drop-append-add segment rest (skip - length segment)) ∙ ap (λ n. drop n (segment ++ rest)) e ∙ ap (drop skip) (sym (whole left segment rest each is remains))
-
-pub still_in : (left segment rest : List ℕ) (each skip : ℕ) → segment ≡ take each left → rest ≡ drop each left → length segment ≤ skip → skip < length left → skip - length segment < length rest
-still_in left segment rest each skip is remains within less =
-    let e : length left ≡ length segment + length rest = ap length (whole left segment rest each is remains) ∙ length-append segment rest in
-    omega (arith, within, less, e)
-
+-- past what is passed over
 pub found : (left segment rest : List ℕ) (each skip : ℕ) → segment ≡ take each left → rest ≡ drop each left → drop skip left ≡ drop skip (segment ++ rest)
 found left segment rest each skip is remains = ap (drop skip) (whole left segment rest each is remains)
 

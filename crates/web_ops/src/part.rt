@@ -5,7 +5,8 @@ use chk_file::Download;
 use std::alloc::AllocError;
 use std::marker::Model;
 
-/// So many bytes of a file, after those that are passed over. Each segment is decoded when its bytes are asked for.
+/// So many bytes of a file, after those that are passed over. Each segment is decoded when its bytes are asked for, and
+/// none that is passed over.
 #[derive(Debug, Drop)]
 pub struct Part {
     download: Download,
@@ -14,13 +15,14 @@ pub struct Part {
 }
 
 impl Model for Part {
-    ghost use Rattle.std.specs.Prelude.{List, ℕ, ◌≤◌, ◌+◌, length, take, drop};
+    ghost use Rattle.std.specs.Prelude.{List, ℕ, ◌<◌, ◌≤◌, ◌+◌, length, take, drop};
 
     ghost Value = { List ℕ };
 
     ghost view = { λ p. take p.count (drop p.skip p.download.left) };
 
-    ghost invariant = { λ p. p.skip + p.count ≤ length p.download.left };
+    ghost invariant = { λ p. (p.skip + p.count ≤ length p.download.left)
+        × (0 < p.count → p.skip < p.download.each) };
 }
 
 impl Part {
@@ -29,9 +31,18 @@ impl Part {
         requires { skip + count ≤ length download.left }
         ensures { result ≡ take count (drop skip download.left) }
     {
+        let mut download = download;
+        if count == 0 {
+            return Part {
+                download,
+                skip,
+                count,
+            };
+        }
+        let passed = download.skip(skip);
         Part {
             download,
-            skip,
+            skip: skip - passed,
             count,
         }
     }
@@ -57,32 +68,14 @@ impl Part {
         if self.count == 0 {
             return Ok(None);
         }
-        let mut segment = segment_of(&mut self.download, &mut self.skip)?;
+        let Some(mut segment) = self.download.next()? else {
+            unreachable!();
+        };
         let many = self.count.min(segment.len() - self.skip);
         cut(&mut segment, self.skip, many);
         self.skip = 0;
         self.count -= many;
         Ok(Some(segment))
-    }
-}
-
-/// The segment in which the next byte stands after those that are passed over. Of these, those that it has are left to
-/// be passed over.
-fn segment_of(download: &mut Download, skip: &mut usize) -> Result<Vec<u8>, AllocError>
-    requires { skip.old < length download.old.left }
-    ensures given { IfOk result (λ segment. (skip.new < length segment.items)
-        × (drop skip.old download.old.left ≡ drop skip.new (segment.items ++ download.new.left))) }
-    ensures err { OnErr result
-        (drop skip.new download.new.left ≡ drop skip.old download.old.left) }
-{
-    loop {
-        let Some(segment) = download.next()? else {
-            unreachable!();
-        };
-        if *skip < segment.len() {
-            return Ok(segment);
-        }
-        *skip -= segment.len();
     }
 }
 
