@@ -5,7 +5,7 @@ use Rattle.std.proofs.lemmas.List.{drop_more}
 use Rattle.toml.specs.View.{view, items_view}
 use Rattle.toml.specs.declared.value.Value.{Value}
 use Rattle.toml.proofs.Views.{items_view-drop}
-use Rattle.option_file.specs.Words.{items_words, joined, value_text, valued_word, words_before}
+use Rattle.option_file.specs.Words.{items_words, word_before, value_text, valued_word, words_before}
 
 -- a word that isn't looked for leaves the question to those behind it
 pub one_on : (p : List ℕ → Bool) (xs : List (String Global)) (i : ℕ) (x : String Global) → i < length xs → p (string_bytes (get_or xs i x)) ≡ false
@@ -16,7 +16,7 @@ one_on p xs i x below unlike =
 -- one value of several
 pub value_added : (key : List ℕ) (old new : List (List ℕ)) (text : Option (List ℕ)) (rest : Option (List (List ℕ)))
     → option_map (λ t. old ++ valued_word key t ∷ []) text ≡ Some new
-    → option_map (λ more. old ++ more) (joined (option_map (valued_word key) text) rest) ≡ option_map (λ more. new ++ more) rest
+    → option_map (λ more. old ++ more) (word_before (option_map (valued_word key) text) rest) ≡ option_map (λ more. new ++ more) rest
 value_added key old new None rest e = cc
 value_added key old new (Some t) None e = refl
 value_added key old new (Some t) (Some more) e =
@@ -25,7 +25,7 @@ value_added key old new (Some t) (Some more) e =
 
 pub value_refused : (key : List ℕ) (old : List (List ℕ)) (text : Option (List ℕ)) (rest : Option (List (List ℕ)))
     → option_map (λ t. old ++ valued_word key t ∷ []) text ≡ None
-    → option_map (λ more. old ++ more) (joined (option_map (valued_word key) text) rest) ≡ None
+    → option_map (λ more. old ++ more) (word_before (option_map (valued_word key) text) rest) ≡ None
 value_refused key old None rest e = refl
 value_refused key old (Some t) rest e = cc
 

@@ -19,21 +19,21 @@ value_text (integer number) = Some (signed_decimal number)
 value_text _ = None
 
 -- a word before others, if there are both
-abbrev pub joined : Option (List ℕ) → Option (List (List ℕ)) → Option (List (List ℕ))
-joined None rest = None
-joined (Some word) rest = option_map (λ words. word ∷ words) rest
+abbrev pub word_before : Option (List ℕ) → Option (List (List ℕ)) → Option (List (List ℕ))
+word_before None rest = None
+word_before (Some word) rest = option_map (λ words. word ∷ words) rest
 
 -- the option once for each of these values
 abbrev pub items_words : List ℕ → Items → Option (List (List ℕ))
 items_words key no_items = Some []
-items_words key (item d ds) = joined (option_map (valued_word key) (value_text d)) (items_words key ds)
+items_words key (item d ds) = word_before (option_map (valued_word key) (value_text d)) (items_words key ds)
 
 -- the words of one option, if its value is of a kind that options have
 abbrev pub option_words : List ℕ → Data → Option (List (List ℕ))
 option_words key (boolean true) = Some (option_name key ∷ [])
 option_words key (boolean false) = Some []
 option_words key (array ds) = items_words key ds
-option_words key d = joined (option_map (valued_word key) (value_text d)) (Some [])
+option_words key d = word_before (option_map (valued_word key) (value_text d)) (Some [])
 
 -- a word of a command line is this option: its name alone, or with `=` behind it
 abbrev pub is_option : List ℕ → List ℕ → Bool

@@ -5,6 +5,8 @@
 
 /// Why a text gives no words.
 mod fault;
+#[cfg(test)]
+mod tests;
 /// The words of a text's options.
 mod words;
 

@@ -17,11 +17,7 @@ use toml::{Table, Value, table_from_str};
 /// The words that a TOML text stands for beside those of a command line: for each key, in the order of their bytes,
 /// `--KEY=VALUE` for a text or a whole number, the same once for each element of an array, `--KEY` for true and nothing for
 /// false. A key that the command line has as an option is left out. A key with another value is refused.
-pub fn file_words(
-    alloc: Global,
-    text: &str,
-    given: &[String],
-) -> Result<Vec<String>, OptionFault>
+pub fn file_words(alloc: Global, text: &str, given: &[String]) -> Result<Vec<String>, OptionFault>
     ensures words { IfOk result (λ words.
         option_map (table_words (map string_bytes given.now)) (parse_document text.now)
         ≡ Some (Ok (map string_bytes words.items))) }
@@ -57,10 +53,7 @@ fn line_at(text: &[u8], place: usize) -> usize
     requires { place ≤ length text.now }
     ensures { result ≡ line_at text.now place }
 {
-    1 + text[..place]
-        .iter()
-        .filter(|byte| **byte == b'\n')
-        .count()
+    1 + text[..place].iter().filter(|byte| **byte == b'\n').count()
 }
 
 /// The words of a table beside those of a command line.
@@ -89,9 +82,7 @@ fn words_of_table(
 fn other_kind(alloc: Global, key: &str) -> Result<OptionFault, AllocError>
     ensures { IfOk result (λ fault. fault ≡ OptionFault.OtherKind key.now) }
 {
-    Ok(OptionFault::OtherKind(Text::from_string(String::from_str(
-        alloc, key,
-    )?)))
+    Ok(OptionFault::OtherKind(Text::from_string(String::from_str(alloc, key)?)))
 }
 
 /// Adds the words of an option, but for one that the command line has. False where its value is of another kind than
