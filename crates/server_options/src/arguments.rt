@@ -21,6 +21,12 @@ pub fn program<'a>(alloc: Global) -> Result<Command<'a>, AllocError> {
 fn serving<'a>(alloc: Global) -> Result<Command<'a>, AllocError> {
     let command = Command::new(alloc, "serve")
         .about("Serves connections until it is stopped.")
+        .arg(option(
+            alloc,
+            "config",
+            "FILE",
+            "a TOML file with more options, whose keys are their names without the dashes; one that is given here too counts as it is given here",
+        ))?
         .arg(option(alloc, "listen", "ADDR", "where connections are accepted").default_value(
             "127.0.0.1:3456",
         ))?

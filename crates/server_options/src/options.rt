@@ -136,6 +136,23 @@ pub fn read_words<'a>(alloc: Global, words: &'a [String]) -> Result<Task<'a>, Re
     }
 }
 
+/// The file of more options that the words of a command line name, the program's name first. `serve` alone has one. Of the
+/// words no more is read than whose they are, so they may still be refused.
+pub fn read_config<'a>(alloc: Global, words: &'a [String]) -> Result<Option<&'a str>, Refusal> {
+    let matches = program(alloc)?.try_get_matches_from(words)?;
+    match matches.subcommand_matches("serve") {
+        Some(given) => Ok(config_of(given)),
+        None => Ok(None),
+    }
+}
+
+/// The file of more options that was given.
+fn config_of<'a>(given: &ArgMatches<'a>) -> Option<&'a str>
+    ensures { option_map (λ s. s.now) result ≡ given_text given.now (codes "config") }
+{
+    given.get_str("config")
+}
+
 /// Reads what was given with `serve`.
 fn read_options<'a>(alloc: Global, given: &ArgMatches<'a>) -> Result<Options<'a>, Refusal>
     ensures shares { IfOk result (λ o. IsSharing o.shares.needed o.shares.made) }

@@ -8,8 +8,12 @@ ghost use Rattle.grid.specs.GridState.{states};
 ghost use Rattle.gate_core.specs.Held.{AreParameters};
 ghost use Rattle.gate_core.specs.Tallies.{nothing_counted};
 
+/// The file of options.
+mod option_words;
+/// What the loop of connections runs with.
 mod serving_runtime;
 
+use crate::option_words::{name_file, words_of_file};
 use crate::serving_runtime::ServingRuntime;
 use folder_shelf::Settings;
 use gate_core::{Gateway, GatewayFault};
@@ -52,7 +56,10 @@ pub fn run<
         + Clone
         + Drop,
 >(rt: &R) -> Result<(), ProgramFault> {
-    let words = arguments_of(rt)?;
+    let mut words = arguments_of(rt)?;
+    let mut more = words_of_file(rt, &words)?;
+    let typed = words.len();
+    words.append(&mut more)?;
     match read_words(rt.alloc(), &words) {
         Ok(Task::Serve(options)) => serve(rt, &options),
         Ok(Task::Check(folders)) => check(rt, &folders),
@@ -61,20 +68,31 @@ pub fn run<
             let secret = read_secret(rt, wanted.secret_file)?;
             restore(rt, &wanted, &secret)
         }
-        Err(Refusal::Shares) => Err(ProgramFault::Shares),
-        Err(Refusal::Stores) => Err(ProgramFault::Stores),
-        Err(Refusal::Room) => Err(ProgramFault::Room),
-        Err(Refusal::New) => Err(ProgramFault::New),
-        Err(Refusal::Words(error)) => {
-            if error.kind() == clap::error::ErrorKind::OutOfMemory {
-                return Err(ProgramFault::NoMemory);
+        Err(refusal) => {
+            if words.len() > typed {
+                name_file(rt, &words[..typed]);
             }
-            let _ = error.print(rt);
-            match error.exit_code() {
-                0 => Ok(()),
-                _ => Err(ProgramFault::Arguments),
-            }
+            told(rt, refusal)
         }
+    }
+}
+
+/// What the program ends with where its words were refused. Help and the version are asked for, and no fault.
+fn told(rt: &(impl Print + Eprint), refusal: Refusal) -> Result<(), ProgramFault> {
+    let error = match refusal {
+        Refusal::Shares => return Err(ProgramFault::Shares),
+        Refusal::Stores => return Err(ProgramFault::Stores),
+        Refusal::Room => return Err(ProgramFault::Room),
+        Refusal::New => return Err(ProgramFault::New),
+        Refusal::Words(error) => error,
+    };
+    if error.kind() == clap::error::ErrorKind::OutOfMemory {
+        return Err(ProgramFault::NoMemory);
+    }
+    let _ = error.print(rt);
+    match error.exit_code() {
+        0 => Ok(()),
+        _ => Err(ProgramFault::Arguments),
     }
 }
 

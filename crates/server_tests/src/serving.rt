@@ -8,7 +8,7 @@ use gate_poll::Counts;
 use server_board::figures::StoreFigures;
 use server_board::{Asked, Method, asked_by, metrics_text, status_text};
 use server_options::{
-    Options, RedisPlace, Shares, StoreWanted, Task, read_size, read_store, read_words,
+    Options, RedisPlace, Shares, StoreWanted, Task, read_config, read_size, read_store, read_words,
 };
 use server_stores::difference::Difference;
 use server_stores::folders::{Found, Opening, look, open_folder, open_on_disk};
@@ -180,6 +180,27 @@ fn each_verb_is_its_task(rt: HostRuntime) -> Result<(), Fail> {
     assert_eq!(rt; wanted.folders.as_slice(), ["/a", "/b"].as_slice());
     assert!(rt; wanted.secret_file == Some("s"));
     assert!(rt; !wanted.synced);
+    Ok(())
+}
+
+#[test]
+fn a_file_of_options_is_named_whatever_it_has(rt: HostRuntime) -> Result<(), Fail> {
+    for value in ["a", "/b.toml"] {
+        let words = words_of(rt.alloc(), &["serve", "--new", "/c", "--config", value])?;
+        let Ok(file) = read_config(rt.alloc(), &words) else {
+            return Err(Fail::from("refused"));
+        };
+        assert!(rt; file == Some(value));
+        assert!(rt; read_words(rt.alloc(), &words).is_err());
+    }
+    let none: [&[&str]; 2] = [&["serve"], &["check", "/a"]];
+    for given in &none {
+        let words = words_of(rt.alloc(), *given)?;
+        let Ok(file) = read_config(rt.alloc(), &words) else {
+            return Err(Fail::from("refused"));
+        };
+        assert!(rt; file.is_none());
+    }
     Ok(())
 }
 
