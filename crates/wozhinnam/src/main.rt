@@ -3,6 +3,7 @@
 //!     wozhinnam serve [--config FILE] [--listen ADDR] [--control ADDR] [--shares K,N] [--store STORE]..
 //!                     [--new PATH].. [--servers COUNT] [--room BYTES] [--no-sync] [--secret-file PATH]
 //!                     [--redis-password-file PATH] [--connections MAX] [--idle SECONDS]
+//!                     [--log-level LEVEL] [--log-format FORMAT]
 //!     wozhinnam check PATH..
 //!     wozhinnam image PATH.. > FILE
 //!     wozhinnam restore [--shares K,N] [--secret-file PATH] [--no-sync] FILE PATH..
