@@ -2,3 +2,4 @@
 pub mod Given
 pub mod Folders
 pub mod Size
+pub mod Logging

@@ -21,6 +21,12 @@ pub fn program<'a>(alloc: Global) -> Result<Command<'a>, AllocError> {
 fn serving<'a>(alloc: Global) -> Result<Command<'a>, AllocError> {
     let command = Command::new(alloc, "serve")
         .about("Serves connections until it is stopped.")
+        .arg(option(
+            alloc,
+            "config",
+            "FILE",
+            "a TOML file with more options, whose keys are their names without the dashes; one that is given here too counts as it is given here",
+        ))?
         .arg(option(alloc, "listen", "ADDR", "where connections are accepted").default_value(
             "127.0.0.1:3456",
         ))?
@@ -31,7 +37,7 @@ fn serving<'a>(alloc: Global) -> Result<Command<'a>, AllocError> {
             "where GET /status, GET /metrics and POST /stop are answered",
         ))?
         .arg(shares(alloc))?;
-    with_limits(alloc, with_stores(alloc, command)?)
+    with_log(alloc, with_limits(alloc, with_stores(alloc, command)?)?)
 }
 
 /// Adds the options of stores.
@@ -96,6 +102,31 @@ fn with_limits<'a>(alloc: Global, command: Command<'a>) -> Result<Command<'a>, A
             )
             .value_parser(ValueParser::unsigned(1, 86_400))
             .default_value("60"),
+        )
+}
+
+/// Adds the options of the log.
+fn with_log<'a>(alloc: Global, command: Command<'a>) -> Result<Command<'a>, AllocError> {
+    command
+        .arg(
+            option(
+                alloc,
+                "log-level",
+                "LEVEL",
+                "which lines are written on standard error: those of this level and of graver ones",
+            )
+            .value_parser(ValueParser::Names(["error", "warn", "info", "debug"].as_slice()))
+            .default_value("info"),
+        )?
+        .arg(
+            option(
+                alloc,
+                "log-format",
+                "FORMAT",
+                "how a line is written: as a text, or as an object of JSON, with the time",
+            )
+            .value_parser(ValueParser::Names(["text", "json"].as_slice()))
+            .default_value("text"),
         )
 }
 

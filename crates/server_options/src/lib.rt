@@ -1,6 +1,6 @@
 //! The server's command line: its words, and what they ask for.
 //!
-//! [`read_words`] reads them by `clap` and gives a [`Task`].
+//! [`read_words`] reads them by `clap` and gives a [`Task`]; [`read_config`] says which file has more options.
 #![tactic(auto)]
 
 /// The program's command line.
@@ -9,9 +9,12 @@ mod arguments;
 mod sizes;
 /// Stores and their names.
 mod store_names;
+/// Which lines the log has, and how they are written.
+mod logging;
 /// What the program is asked for.
 mod options;
 
-pub use options::{Options, Refusal, Restoring, Shares, Task, read_words};
+pub use logging::{LogFormat, LogLevel, named_format, named_level};
+pub use options::{Options, Refusal, Restoring, Shares, Task, read_config, read_words};
 pub use sizes::read_size;
 pub use store_names::{RedisPlace, StoreWanted, read_store};

@@ -3,10 +3,12 @@ ghost use Rattle.std.specs.Prelude.{◌≡◌, ◌≢◌, ℕ, [], List, None, S
 ghost use Rattle.octets.specs.Sharing.{IsSharing};
 ghost use Rattle.server_options.specs.Given.{given_text, given_texts, IsFlagGiven, IsNumberGiven};
 ghost use Rattle.server_options.specs.Folders.{folder_of, IsStoreFolder};
+ghost use Rattle.server_options.specs.Logging.{named_level, named_format};
 ghost use Rattle.server_options.specs.Size.{written_size};
 ghost use Rattle.server_options.specs.declared.store_names.StoreWanted.TheVariants.{Memory};
 
 use crate::arguments::program;
+use crate::logging::{LogFormat, LogLevel, named_format, named_level};
 use crate::sizes::read_size;
 use crate::store_names::{StoreWanted, read_store};
 use clap::{ArgMatches, Error};
@@ -53,6 +55,10 @@ pub struct Options<'a> {
     pub connections: usize,
     /// For how many seconds one may be silent.
     pub idle: u64,
+    /// Which lines the log has.
+    pub log_level: LogLevel,
+    /// How they are written.
+    pub log_format: LogFormat,
 }
 
 impl Options<'_> {
@@ -136,6 +142,23 @@ pub fn read_words<'a>(alloc: Global, words: &'a [String]) -> Result<Task<'a>, Re
     }
 }
 
+/// The file of more options that the words of a command line name, the program's name first. `serve` alone has one. Of the
+/// words no more is read than whose they are, so they may still be refused.
+pub fn read_config<'a>(alloc: Global, words: &'a [String]) -> Result<Option<&'a str>, Refusal> {
+    let matches = program(alloc)?.try_get_matches_from(words)?;
+    match matches.subcommand_matches("serve") {
+        Some(given) => Ok(config_of(given)),
+        None => Ok(None),
+    }
+}
+
+/// The file of more options that was given.
+fn config_of<'a>(given: &ArgMatches<'a>) -> Option<&'a str>
+    ensures { option_map (λ s. s.now) result ≡ given_text given.now (codes "config") }
+{
+    given.get_str("config")
+}
+
 /// Reads what was given with `serve`.
 fn read_options<'a>(alloc: Global, given: &ArgMatches<'a>) -> Result<Options<'a>, Refusal>
     ensures shares { IfOk result (λ o. IsSharing o.shares.needed o.shares.made) }
@@ -157,6 +180,10 @@ fn read_options<'a>(alloc: Global, given: &ArgMatches<'a>) -> Result<Options<'a>
         given.now (codes "connections") 1 o.connections) }
     ensures idle { IfOk result (λ o. IsNumberGiven ⟦<u64 as FromStr>⟧.from_str_gives
         given.now (codes "idle") 60 o.idle) }
+    ensures log_level { IfOk result (λ o. o.log_level
+        ≡ named_level (unwrap_or (given_text given.now (codes "log-level")) [])) }
+    ensures log_format { IfOk result (λ o. o.log_format
+        ≡ named_format (unwrap_or (given_text given.now (codes "log-format")) [])) }
 {
     let Some(shares) = read_shares(text_of(given, "shares")) else {
         return Err(Refusal::Shares);
@@ -178,6 +205,8 @@ fn read_options<'a>(alloc: Global, given: &ArgMatches<'a>) -> Result<Options<'a>
         redis_password_file: given.get_str("redis-password-file"),
         connections: connections_of(given),
         idle: idle_of(given),
+        log_level: named_level(text_of(given, "log-level")),
+        log_format: named_format(text_of(given, "log-format")),
     })
 }
 

@@ -5,7 +5,7 @@ use Rattle.folder_shelf.specs.declared.fault.FolderFault.TheVariants as folder
 use Rattle.redis_store.specs.declared.fault.ServerFault.{ServerFault}
 use Rattle.redis_store.specs.declared.fault.ServerFault.TheVariants as server
 use Rattle.server_stores.specs.declared.fault.ProgramFault.{ProgramFault}
-use Rattle.server_stores.specs.declared.fault.ProgramFault.TheVariants.{PollFailed, Arguments, Shares, Stores, Room, New, NoAddress, AddressInUse, NotAllowed, NotBound, SecretUnread, SecretTooLong, FewHandles, NoMemory, NotPrinted, NotThere, NoneAbove, Empty, Folder, OtherGrid, Twice, NewFolder, DiskFull, NoRoom, NotEmpty, OtherCount, ImageUnread, BadImage, ImageUnwritten, NotWell, RedisUnknown, Redis, PasswordUnread}
+use Rattle.server_stores.specs.declared.fault.ProgramFault.TheVariants.{PollFailed, Arguments, Shares, Stores, Room, New, NoAddress, AddressInUse, NotAllowed, NotBound, SecretUnread, SecretTooLong, FewHandles, NoMemory, NotPrinted, NotThere, NoneAbove, Empty, Folder, OtherGrid, Twice, NewFolder, DiskFull, NoRoom, NotEmpty, OtherCount, ImageUnread, BadImage, ImageUnwritten, NotWell, RedisUnknown, Redis, PasswordUnread, OptionsUnread, Options}
 
 -- the status where a folder was refused; 20 is between them, that of a full disk
 abbrev pub folder_status : FolderFault → ℕ
@@ -63,3 +63,5 @@ status_of NotWell = 28
 status_of RedisUnknown = 29
 status_of (Redis fault) = server_status fault
 status_of PasswordUnread = 30
+status_of OptionsUnread = 32
+status_of Options = 33

@@ -112,6 +112,12 @@ pub enum ProgramFault {
     /// The file of the Redis servers' password could not be read.
     #[error("the Redis password file can't be read")]
     PasswordUnread,
+    /// The file of options could not be read: it was told already, by its name.
+    #[error("the file of options can't be read")]
+    OptionsUnread,
+    /// The file of options is none: it was told already, by its name.
+    #[error("the file of options is none")]
+    Options,
 }
 
 impl ProgramFault {
@@ -137,7 +143,13 @@ impl ProgramFault {
 
     /// Whether it was told already where it came.
     pub fn is_told(&self) -> bool {
-        self.is_of_a_store() || *self == ProgramFault::Arguments || *self == ProgramFault::NotWell
+        match self {
+            ProgramFault::Arguments => true,
+            ProgramFault::NotWell => true,
+            ProgramFault::OptionsUnread => true,
+            ProgramFault::Options => true,
+            _ => self.is_of_a_store(),
+        }
     }
 
     /// The status with which the program exits.
@@ -178,6 +190,8 @@ impl ProgramFault {
             ProgramFault::RedisUnknown => 29,
             ProgramFault::Redis(fault) => status_of_server(fault),
             ProgramFault::PasswordUnread => 30,
+            ProgramFault::OptionsUnread => 32,
+            ProgramFault::Options => 33,
         }
     }
 }

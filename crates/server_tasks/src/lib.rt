@@ -8,15 +8,22 @@ ghost use Rattle.grid.specs.GridState.{states};
 ghost use Rattle.gate_core.specs.Held.{AreParameters};
 ghost use Rattle.gate_core.specs.Tallies.{nothing_counted};
 
+/// How the log is written.
+mod log_lines;
+/// The file of options.
+mod option_words;
+/// What the loop of connections runs with.
 mod serving_runtime;
 
+use crate::log_lines::{LogLines, filter_of};
+use crate::option_words::{name_file, words_of_file};
 use crate::serving_runtime::ServingRuntime;
 use folder_shelf::Settings;
 use gate_core::{Gateway, GatewayFault};
 use gate_flow::Lobby;
 use gate_poll::{Limits, ServeFault, serve_on};
 use libc::net::{SO_SNDBUF, SOL_SOCKET, setsockopt};
-use log::{Log, info};
+use log::{Log, Logged, info};
 use mio::net::TcpListener;
 use server_board::Board;
 use server_options::{Options, Refusal, Shares, Task, read_words};
@@ -52,7 +59,10 @@ pub fn run<
         + Clone
         + Drop,
 >(rt: &R) -> Result<(), ProgramFault> {
-    let words = arguments_of(rt)?;
+    let mut words = arguments_of(rt)?;
+    let mut more = words_of_file(rt, &words)?;
+    let typed = words.len();
+    words.append(&mut more)?;
     match read_words(rt.alloc(), &words) {
         Ok(Task::Serve(options)) => serve(rt, &options),
         Ok(Task::Check(folders)) => check(rt, &folders),
@@ -61,20 +71,31 @@ pub fn run<
             let secret = read_secret(rt, wanted.secret_file)?;
             restore(rt, &wanted, &secret)
         }
-        Err(Refusal::Shares) => Err(ProgramFault::Shares),
-        Err(Refusal::Stores) => Err(ProgramFault::Stores),
-        Err(Refusal::Room) => Err(ProgramFault::Room),
-        Err(Refusal::New) => Err(ProgramFault::New),
-        Err(Refusal::Words(error)) => {
-            if error.kind() == clap::error::ErrorKind::OutOfMemory {
-                return Err(ProgramFault::NoMemory);
+        Err(refusal) => {
+            if words.len() > typed {
+                name_file(rt, &words[..typed]);
             }
-            let _ = error.print(rt);
-            match error.exit_code() {
-                0 => Ok(()),
-                _ => Err(ProgramFault::Arguments),
-            }
+            told(rt, refusal)
         }
+    }
+}
+
+/// What the program ends with where its words were refused. Help and the version are asked for, and no fault.
+fn told(rt: &(impl Print + Eprint), refusal: Refusal) -> Result<(), ProgramFault> {
+    let error = match refusal {
+        Refusal::Shares => return Err(ProgramFault::Shares),
+        Refusal::Stores => return Err(ProgramFault::Stores),
+        Refusal::Room => return Err(ProgramFault::Room),
+        Refusal::New => return Err(ProgramFault::New),
+        Refusal::Words(error) => error,
+    };
+    if error.kind() == clap::error::ErrorKind::OutOfMemory {
+        return Err(ProgramFault::NoMemory);
+    }
+    let _ = error.print(rt);
+    match error.exit_code() {
+        0 => Ok(()),
+        _ => Err(ProgramFault::Arguments),
     }
 }
 
@@ -112,9 +133,12 @@ fn serve<
     if let Some(fault) = few {
         return Err(fault);
     }
-    let mut lobby = Lobby::new(open_gateway(rt, options)?);
+    let lines = LogLines::new(rt.clone()?, options.log_format);
+    let told = &Logged::new(rt.clone()?, filter_of(options.log_level), lines);
+    let mut lobby = Lobby::new(open_gateway(told, options)?);
     let listeners = listen_for(rt, options)?;
-    serve_with(rt, options, listeners, &mut lobby)
+    let serving = &ServingRuntime::new(rt, told);
+    serve_with(serving, options, listeners, &mut lobby)
 }
 
 /// Where connections are accepted, and control requests if they are anywhere.
@@ -170,28 +194,16 @@ fn listen_for_control<R: Net>(
 }
 
 /// Serves the connections that come to these listeners.
-fn serve_with<
-    R: Print
-        + Eprint
-        + AllocGlobal
-        + Files<File = File>
-        + Clock
-        + CpuClock
-        + Net
-        + Log
-        + Clone
-        + Drop,
->(
-    rt: &R,
+fn serve_with<R: AllocGlobal + Clock + CpuClock + Net + Log, S: Store>(
+    serving: &R,
     options: &Options<'_>,
     listeners: Listeners,
-    lobby: &mut Lobby<ServerStore<R>>,
+    lobby: &mut Lobby<S>,
 ) -> Result<(), ProgramFault> {
     let Listeners {
         connections,
         control,
     } = listeners;
-    let serving = &ServingRuntime::new(rt);
     info!(serving; "started: at most {} connections", options.connections);
     let limits = Limits::new(options.connections, Duration::from_secs(options.idle));
     match serve_on(serving, connections, control, &limits, lobby, &mut Board) {

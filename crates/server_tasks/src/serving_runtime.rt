@@ -13,20 +13,22 @@ use std::time::{Clock, CpuClock, Duration};
 /// The handle of standard error.
 const STANDARD_ERROR: i32 = 2;
 
-/// The runtime `R`, whose records are written where standard error takes them at once. Else they are left out and
+/// The runtime `R` with the log `L`, whose records are written where standard error takes them at once. Else they are left out and
 /// counted: a pipe that nobody reads, or a terminal that was stopped, holds up no connection. The next record that is
 /// written has the count before it. A pipe that takes any bytes takes 4,096 at once, so a record is to be shorter.
 #[derive(Drop)]
-pub struct ServingRuntime<'a, R> {
+pub struct ServingRuntime<'a, R, L> {
     rt: &'a R,
+    records: &'a L,
     left_out: Cell<u64>,
 }
 
-impl<'a, R> ServingRuntime<'a, R> {
-    /// The runtime `rt`, of which no record was left out yet.
-    pub fn new(rt: &'a R) -> ServingRuntime<'a, R> {
+impl<'a, R, L> ServingRuntime<'a, R, L> {
+    /// The runtime `rt` with the log `records`, of which no record was left out yet.
+    pub fn new(rt: &'a R, records: &'a L) -> ServingRuntime<'a, R, L> {
         ServingRuntime {
             rt,
+            records,
             left_out: Cell::new(0),
         }
     }
@@ -42,13 +44,13 @@ fn takes_bytes() -> bool {
     poll(&mut asked, 0) != 0
 }
 
-impl<R: Log> Log for ServingRuntime<'_, R> {
-    ghost enables = { λ s. R.enables s.rt.now };
+impl<R, L: Log> Log for ServingRuntime<'_, R, L> {
+    ghost enables = { λ s. L.enables s.records.now };
 
-    ghost target_of = { λ s. R.target_of s.rt.now };
+    ghost target_of = { λ s. L.target_of s.records.now };
 
     fn enabled(&self, metadata: &Metadata<'_>) -> bool {
-        self.rt.enabled(metadata)
+        self.records.enabled(metadata)
     }
 
     fn log<D: Display, K: Source, S: Spans>(&self, record: &Record<'_, D, K, S>) {
@@ -59,25 +61,25 @@ impl<R: Log> Log for ServingRuntime<'_, R> {
         }
         if left_out > 0 {
             self.left_out.set(0);
-            warn!(self.rt; "{left_out} lines were left out that nobody read");
+            warn!(self.records; "{left_out} lines were left out that nobody read");
             if !takes_bytes() {
                 self.left_out.set(1);
                 return;
             }
         }
-        self.rt.log(record);
+        self.records.log(record);
     }
 
     fn flush(&self) {
-        self.rt.flush();
+        self.records.flush();
     }
 
     fn target(&self) -> &str {
-        self.rt.target()
+        self.records.target()
     }
 }
 
-impl<R: Alloc> Alloc for ServingRuntime<'_, R> {
+impl<R: Alloc, L> Alloc for ServingRuntime<'_, R, L> {
     type A = R::A;
 
     fn alloc(&self) -> R::A {
@@ -85,7 +87,7 @@ impl<R: Alloc> Alloc for ServingRuntime<'_, R> {
     }
 }
 
-impl<R: Clock> Clock for ServingRuntime<'_, R> {
+impl<R: Clock, L> Clock for ServingRuntime<'_, R, L> {
     fn monotonic(&self) -> io::Result<Duration> {
         self.rt.monotonic()
     }
@@ -99,7 +101,7 @@ impl<R: Clock> Clock for ServingRuntime<'_, R> {
     }
 }
 
-impl<R: CpuClock> CpuClock for ServingRuntime<'_, R> {
+impl<R: CpuClock, L> CpuClock for ServingRuntime<'_, R, L> {
     fn thread_cpu_time(&self) -> io::Result<Duration> {
         self.rt.thread_cpu_time()
     }
@@ -110,7 +112,7 @@ impl<R: CpuClock> CpuClock for ServingRuntime<'_, R> {
 }
 
 /// Names are looked up, and stores connected, before the loop runs.
-impl<R: Net> Net for ServingRuntime<'_, R> {
+impl<R: Net, L> Net for ServingRuntime<'_, R, L> {
     type Stream = R::Stream;
 
     type Listener = R::Listener;

@@ -8,7 +8,8 @@ use gate_poll::Counts;
 use server_board::figures::StoreFigures;
 use server_board::{Asked, Method, asked_by, metrics_text, status_text};
 use server_options::{
-    Options, RedisPlace, Shares, StoreWanted, Task, read_size, read_store, read_words,
+    LogFormat, LogLevel, Options, RedisPlace, Shares, StoreWanted, Task, read_config, read_size,
+    read_store, read_words,
 };
 use server_stores::difference::Difference;
 use server_stores::folders::{Found, Opening, look, open_folder, open_on_disk};
@@ -72,6 +73,8 @@ fn options_have_defaults(rt: HostRuntime) -> Result<(), Fail> {
     assert!(rt; options.redis_password_file.is_none());
     assert_eq!(rt; options.connections, 900);
     assert_eq!(rt; options.idle, 60);
+    assert_eq!(rt; options.log_level, LogLevel::Info);
+    assert_eq!(rt; options.log_format, LogFormat::Text);
     Ok(())
 }
 
@@ -122,6 +125,26 @@ fn each_number_that_is_given_is_taken(rt: HostRuntime) -> Result<(), Fail> {
     let options = served_with(rt.alloc(), &words)?;
     assert_eq!(rt; options.shares, Shares { needed: 2, made: 5 });
     assert!(rt; !options.synced);
+    Ok(())
+}
+
+#[test]
+fn the_log_is_as_it_is_named(rt: HostRuntime) -> Result<(), Fail> {
+    for (name, level) in [
+        ("error", LogLevel::Error),
+        ("warn", LogLevel::Warn),
+        ("info", LogLevel::Info),
+        ("debug", LogLevel::Debug),
+    ] {
+        let words = words_of(rt.alloc(), &["serve", "--log-level", name])?;
+        assert_eq!(rt; served_with(rt.alloc(), &words)?.log_level, level);
+    }
+    for (name, format) in [("text", LogFormat::Text), ("json", LogFormat::Json)] {
+        let words = words_of(rt.alloc(), &["serve", "--log-format", name])?;
+        assert_eq!(rt; served_with(rt.alloc(), &words)?.log_format, format);
+    }
+    let words = words_of(rt.alloc(), &["serve", "--log-level", "loud"])?;
+    assert!(rt; read_words(rt.alloc(), &words).is_err());
     Ok(())
 }
 
@@ -180,6 +203,27 @@ fn each_verb_is_its_task(rt: HostRuntime) -> Result<(), Fail> {
     assert_eq!(rt; wanted.folders.as_slice(), ["/a", "/b"].as_slice());
     assert!(rt; wanted.secret_file == Some("s"));
     assert!(rt; !wanted.synced);
+    Ok(())
+}
+
+#[test]
+fn a_file_of_options_is_named_whatever_it_has(rt: HostRuntime) -> Result<(), Fail> {
+    for value in ["a", "/b.toml"] {
+        let words = words_of(rt.alloc(), &["serve", "--new", "/c", "--config", value])?;
+        let Ok(file) = read_config(rt.alloc(), &words) else {
+            return Err(Fail::from("refused"));
+        };
+        assert!(rt; file == Some(value));
+        assert!(rt; read_words(rt.alloc(), &words).is_err());
+    }
+    let none: [&[&str]; 2] = [&["serve"], &["check", "/a"]];
+    for given in &none {
+        let words = words_of(rt.alloc(), *given)?;
+        let Ok(file) = read_config(rt.alloc(), &words) else {
+            return Err(Fail::from("refused"));
+        };
+        assert!(rt; file.is_none());
+    }
     Ok(())
 }
 

@@ -1,8 +1,9 @@
 //! The web gateway as a program that runs until it is stopped, and the care of the folders in which it keeps shares.
 //!
-//!     wozhinnam serve [--listen ADDR] [--control ADDR] [--shares K,N] [--store STORE].. [--new PATH]..
-//!                     [--servers COUNT] [--room BYTES] [--no-sync] [--secret-file PATH]
+//!     wozhinnam serve [--config FILE] [--listen ADDR] [--control ADDR] [--shares K,N] [--store STORE]..
+//!                     [--new PATH].. [--servers COUNT] [--room BYTES] [--no-sync] [--secret-file PATH]
 //!                     [--redis-password-file PATH] [--connections MAX] [--idle SECONDS]
+//!                     [--log-level LEVEL] [--log-format FORMAT]
 //!     wozhinnam check PATH..
 //!     wozhinnam image PATH.. > FILE
 //!     wozhinnam restore [--shares K,N] [--secret-file PATH] [--no-sync] FILE PATH..
