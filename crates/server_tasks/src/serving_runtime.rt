@@ -13,9 +13,9 @@ use std::time::{Clock, CpuClock, Duration};
 /// The handle of standard error.
 const STANDARD_ERROR: i32 = 2;
 
-/// The runtime `R` with the log `L`, whose records are written where standard error takes them at once. Else they are left out and
-/// counted: a pipe that nobody reads, or a terminal that was stopped, holds up no connection. The next record that is
-/// written has the count before it. A pipe that takes any bytes takes 4,096 at once, so a record is to be shorter.
+/// The runtime `R` with the log `L`, whose records are written where standard error takes them at once. Else they are
+/// left out and counted: a pipe that nobody reads, or a terminal that was stopped, holds up no connection. The next record
+/// that is written has the count before it. A pipe that takes any bytes takes 4,096 at once, so a record is to be shorter.
 #[derive(Drop)]
 pub struct ServingRuntime<'a, R, L> {
     rt: &'a R,
