@@ -18,13 +18,14 @@ use std::marker::Model;
 #[derive(Debug, Drop)]
 pub(crate) struct Pins {
     params: Params,
+    code: Code,
     key: [u8; 16],
     shares: Vec<Share>,
     at: usize,
 }
 
 impl Model for Pins {
-    ghost use Rattle.std.specs.Prelude.{◌≤◌};
+    ghost use Rattle.std.specs.Prelude.{◌≡◌, ◌≤◌};
     ghost use Rattle.aes_ctr.specs.Crypt.{crypt};
     ghost use Rattle.share_codec.specs.Segments.{segment_count};
     ghost use Rattle.chk_file.specs.Taken.{AreTaken};
@@ -36,7 +37,8 @@ impl Model for Pins {
     ghost view = { λ p.
         left_of p.params (crypt p.key (crypttext_from p.params p.shares.items)) p.at };
 
-    ghost invariant = { λ p. AreTaken p.params p.shares.items × (p.at ≤ segment_count p.params) };
+    ghost invariant = { λ p. AreTaken p.params p.shares.items × (p.at ≤ segment_count p.params)
+        × (p.code.k ≡ p.params.k) × (p.code.n ≡ p.params.n) };
 }
 
 impl Pins {
@@ -45,8 +47,10 @@ impl Pins {
         requires { AreTaken params shares.items }
         ensures { result ≡ left_of params (crypt key (crypttext_from params shares.items)) 0 }
     {
+        let code = Code::new(params.k, params.n).unwrap();
         Pins {
             params,
+            code,
             key,
             shares,
             at: 0,
@@ -66,7 +70,14 @@ impl Pins {
         if self.at == self.params.segment_count() {
             return Ok(None);
         }
-        let bytes = segment(alloc, &self.params, self.key, &self.shares, self.at)?;
+        let bytes = segment(
+            alloc,
+            &self.params,
+            &self.code,
+            self.key,
+            &self.shares,
+            self.at,
+        )?;
         self.at += 1;
         Ok(Some(bytes))
     }
@@ -91,10 +102,12 @@ impl Pins {
 fn segment(
     alloc: Global,
     params: &Params,
+    code: &Code,
     key: [u8; 16],
     shares: &[Share],
     at: usize,
 ) -> Result<Vec<u8>, AllocError>
+    requires code { (code.now.k ≡ params.now.k) × (code.now.n ≡ params.now.n) }
     requires taken { AreTaken params.now shares.now }
     requires inside { at < segment_count params.now }
     ensures some { IfOk result (λ bytes. 0 < length bytes.items) }
@@ -106,10 +119,12 @@ fn segment(
     erasure::laws::decoded_blocks_are_the_given();
     keystream_by_place();
     parts_agree();
-    let code = Code::new(params.k, params.n).unwrap();
-    let room = params.segment_length(at).saturating_add(params.k as usize);
+    let size = params.size as usize;
+    let room = size
+        .min(params.segment_length(at))
+        .saturating_add(params.k as usize);
     let mut bytes = Vec::with_capacity(alloc, room)?;
-    let _zeros = add_segment(alloc, params, &code, shares, at, &mut bytes)?;
+    let _zeros = add_segment(alloc, params, code, shares, at, &mut bytes)?;
     let start = at * params.segment_size();
     Ok(apply_keystream_at(key, start as u64, bytes))
 }

@@ -38,4 +38,4 @@ invariant_of-self c =
     let p : ParamsValue = c.self.inside.params in
     let taken = c.self.invariant.0 in
     let within = begins_within p (c.self.inside.at + c.args.bytes / c.segment_size-each.result) (segment_some p taken.sharing.some taken.some) (begins c.before) in
-    (taken, omega (arith, within))
+    (taken, omega (arith, within), c.self.invariant.2, c.self.invariant.3)
