@@ -8,7 +8,7 @@ use Rattle.base32_text.specs.Base32.{Spells, spelling}
 use Rattle.base32_text.proofs.SpellingLemmas.{counts, one_meaning, spells_spelling}
 use Rattle.folder_shelf.specs.Names.{file_name, IsPlace}
 use Rattle.folder_shelf.specs.Sealed.{sealed}
-use Rattle.folder_shelf.specs.SettingsText.{settings_text, AreSettings}
+use Rattle.folder_shelf.specs.SettingsText.{settings_text_as, AreSettings}
 use Rattle.folder_shelf.specs.declared.settings.Settings.{Settings}
 use Rattle.folder_shelf.proofs.Seals.{length-sealed, cut_sealed}
 use Rattle.folder_shelf.proofs.Fields.{place_at, servers_at, needed_at, made_at, secret_at, same_settings}
@@ -57,13 +57,13 @@ one_content bytes other e =
     sym ((cut_sealed (sealed bytes) bytes (length bytes) refl long).0)
     ∙ (cut_sealed (sealed bytes) other (length bytes) e long).0
 
-pub one_grid : (s t : Settings) → AreSettings s → AreSettings t
-    → settings_text s ≡ settings_text t → s ≡ t
-one_grid s t are there e =
-    let text = settings_text s in
+pub one_grid : (format : List ℕ) → length format ≡ 16 → (s t : Settings) → AreSettings s → AreSettings t
+    → settings_text_as format s ≡ settings_text_as format t → s ≡ t
+one_grid format long s t are there e =
+    let text = settings_text_as format s in
     same_settings t s.place s.servers s.needed s.made s.secret
-    (sym (place_at text s are refl) ∙ place_at text t there e)
-    (sym (servers_at text s are refl) ∙ servers_at text t there e)
-    (sym (needed_at text s are refl) ∙ needed_at text t there e)
-    (sym (made_at text s are refl) ∙ made_at text t there e)
-    (sym (secret_at text s are refl) ∙ secret_at text t there e)
+    (sym (place_at format long text s are refl) ∙ place_at format long text t there e)
+    (sym (servers_at format long text s are refl) ∙ servers_at format long text t there e)
+    (sym (needed_at format long text s are refl) ∙ needed_at format long text t there e)
+    (sym (made_at format long text s are refl) ∙ made_at format long text t there e)
+    (sym (secret_at format long text s are refl) ∙ secret_at format long text t there e)

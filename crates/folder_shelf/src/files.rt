@@ -123,19 +123,35 @@ impl<R: Files + AllocGlobal + Clone + Drop> FileDisk<R> {
         self.sync_folder(paths.folder.as_str())
     }
 
-    /// A new file. What was left under its name is taken away, and its folder is made again where it is gone.
+    /// A new file. What was left under its name is taken away, or moved aside where it is a folder, and the folder of
+    /// the file is made again where it is gone.
     pub(crate) fn begin(&self, folder: &str, path: &str) -> io::Result<R::File> {
         match File::create_new(&self.rt, path) {
             Ok(file) => Ok(file),
             Err(error) => {
                 match error.kind() {
-                    ErrorKind::AlreadyExists => fs::remove_file(&self.rt, path)?,
+                    ErrorKind::AlreadyExists => self.make_way(path)?,
                     ErrorKind::NotFound => fs::create_dir(&self.rt, folder)?,
                     _ => return Err(error),
                 }
                 File::create_new(&self.rt, path)
             }
         }
+    }
+
+    /// Takes away what has the name of a file that is to be written. A folder is moved aside.
+    fn make_way(&self, path: &str) -> io::Result<()> {
+        match fs::remove_file(&self.rt, path) {
+            Ok(()) => Ok(()),
+            Err(error) if error.kind() == ErrorKind::IsADirectory => self.move_aside(path, path),
+            Err(error) => Err(error),
+        }
+    }
+
+    /// Moves a folder to a name beside that of an unfinished file.
+    fn move_aside(&self, folder: &str, unfinished: &str) -> io::Result<()> {
+        let aside = format!(in self.rt.alloc(); "{unfinished}.folder")?;
+        fs::rename(&self.rt, folder, aside.as_str())
     }
 
     /// Gives a file the name by which it stands. A folder that has that name is moved among the unfinished files, and the
@@ -147,10 +163,7 @@ impl<R: Files + AllocGlobal + Clone + Drop> FileDisk<R> {
             Ok(()) => Ok(()),
             Err(error) => {
                 match error.kind() {
-                    ErrorKind::IsADirectory => {
-                        let aside = format!(in self.rt.alloc(); "{unfinished}.folder")?;
-                        fs::rename(&self.rt, name, aside.as_str())?;
-                    }
+                    ErrorKind::IsADirectory => self.move_aside(name, unfinished)?,
                     ErrorKind::NotFound => fs::create_dir(&self.rt, paths.folder.as_str())?,
                     _ => return Err(error),
                 }

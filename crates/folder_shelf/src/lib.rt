@@ -16,6 +16,8 @@ mod fault;
 mod names;
 /// What stands in a file.
 mod file_text;
+/// Settings as a text.
+mod sealed_settings;
 /// The text of a settings file.
 mod settings_file;
 /// Calls of a file system.
@@ -35,5 +37,6 @@ pub use files::{Disk, FileDisk, LONGEST_FILE, Paths, read_file};
 pub use folder_shelf::{FileShelf, FolderShelf};
 pub use names::{name_of, read_name};
 pub use opening::FolderLock;
+pub use sealed_settings::{TEXT as SETTINGS_TEXT, read_settings_as, settings_text_as};
 pub use settings::Settings;
-pub use settings_file::{TEXT as SETTINGS_TEXT, check_settings, read_settings, settings_text};
+pub use settings_file::{check_settings, read_settings, settings_text};

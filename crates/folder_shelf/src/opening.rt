@@ -1,7 +1,8 @@
 //! How a folder is opened.
 use crate::files::{FileDisk, Paths, read_file};
 use crate::names::FOLDERS;
-use crate::settings_file::{TEXT, check_settings, settings_text};
+use crate::sealed_settings::TEXT;
+use crate::settings_file::{check_settings, settings_text};
 use crate::{FolderFault, Settings};
 use std::fs;
 use std::fs::{File, OpenOptions};

@@ -1,2 +1,3 @@
 pub mod Lists
-pub mod Fields
+pub mod Digits
+pub mod Talks

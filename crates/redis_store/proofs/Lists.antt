@@ -7,7 +7,7 @@ use Rattle.std.specs.List.{range_with_len}
 use Rattle.std.specs.Prelude.{flat_map}
 use Rattle.resp.specs.declared.reply.Reply.{Reply}
 use Rattle.resp.specs.Spelled.{SpellsAll}
-use Rattle.redis_shelf.specs.Keys.{key}
+use Rattle.redis_store.specs.Keys.{key}
 use Rattle.redis_store.specs.Commands.{exists_command, exists_below}
 use Rattle.redis_store.specs.Answers.{SaysWhether, SayWhich}
 

@@ -1,6 +1,6 @@
 -- What replies say.
 use Rattle.std.specs.Prelude.{◌≡◌, ◌⊎◌, ℕ, suc, pos, List, [], ◌∷◌, Bool, true, false, codes}
-use Rattle.redis_shelf.specs.Answers.{IsError, IsErrorOf, IsFullError}
+use Rattle.redis_store.specs.Replies.{IsError, IsErrorOf, IsFullError}
 use Rattle.redis_store.specs.declared.fault.ServerFault.{ServerFault}
 use Rattle.redis_store.specs.declared.fault.ServerFault.TheVariants.{Refused, Full, Replica, OtherReply}
 use Rattle.resp.specs.declared.reply.Item.TheVariants as item

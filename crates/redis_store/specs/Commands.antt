@@ -1,8 +1,17 @@
--- The commands that a server is told besides those of redis_shelf (Redis: SETNX, EXISTS).
+-- The commands that a server is told (Redis: AUTH, GET, DEL, SETNX, EXISTS).
 use Rattle.std.specs.Prelude.{ℕ, List, [], ◌∷◌, codes}
 use Rattle.std.specs.List.{flat_map, range_with_len}
 use Rattle.resp.specs.Command.{command}
-use Rattle.redis_shelf.specs.Keys.{key}
+use Rattle.redis_store.specs.Keys.{key}
+
+abbrev pub auth_command : List ℕ → List ℕ
+auth_command password = command (codes "AUTH" ∷ password ∷ [])
+
+abbrev pub get_command : List ℕ → List ℕ
+get_command name = command (codes "GET" ∷ name ∷ [])
+
+abbrev pub delete_command : List ℕ → List ℕ
+delete_command name = command (codes "DEL" ∷ name ∷ [])
 
 -- bytes put where nothing stands: in one step of the server, so of several who put at once one does
 abbrev pub put_command : List ℕ → List ℕ → List ℕ

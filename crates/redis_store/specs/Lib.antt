@@ -1,8 +1,11 @@
--- Read GridText and Strange for whose a server is, then Told: what a connection was told and what came. Left says how a
--- connection is left.
+-- Read GridText and Strange for whose a server is and Keys for where a share stands, then Exchanges and Told: what a
+-- connection was told and what came. Commands, Replies and Answers are its bytes. Left says how a connection is left.
+pub mod Keys
 pub mod GridText
 pub mod Strange
 pub mod Commands
+pub mod Replies
+pub mod Exchanges
 pub mod Answers
 pub mod Told
 pub mod Left

@@ -4,9 +4,9 @@ use Rattle.resp.specs.declared.reply.Item.TheVariants as item
 use Rattle.resp.specs.declared.reply.Reply.{Reply}
 use Rattle.resp.specs.declared.reply.Reply.TheVariants as reply
 use Rattle.resp.specs.Spelled.{SpellsReply, SpellsAll}
-use Rattle.redis_shelf.specs.Answers.{GivesShare, IsErrorOf}
-use Rattle.redis_shelf.specs.Commands.{get_command}
-use Rattle.redis_shelf.specs.Told.{Talk, with_exchange, short_limits, value_limits, IsGreeted}
+use Rattle.redis_store.specs.Replies.{GivesShare, IsErrorOf}
+use Rattle.redis_store.specs.Commands.{get_command}
+use Rattle.redis_store.specs.Exchanges.{Talk, with_exchange, short_limits, value_limits, IsGreeted}
 use Rattle.redis_store.specs.declared.connection.Greeting.{Greeting}
 use Rattle.redis_store.specs.Answers.{SaysWhether, SayWhich}
 use Rattle.redis_store.specs.Commands.{put_command}

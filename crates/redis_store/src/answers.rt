@@ -2,7 +2,7 @@
 ghost use Rattle.std.specs.Prelude.{◌≡◌, ◌↔◌, ◌+◌, ◌++◌, ◌∷◌, ◌<◌, ◌^◌, ℕ, Bool, List, Option, [], IsTrue, IfSome, IfNone, IfOk, IfErr, OnOk, length, if◌then◌else◌};
 ghost use Rattle.resp.specs.declared.reply.Item.TheVariants as item;
 ghost use Rattle.resp.specs.declared.reply.Reply.TheVariants as replies;
-ghost use Rattle.redis_shelf.specs.Answers.{IsDone, IsValue, IsOtherKind, GivesShare};
+ghost use Rattle.redis_store.specs.Replies.{IsDone, IsValue, IsOtherKind, GivesShare};
 ghost use Rattle.redis_store.specs.Answers.{SaysWhether, SayWhich, IsFaultOf};
 ghost use Rattle.redis_store.specs.Left.{IsOfReply};
 

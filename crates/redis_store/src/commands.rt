@@ -1,10 +1,9 @@
 //! Commands.
 ghost use Rattle.std.specs.Prelude.{◌≡◌, ◌++◌, ℕ, List, length, IfOk};
 ghost use Rattle.resp.specs.Command.{line_end};
-ghost use Rattle.redis_shelf.specs.Commands.{auth_command, get_command, delete_command};
-ghost use Rattle.redis_store.specs.Commands.{put_command, exists_command, exists_below};
+ghost use Rattle.redis_store.specs.Commands.{auth_command, get_command, delete_command, put_command, exists_command, exists_below};
 
-use redis_shelf::spell_key;
+use crate::keys::spell_key;
 use resp::{command, command_head};
 use std::alloc::{AllocError, Global};
 

@@ -3,11 +3,10 @@ ghost use Rattle.std.specs.Prelude.{◌≡◌, ◌<◌, ◌++◌, ◌⊎◌, ℕ
 ghost use Rattle.resp.specs.Command.{line_end};
 ghost use Rattle.resp.specs.Spelled.{SpellsReply, SpellsAll};
 ghost use Rattle.resp.specs.declared.reply.Reply.{Reply};
-ghost use Rattle.redis_shelf.specs.Answers.{IsDone, IsError, IsValue};
-ghost use Rattle.redis_shelf.specs.Commands.{auth_command, get_command};
-ghost use Rattle.redis_shelf.specs.Told.{short_limits, with_exchange, IsGreeted};
+ghost use Rattle.redis_store.specs.Replies.{IsDone, IsError, IsValue};
+ghost use Rattle.redis_store.specs.Exchanges.{short_limits, with_exchange, IsGreeted};
 ghost use Rattle.redis_store.specs.Answers.{SaysWhether};
-ghost use Rattle.redis_store.specs.Commands.{put_command};
+ghost use Rattle.redis_store.specs.Commands.{auth_command, get_command, put_command};
 ghost use Rattle.redis_store.specs.GridText.{grid_text};
 ghost use Rattle.redis_store.specs.Left.{IsRestBegun, IsBreak, IsErrorReply, IsLeftAfter, IsOfLink, IsOfReply};
 ghost use Rattle.redis_store.specs.Told.{found_reply, IsAtHand, IsOpened, IsToldIn, IsToldOf};
@@ -15,11 +14,11 @@ ghost use Rattle.redis_store.specs.Told.{found_reply, IsAtHand, IsOpened, IsTold
 use crate::ServerFault;
 use crate::answers::{bytes_in, fault_of, is_done, said_in};
 use crate::commands::{auth, get, put};
+use crate::link::Link;
 use crate::settings_key::{check_grid, grid_text};
 use crate::talk::{talk, talk_each, talk_long};
 use folder_shelf::Settings;
 use octets::Bytes;
-use redis_shelf::Link;
 use resp::{Limits, Reply};
 use std::alloc::Global;
 

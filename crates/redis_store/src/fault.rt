@@ -2,10 +2,15 @@
 ghost use Rattle.std.specs.Prelude.{◌≡◌, ◌⊎◌};
 ghost use Rattle.redis_store.specs.declared.fault.ServerFault.TheVariants.{Link, NoReply, NoMemory};
 
-use redis_shelf::LinkFault;
 use resp::RespFault;
 use std::alloc::{AllocError, AllocFailed};
+use std::io::Error as IoError;
 use thiserror::Error;
+
+/// A stream failed: no connection was made, one ended, or its time was up.
+#[derive(Clone, Copy, Debug, PartialEq, Eq, Error)]
+#[error("the stream failed")]
+pub struct LinkFault;
 
 /// Why a server gave no answer.
 ///
@@ -63,6 +68,12 @@ pub enum ServerFault {
     /// There was no memory for the call.
     #[error("out of memory")]
     NoMemory,
+}
+
+impl From<IoError> for LinkFault {
+    fn from(_: IoError) -> Self {
+        LinkFault
+    }
 }
 
 impl From<LinkFault> for ServerFault {

@@ -8,8 +8,12 @@
 
 /// Why a server gave no answer.
 mod fault;
+/// Keys of shares.
+mod keys;
 /// The text that says whose a server is.
 mod settings_key;
+/// A way to a server.
+mod link;
 /// Commands.
 mod commands;
 /// What replies say.
@@ -22,10 +26,11 @@ mod connection;
 mod redis_store;
 /// A way to a server, in the time that its bytes are given.
 mod paced_link;
-/// What holds of the text and the name under which it stands.
+/// What holds of keys, of the text and of the name under which it stands.
 pub mod laws;
 
-pub use fault::ServerFault;
+pub use fault::{LinkFault, ServerFault};
+pub use link::Link;
 pub use paced_link::PacedLink;
 pub use redis_store::{RedisStore, Server};
 pub use settings_key::{check_grid, grid_text, read_grid};

@@ -2,7 +2,8 @@
 ghost use Rattle.std.specs.Prelude.{◌≡◌, ◌<◌, ◌≤◌, ◌+◌, ◌*◌, ◌/◌, length, IfOk};
 ghost use Rattle.std.specs.Duration.{as_nanos};
 
-use redis_shelf::{Link, LinkFault};
+use crate::fault::LinkFault;
+use crate::link::Link;
 use std::io::{Read, Write};
 use std::net::{Net, OpenStream, SocketAddr};
 use std::time::{Clock, Duration};

@@ -1,69 +1,34 @@
 //! The text that says whose a server is.
-ghost use Rattle.std.specs.Prelude.{◌≡◌, ◌↔◌, length, IsTrue, IfOk, IfSome, Some, MatchResult};
+ghost use Rattle.std.specs.Prelude.{◌≡◌, ◌↔◌, IsTrue, IfOk, IfSome, Some, MatchResult};
 ghost use Rattle.folder_shelf.specs.SettingsText.{AreSettings};
 ghost use Rattle.folder_shelf.specs.declared.settings.Settings.{Settings};
 ghost use Rattle.redis_store.specs.GridText.{grid_text};
 ghost use Rattle.redis_store.specs.Strange.{IsStrange, HasNumbersOf};
 
 use crate::ServerFault;
-use folder_shelf::{Settings, seal_of};
+use folder_shelf::{Settings, read_settings_as, settings_text_as};
 use std::alloc::{AllocError, Global};
 
 /// The format's name: its last character is its version.
 const FORMAT: &[u8; 16] = b"wozhinnam redis1";
 
-/// How many bytes the text has.
-const TEXT: usize = 64;
-
 /// The text that says that a server is of these settings, 64 bytes. `Err` only where memory is refused.
+#[tactic(auto, unfolding(crate::specs::GridText::grid_text))]
 pub fn grid_text(alloc: Global, settings: &Settings) -> Result<Vec<u8>, AllocError>
     ensures { IfOk result (λ text. text.items ≡ grid_text settings.now) }
 {
-    let mut text = Vec::with_capacity(alloc, TEXT)?;
-    text.extend_from_slice(FORMAT)?;
-    text.extend_from_slice(&settings.place.to_be_bytes())?;
-    text.extend_from_slice(&settings.servers.to_be_bytes())?;
-    text.extend_from_slice(&settings.needed.to_be_bytes())?;
-    text.extend_from_slice(&settings.made.to_be_bytes())?;
-    text.extend_from_slice(&settings.secret)?;
-    let seal = seal_of(&text);
-    text.extend_from_slice(&seal)?;
-    Ok(text)
+    settings_text_as(alloc, FORMAT, settings)
 }
 
 /// The settings whose text this is, and `None` where it is of none: what [`grid_text`] gives is read back, and nothing
 /// else is read. `Err` only where memory is refused.
+#[tactic(auto, unfolding(crate::specs::GridText::grid_text))]
 pub fn read_grid(alloc: Global, text: &[u8]) -> Result<Option<Settings>, AllocError>
     ensures written { IfOk result (λ found. IfSome found (λ s. text.now ≡ grid_text s)) }
     ensures reads { (s : Settings) → AreSettings s → text.now ≡ grid_text s
         → IfOk result (λ found. found ≡ Some s) }
 {
-    if text.len() != TEXT {
-        return Ok(None);
-    }
-    let found = fields_of(text);
-    let written = grid_text(alloc, &found)?;
-    if written.as_slice() == text {
-        Ok(Some(found))
-    } else {
-        Ok(None)
-    }
-}
-
-/// The settings at their places in a text, which may be of none.
-fn fields_of(text: &[u8]) -> Settings
-    requires { length text.now ≡ 64 }
-    ensures { (s : Settings) → AreSettings s → text.now ≡ grid_text s → result ≡ s }
-{
-    let mut secret = [0; 32];
-    secret.copy_from_slice(&text[24..56]);
-    Settings {
-        place: u16::from_be_bytes([text[16], text[17]]),
-        servers: u16::from_be_bytes([text[18], text[19]]),
-        needed: u16::from_be_bytes([text[20], text[21]]),
-        made: u16::from_be_bytes([text[22], text[23]]),
-        secret,
-    }
+    read_settings_as(alloc, FORMAT, text)
 }
 
 /// Whether the text that stands on a server is that of these settings. Else what differs: `SettingsRotten` where it

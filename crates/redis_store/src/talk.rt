@@ -2,13 +2,13 @@
 ghost use Rattle.std.specs.Prelude.{◌≡◌, ◌<◌, ◌≤◌, ◌+◌, ◌++◌, ℕ, List, [], length, take, drop, vec_len, IfOk, IfErr, OnOk};
 ghost use Rattle.std.specs.List.{flat_map};
 ghost use Rattle.redis_store.specs.Left.{IsOfLink};
-ghost use Rattle.redis_shelf.specs.Told.{with_heard, with_exchange};
+ghost use Rattle.redis_store.specs.Exchanges.{with_heard, with_exchange};
 ghost use Rattle.resp.specs.Command.{line_end};
 ghost use Rattle.resp.specs.Spelled.{SpellsReply, SpellsAll};
 
 use crate::ServerFault;
+use crate::link::Link;
 use octets::Bytes;
-use redis_shelf::Link;
 use resp::{Item, Limits, Reply, read_bulk_line, read_reply};
 use std::alloc::Global;
 

@@ -1,11 +1,9 @@
-//! What the cases are about: a shelf in memory, a store of each kind, a file system with a folder, and a server's shelf and
-//! store.
+//! What the cases are about: a shelf in memory, a store of each kind, and a file system with a folder.
 use crate::folders::{self, Folder};
-use crate::redis_shelves::{self, Played};
-use crate::{kept_stores, redis_stores, shelf_stores, shelves};
+use crate::redis_stores::{self, Played};
+use crate::{kept_stores, shelf_stores, shelves};
 use case_lines::{Answers, Case, NoAnswer};
 use kept_store::KeptStore;
-use redis_shelf::RedisShelf;
 use redis_store::RedisStore;
 use share_shelf::FailShelf;
 use shelf_store::ShelfStore;
@@ -22,9 +20,7 @@ pub struct Bench {
     stored: Option<ShelfStore<FailShelf>>,
     /// A file system in memory, and a shelf in a folder of it.
     folder: Option<Folder>,
-    /// A shelf on a server that answers what it was told to.
-    redis: Option<RedisShelf<Played>>,
-    /// A store on such a server.
+    /// A store on a server that answers what it was told to.
     shared: Option<RedisStore<Played>>,
 }
 
@@ -36,7 +32,6 @@ impl Bench {
             kept: None,
             stored: None,
             folder: None,
-            redis: None,
             shared: None,
         }
     }
@@ -49,7 +44,6 @@ impl Answers for Bench {
             "kept" => kept_stores::answer(alloc, &self.shelf, &mut self.kept, case),
             "stored" => shelf_stores::answer(alloc, &self.shelf, &mut self.stored, case),
             "folder" => folders::answer(alloc, &mut self.folder, case),
-            "redis" => redis_shelves::answer(alloc, &mut self.redis, case),
             "shared" => redis_stores::answer(alloc, &mut self.shared, case),
             _ => Err(NoAnswer::Question),
         }

@@ -8,8 +8,6 @@ mod bench;
 mod folders;
 /// Stores in memory with a shelf beside them.
 mod kept_stores;
-/// Shelves on a Redis server.
-mod redis_shelves;
 /// Stores on a Redis server.
 mod redis_stores;
 /// Calls of shelves.

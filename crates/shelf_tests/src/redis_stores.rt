@@ -1,5 +1,4 @@
 //! Stores on servers of the tests' own, and the texts that say whose a server is.
-use crate::redis_shelves::Played;
 use crate::store_calls::call;
 use crate::texts::add;
 use case_lines::{Case, NoAnswer, debug, done, fixed};
@@ -10,6 +9,10 @@ use std::alloc::{AllocError, Global};
 
 /// A server in memory that one store leaves to the next.
 mod kept;
+/// A server that answers what it was told to.
+mod played;
+
+pub use played::Played;
 
 /// What a store has to know of a server that is at the second place of two, of 2 of 3 shares. No bytes are no password.
 fn server(alloc: Global, password: Vec<u8>) -> Result<Server, AllocError> {

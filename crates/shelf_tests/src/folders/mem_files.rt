@@ -198,6 +198,9 @@ impl Files for MemFiles {
         let state = &mut *guard;
         state.step()?;
         let node = if state.is_folder(path) {
+            if how.asks_create_new() {
+                return Err(io::Error::from(ErrorKind::AlreadyExists));
+            }
             None
         } else {
             match state.node_of(path) {

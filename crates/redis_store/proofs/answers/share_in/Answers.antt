@@ -1,6 +1,6 @@
 use Rattle.std.proofs.Common.{◌≡◌, ℕ, List, [], Option, Some, None, true, false, inl, inr}
 use Rattle.resp.specs.declared.reply.Reply.{Reply}
-use Rattle.redis_shelf.specs.Answers.{IsValue, IsOtherKind, GivesShare}
+use Rattle.redis_store.specs.Replies.{IsValue, IsOtherKind, GivesShare}
 use Rattle.redis_store.proofs.answers.share_in.Goals as goal
 
 gives : (answer : Reply) → ((value : Option (List ℕ)) → IsValue answer value → ⊥) → (IsOtherKind answer → ⊥) → (share : Option (List ℕ)) → GivesShare answer share → ⊥

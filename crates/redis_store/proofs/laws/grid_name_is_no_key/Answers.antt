@@ -1,6 +1,6 @@
 use Rattle.std.proofs.Common.{length, ap, arith, length-append, codes}
-use Rattle.redis_shelf.specs.Keys.{digits}
-use Rattle.redis_shelf.proofs.Digits.{length-digits}
+use Rattle.redis_store.specs.Keys.{digits}
+use Rattle.redis_store.proofs.Digits.{length-digits}
 use Rattle.redis_store.proofs.laws.grid_name_is_no_key.Goals as goal
 
 pub returns : goal.returns

@@ -1,5 +1,5 @@
 use Rattle.std.proofs.Common.{rules, ◌≡◌, ◌+◌, take, arith, ap, ◌∙◌}
-use Rattle.redis_shelf.proofs.Talks.{heard_behind, grown_front}
+use Rattle.redis_store.proofs.Talks.{heard_behind, grown_front}
 use Rattle.redis_store.proofs.talk.hear.Goals as goal
 
 pub returns-clause-heard : goal.returns-clause-heard

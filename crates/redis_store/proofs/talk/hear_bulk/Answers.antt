@@ -1,5 +1,5 @@
 use Rattle.std.proofs.Common.{rules, [], append-nil, append_assoc, sym, ap, ◌∙◌, ◌++◌, refl, ℕ, List}
-use Rattle.redis_shelf.proofs.Talks.{heard_none, more_heard}
+use Rattle.redis_store.proofs.Talks.{heard_none, more_heard}
 use Rattle.redis_store.proofs.talk.hear_bulk.Goals as goal
 
 pub loop-init : goal.loop-init

@@ -2,7 +2,7 @@ use Rattle.std.proofs.Common.{ℕ, List, [], ◌∷◌, ◌++◌, ◌+◌, take,
 use Rattle.std.proofs.lemmas.Grind.{common_steps}
 use Rattle.resp.specs.declared.reply.Reply.{Reply}
 use Rattle.resp.specs.Spelled.{SpellsReply, SpellsAll}
-use Rattle.redis_shelf.proofs.Talks.{more_heard}
+use Rattle.redis_store.proofs.Talks.{more_heard}
 use Rattle.redis_store.proofs.Lists.{spelled_more, taken_more}
 use Rattle.redis_store.proofs.talk.hear_each.Goals as goal
 

@@ -1,6 +1,6 @@
 use Rattle.std.proofs.Common.{◌≡◌, ◌≤◌, length, take}
 use Rattle.resp.specs.Spelled.{SpellsReply, SpellsAll}
-use Rattle.redis_shelf.specs.Told.{with_heard}
+use Rattle.redis_store.specs.Exchanges.{with_heard}
 use Rattle.redis_store.proofs.talk.hear_each.Given as goal
 
 -- so many replies are spelled by what came up to the place

@@ -1,5 +1,5 @@
 use Rattle.std.proofs.Common.{◌≡◌, ◌++◌, ℕ, List}
-use Rattle.redis_shelf.specs.Told.{with_heard}
+use Rattle.redis_store.specs.Exchanges.{with_heard}
 use Rattle.redis_store.proofs.talk.next_reply.Given as goal
 
 -- what came is behind what had come

@@ -1,6 +1,6 @@
 use Rattle.std.proofs.Common.{◌++◌, take, ◌∙◌}
 use Rattle.resp.specs.Command.{line_end}
-use Rattle.redis_shelf.proofs.Talks.{told_begins, more_came, whole_bulk, cut_front}
+use Rattle.redis_store.proofs.Talks.{told_begins, more_came, whole_bulk, cut_front}
 use Rattle.redis_store.proofs.talk.talk_parts.Goals as goal
 
 pub loop-init : goal.loop-init

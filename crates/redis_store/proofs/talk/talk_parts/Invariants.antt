@@ -1,6 +1,6 @@
 use Rattle.std.proofs.Common.{◌≡◌}
 use Rattle.std.specs.List.{flat_map}
-use Rattle.redis_shelf.specs.Told.{with_exchange}
+use Rattle.redis_store.specs.Exchanges.{with_exchange}
 use Rattle.redis_store.proofs.talk.talk_parts.Given as goal
 
 -- the parts were told, and what came was read

@@ -1,7 +1,0 @@
-use Rattle.std.proofs.Common.{rules, append_assoc}
-use Rattle.redis_shelf.specs.Keys.{digits}
-use Rattle.redis_shelf.proofs.keys.digits_of.Goals as goal
-
-pub returns : goal.returns
-unfolding digits
-returns c = search (rules, append_assoc)

@@ -1,0 +1,37 @@
+//! A way to a server.
+ghost use Rattle.std.specs.Prelude.{◌≡◌, ◌≤◌, None, length, take, IfOk, OnOk};
+ghost use Rattle.std.specs.List.{flat_map};
+ghost use Rattle.redis_store.specs.Exchanges.{Talk, IsSilent, with_command, with_heard};
+
+use crate::fault::LinkFault;
+
+/// A way to a server, with at most one connection at a time.
+///
+/// A call that takes longer than the link allows fails. What is written begins an exchange, and what is read until the
+/// next is written belongs to it: the whole of it has its time, also where few bytes come at a time.
+pub trait Link {
+    /// The exchanges over the connection at hand, where they are known.
+    ghost talk: { Self → Talk } = { λ _. None };
+
+    /// Connects anew. A connection that was there is let go.
+    fn connect(&mut self) -> Result<(), LinkFault>
+        ensures { OnOk result (IsSilent (talk self.new)) };
+
+    /// Writes all the bytes of these parts, one behind the other. This begins one exchange, however many they are.
+    fn write_all(&mut self, parts: &[&[u8]]) -> Result<(), LinkFault>
+        ensures { OnOk result (talk self.new
+            ≡ with_command (talk self.old) (flat_map (λ part. part.now) parts.now)) };
+
+    /// Reads bytes to the front of `room`, and says how many. None is the end.
+    fn read(&mut self, room: &mut [u8]) -> Result<usize, LinkFault>
+        ensures bound { IfOk result (λ count. count ≤ length room.new) }
+        ensures heard { IfOk result (λ count.
+            talk self.new ≡ with_heard (talk self.old) (take count room.new)) };
+
+    /// Lets the connection go, where there is one.
+    fn close(&mut self);
+
+    /// How many seconds have passed since some moment.
+    fn seconds(&mut self) -> u64
+        ensures { talk self.new ≡ talk self.old };
+}
