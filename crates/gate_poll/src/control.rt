@@ -118,6 +118,8 @@ struct Caller {
     said: Vec<u8>,
     written: usize,
     opened: Instant,
+    /// Whether its socket was reported ready since its last turn.
+    is_ready: bool,
 }
 
 /// What a request is told, and whether serving is to stop.
@@ -127,12 +129,11 @@ struct Told {
     stops: bool,
 }
 
-/// The control connections by their ids, and those that are ready.
+/// The control connections by their ids.
 #[derive(Drop)]
 pub struct Desk {
     alloc: Global,
     callers: BTreeMap<u64, Caller>,
-    ready: Vec<u64>,
     scratch: Vec<u8>,
     /// Whether a request asked that serving stop.
     pub stops: bool,
@@ -153,6 +154,7 @@ impl Caller {
             said: Vec::new(alloc),
             written: 0,
             opened: now,
+            is_ready: true,
         })
     }
 
@@ -318,7 +320,6 @@ impl Desk {
         Ok(Desk {
             alloc,
             callers: BTreeMap::new(alloc),
-            ready: Vec::new(alloc),
             scratch: vec![in alloc; 0u8; SCRATCH]?,
             stops: false,
         })
@@ -333,15 +334,13 @@ impl Desk {
         if self.callers.len() >= MOST {
             drop(self.callers.pop_first());
         }
-        if self.callers.insert(id, caller).is_ok() {
-            self.is_ready(id);
-        }
+        let _ = self.callers.insert(id, caller);
     }
 
     /// A socket was reported ready.
     pub fn is_ready(&mut self, id: u64) {
-        if self.callers.contains_key(&id) {
-            let _ = self.ready.push(id);
+        if let Some(caller) = self.callers.get_mut(&id) {
+            caller.is_ready = true;
         }
     }
 
@@ -352,14 +351,25 @@ impl Desk {
         counts: &Counts,
         gateway: &Gateway<S>,
     ) {
-        for _ in 0..self.ready.len() {
-            if let Some(id) = self.ready.pop() {
-                self.turn(id, control, counts, gateway);
-            }
+        for _ in 0..MOST {
+            let Some(id) = self.ready_one() else {
+                return;
+            };
+            self.turn(id, control, counts, gateway);
         }
     }
 
-    /// One goes on.
+    /// One that is ready.
+    fn ready_one(&self) -> Option<u64> {
+        for (id, caller) in self.callers.iter() {
+            if caller.is_ready {
+                return Some(*id);
+            }
+        }
+        None
+    }
+
+    /// One goes on, and is ready no more until its socket is reported again.
     fn turn<S: Store, C: Control<S>>(
         &mut self,
         id: u64,
@@ -370,6 +380,7 @@ impl Desk {
         let Some(caller) = self.callers.get_mut(&id) else {
             return;
         };
+        caller.is_ready = false;
         let scratch = &mut self.scratch;
         if caller.turn(scratch, control, counts, gateway, &mut self.stops) == Goes::Over {
             let _ = self.callers.remove(&id);
