@@ -17,6 +17,9 @@ mod longest;
 /// Crashes, and gateways that are resumed after them.
 #[cfg(test)]
 mod restarting;
+/// A shelf that fails and has done its change, and a crash after later calls.
+#[cfg(test)]
+mod failed;
 
 /// Nothing: the tests are all that this crate has.
 fn main() {}

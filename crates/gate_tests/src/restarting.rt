@@ -4,11 +4,12 @@ use super::rows::holds;
 use gate_core::Gateway;
 use kept_store::KeptStore;
 use share_shelf::MemShelf;
+use share_store::Store;
 use std::alloc::Global;
 use std::test::Fail;
 
 /// The cap of 56 times the letter a, as another program gives it.
-const LETTERS_CAP: &[u8] =
+pub const LETTERS_CAP: &[u8] =
     b"URI:CHK:xciehu7wkhrkdhseyznarsl6n4:ro65en3n4zxwl3gfinnekkeqado3jxpde7tfaj3sr7als57h4qoa:3:10:56";
 
 type Kept = Gateway<KeptStore<MemShelf>>;
@@ -49,20 +50,25 @@ fn resumed(
     Ok(gateway)
 }
 
-/// Puts 56 times a letter, and gives the cap.
-fn put(alloc: Global, gateway: &mut Kept, letter: u8) -> Result<Vec<u8>, Fail> {
+/// The reply to a put of 56 times a letter.
+pub fn put_reply<S: Store>(gateway: &mut Gateway<S>, letter: u8) -> Result<Vec<u8>, Fail> {
     gateway.bytes(
         1,
         b"PUT /uri HTTP/1.1\r\nHost: g\r\nContent-Length: 56\r\n\r\n",
     )?;
     gateway.bytes(1, &[letter; 56])?;
-    let reply = gateway.take(1, 1_000)?;
+    Ok(gateway.take(1, 1_000)?)
+}
+
+/// Puts 56 times a letter, and gives the cap.
+pub fn put<S: Store>(alloc: Global, gateway: &mut Gateway<S>, letter: u8) -> Result<Vec<u8>, Fail> {
+    let reply = put_reply(gateway, letter)?;
     let (_head, cap) = reply.split_at(reply.len().saturating_sub(95));
     Ok(cap.to_vec(alloc)?)
 }
 
 /// Whether the cap gives 56 times a letter, or else is gone.
-fn is_given(gateway: &mut Kept, cap: &[u8], letter: u8) -> Result<bool, Fail> {
+pub fn is_given<S: Store>(gateway: &mut Gateway<S>, cap: &[u8], letter: u8) -> Result<bool, Fail> {
     gateway.bytes(1, b"GET /uri/")?;
     gateway.bytes(1, cap)?;
     gateway.bytes(1, b" HTTP/1.1\r\nHost: g\r\n\r\n")?;

@@ -581,6 +581,9 @@ impl<H: Shelf> Store for ShelfStore<H> {
         ensures found { IsTrue (H.honest self.old.shelf) → self.new.failures ≡ self.old.failures →
             IfOk result (λ bytes. option_map rc_slice_items bytes
             ≡ map.get (⟦<ShelfStore<H> as Store>⟧.shares self.old) (index, number)) }
+        ensures sized { IfOk result (λ bytes. IfSome bytes (λ b.
+            map.get (known self.old.index) (index, number)
+            ≡ Some (blank (length (rc_slice_items b))))) }
         ensures absent { map.get (known self.old.index) (index, number) ≡ None →
             (result ≡ Ok None) × (self.new ≡ self.old) }
         ensures counts { H.failures self.old.shelf < H.failures self.new.shelf →
