@@ -1,9 +1,11 @@
 //! What the program is asked for.
-ghost use Rattle.std.specs.Prelude.{◌≡◌, ◌≢◌, ℕ, [], List, None, Some, All, IfOk, IfSome, Err, IsTrue, IsFalse, codes, length, map, not, option_map, replicate, unwrap_or};
+ghost use Rattle.std.specs.Prelude.{◌≡◌, ◌≢◌, ◌<◌, ◌^◌, ℕ, [], List, None, Some, All, IfOk, IfSome, Err, IsTrue, IsFalse, codes, count_by, length, map, not, option_map, replicate, unwrap_or};
 ghost use Rattle.octets.specs.Sharing.{IsSharing};
 ghost use Rattle.server_options.specs.Given.{given_text, given_texts, IsFlagGiven, IsNumberGiven};
 ghost use Rattle.server_options.specs.Folders.{folder_of, IsStoreFolder};
+ghost use Rattle.server_options.specs.Handles.{keeps_handle};
 ghost use Rattle.server_options.specs.Logging.{named_level, named_format};
+ghost use Rattle.server_options.specs.Shares.{IsCountOf, IsPairOf};
 ghost use Rattle.server_options.specs.Size.{written_size};
 ghost use Rattle.server_options.specs.declared.store_names.StoreWanted.TheVariants.{Memory};
 
@@ -63,7 +65,9 @@ pub struct Options<'a> {
 
 impl Options<'_> {
     /// How many of the stores keep a file or a socket open.
-    pub fn with_handles(&self) -> usize {
+    pub fn with_handles(&self) -> usize
+        ensures { result ≡ count_by keeps_handle self.now.stores.items }
+    {
         self.stores
             .iter()
             .filter(|store| store.keeps_handle())
@@ -162,6 +166,11 @@ fn config_of<'a>(given: &ArgMatches<'a>) -> Option<&'a str>
 /// Reads what was given with `serve`.
 fn read_options<'a>(alloc: Global, given: &ArgMatches<'a>) -> Result<Options<'a>, Refusal>
     ensures shares { IfOk result (λ o. IsSharing o.shares.needed o.shares.made) }
+    ensures shares_given { IfOk result (λ o.
+        IsPairOf (unwrap_or (given_text given.now (codes "shares")) [])
+        o.shares.needed o.shares.made) }
+    ensures no_shares { ((k n : ℕ) → IsPairOf (unwrap_or (given_text given.now (codes "shares")) [])
+        k n → ¬ (IsSharing k n)) → result ≡ Err Refusal.Shares }
     ensures listen { IfOk result (λ o.
         o.listen.now ≡ unwrap_or (given_text given.now (codes "listen")) []) }
     ensures new { IfOk result (λ o. map (λ path. path.now) o.new.items
@@ -213,6 +222,11 @@ fn read_options<'a>(alloc: Global, given: &ArgMatches<'a>) -> Result<Options<'a>
 /// Reads what was given with `restore`.
 fn read_restoring<'a>(alloc: Global, given: &ArgMatches<'a>) -> Result<Restoring<'a>, Refusal>
     ensures shares { IfOk result (λ o. IsSharing o.shares.needed o.shares.made) }
+    ensures shares_given { IfOk result (λ o.
+        IsPairOf (unwrap_or (given_text given.now (codes "shares")) [])
+        o.shares.needed o.shares.made) }
+    ensures no_shares { ((k n : ℕ) → IsPairOf (unwrap_or (given_text given.now (codes "shares")) [])
+        k n → ¬ (IsSharing k n)) → result ≡ Err Refusal.Shares }
     ensures file { IfOk result (λ o.
         o.file.now ≡ unwrap_or (given_text given.now (codes "file")) []) }
     ensures synced { IfOk result (λ o.
@@ -379,14 +393,33 @@ fn are_apart(stores: &[StoreWanted<'_>]) -> bool {
 
 /// Two numbers with a comma between them, which say how many of a file's shares give it back, and how many are made.
 fn read_shares(text: &str) -> Option<Shares>
-    ensures { IfSome result (λ shares. IsSharing shares.needed shares.made) }
+    ensures sharing { IfSome result (λ shares. IsSharing shares.needed shares.made) }
+    ensures pair { IfSome result (λ shares. IsPairOf text.now shares.needed shares.made) }
+    ensures none { result ≡ None → (k n : ℕ) → IsPairOf text.now k n → ¬ (IsSharing k n) }
 {
-    let (needed, made) = text.split_once(',')?;
-    let needed = needed.parse::<u16>().ok()?;
-    let made = made.parse::<u16>().ok()?;
+    let Some((front, back)) = text.split_once(',') else {
+        return None;
+    };
+    let Some(needed) = read_count(front) else {
+        return None;
+    };
+    let Some(made) = read_count(back) else {
+        return None;
+    };
     if is_sharing(needed, made) {
         Some(Shares { needed, made })
     } else {
         None
+    }
+}
+
+/// A number in decimal, behind a plus or none.
+fn read_count(text: &str) -> Option<u16>
+    ensures some { IfSome result (IsCountOf text.now) }
+    ensures none { result ≡ None → (n : ℕ) → n < 2 ^ 16 → ¬ (IsCountOf text.now n) }
+{
+    match text.parse::<u16>() {
+        Ok(count) => Some(count),
+        Err(_) => None,
     }
 }

@@ -1,6 +1,7 @@
 //! Stores and their names.
 ghost use Rattle.std.specs.Prelude.{◌≡◌, ◌↔◌, IsTrue, Some, option_map};
 ghost use Rattle.server_options.specs.Folders.{folder_of};
+ghost use Rattle.server_options.specs.Handles.{keeps_handle};
 
 use crate::sizes::read_size;
 
@@ -58,7 +59,9 @@ impl<'a> StoreWanted<'a> {
     }
 
     /// Whether it keeps a file or a socket open: the lock of its folder, or its connection.
-    pub fn keeps_handle(&self) -> bool {
+    pub fn keeps_handle(&self) -> bool
+        ensures { result ≡ keeps_handle self.now }
+    {
         match self {
             StoreWanted::Memory(_) => false,
             _ => true,

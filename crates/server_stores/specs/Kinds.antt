@@ -1,4 +1,5 @@
 -- Where a server has its shares.
+use Rattle.std.specs.Prelude.{◌≡◌, ℕ, suc, List, [], ◌∷◌, ◌++◌}
 use Rattle.server_options.specs.declared.store_names.RedisPlace.{RedisPlace}
 use Rattle.server_options.specs.declared.store_names.StoreWanted.{StoreWanted}
 use Rattle.server_options.specs.declared.store_names.StoreWanted.TheVariants.{Memory, Folder, Disk, Redis}
@@ -28,3 +29,14 @@ IsOfKind (Memory room) store IsOpened = IsInMemory store
 IsOfKind (Folder path room) store IsOpened = IsInFolder store
 IsOfKind (Disk path room) store IsOpened = IsOnDisk store
 IsOfKind (Redis place room) store IsOpened = IsOnRedis store (IsOpened place)
+
+-- A store for each that is wanted, and no more, in their order: each of its kind, and on a Redis server as it is opened for
+-- that place by the server of this number, counted from `server` on.
+abbrev pub AreOfKinds : {M F D N : Type 0} → ℕ → List StoreWanted → List (EitherStore M (EitherStore F (EitherStore D N))) → (ℕ → RedisPlace → N → Type 0) → Type 0
+AreOfKinds server [] stores IsOpened = stores ≡ []
+AreOfKinds server (one ∷ wanted) [] IsOpened = ⊥
+AreOfKinds server (one ∷ wanted) (store ∷ stores) IsOpened = IsOfKind one store (IsOpened server) × AreOfKinds (suc server) wanted stores IsOpened
+
+-- behind the others one more, of which something holds
+abbrev pub IsOneMore : {S : Type 0} → List S → List S → (S → Type 0) → Type 0
+IsOneMore {S} before after Holds = (one : S) × ((after ≡ before ++ one ∷ []) × Holds one)

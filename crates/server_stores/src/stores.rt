@@ -1,7 +1,7 @@
 //! The stores of the gateway.
-ghost use Rattle.std.specs.Prelude.{◌≡◌, IfOk};
+ghost use Rattle.std.specs.Prelude.{◌≡◌, ℕ, List, Option, IfOk, OnOk};
 ghost use Rattle.std.specs.Option.{option_map};
-ghost use Rattle.server_stores.specs.Kinds.{IsOfKind, IsOnRedis};
+ghost use Rattle.server_stores.specs.Kinds.{AreOfKinds, IsOfKind, IsOneMore, IsOnRedis};
 ghost use Rattle.server_stores.specs.Opened.{IsOpenedAs};
 
 use crate::either_store::EitherStore;
@@ -24,24 +24,34 @@ pub type ServerStore<R> = EitherStore<
     EitherStore<FolderStore<R>, EitherStore<DiskStore<R>, OnRedis<R>>>,
 >;
 
-/// The stores that are wanted, opened in their order: the settings are those of the grid's first server. Each folder
-/// is looked at before one is opened, so that none is begun where another is refused, or by mistake.
+/// The stores that are wanted, one for each, opened in their order: the settings are those of the grid's first server.
+/// Each folder is looked at before one is opened, so that none is begun where another is refused, or by mistake.
+/// `Stores` where they are more than servers can be numbered.
 pub fn open_stores<R: Files<File = File> + AllocGlobal + Net + Clock + Clone + Drop + Log + Eprint>(
     rt: &R,
     options: &Options<'_>,
     first: &Settings,
-) -> Result<Vec<ServerStore<R>>, ProgramFault> {
+) -> Result<Vec<ServerStore<R>>, ProgramFault>
+    ensures { IfOk result (λ stores. (password : Option (List ℕ))
+        × AreOfKinds 0 options.now.stores.items stores.items (λ server place on_redis. IsOpenedAs
+        place.name.now (record first.now { place = server }) password
+        on_redis.grid on_redis.longest on_redis.connection.first)) }
+{
     let seen = look_at_each(rt, options, first)?;
     refuse_mistakes(rt, &seen)?;
     look_for_twins(rt, &options.stores)?;
     log_new(rt, &seen);
     let password = read_password(rt, options.redis_password_file)?;
+    let said = password.as_deref();
     let mut stores = Vec::with_capacity(rt.alloc(), options.stores.len())?;
-    for (place, wanted) in (0..first.servers).zip(&options.stores) {
+    for wanted in &options.stores {
+        let Ok(place) = u16::try_from(stores.len()) else {
+            return Err(ProgramFault::Stores);
+        };
         let asked = Asked {
             settings: Settings { place, ..*first },
             synced: options.synced,
-            password: password.as_deref(),
+            password: said,
         };
         open_behind(rt, wanted, &asked, &mut stores)?;
     }
@@ -54,7 +64,12 @@ fn open_behind<R: Files<File = File> + AllocGlobal + Net + Clock + Clone + Drop 
     wanted: &StoreWanted<'_>,
     asked: &Asked<'_>,
     stores: &mut Vec<ServerStore<R>>,
-) -> Result<(), ProgramFault> {
+) -> Result<(), ProgramFault>
+    ensures { OnOk result (IsOneMore stores.old.items stores.new.items (λ store.
+        IsOfKind wanted.now store (λ place on_redis. IsOpenedAs
+        place.name.now asked.now.settings (option_map (λ password. password.now) asked.now.password)
+        on_redis.grid on_redis.longest on_redis.connection.first))) }
+{
     match open_wanted(rt, wanted, asked) {
         Ok(store) => Ok(stores.push(store)?),
         Err(fault) => Err(fault),

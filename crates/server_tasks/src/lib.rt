@@ -2,7 +2,8 @@
 //! servers keep shares.
 #![tactic(auto)]
 
-ghost use Rattle.std.specs.Prelude.{◌≡◌, ◌<◌, ◌≤◌, ℕ, [], length, vec_len, is_some, false, Err, IfOk, IfSome, IsOkUnless};
+ghost use Rattle.std.specs.Prelude.{◌≡◌, ◌*◌, ◌<◌, ◌≤◌, ℕ, [], length, vec_len, is_some, false, Some, None, Err, IfOk, IfSome, IsOkUnless};
+ghost use Rattle.std.specs.Duration.{as_nanos};
 ghost use Rattle.std.specs.FinMap as map;
 ghost use Rattle.grid.specs.GridState.{states};
 ghost use Rattle.gate_core.specs.Held.{AreParameters};
@@ -12,22 +13,27 @@ ghost use Rattle.gate_core.specs.Tallies.{nothing_counted};
 mod log_lines;
 /// The file of options.
 mod option_words;
+/// The gateway's secret.
+mod secret;
 /// What the loop of connections runs with.
 mod serving_runtime;
+/// What stores are opened with.
+mod store_runtime;
 
-use crate::log_lines::{LogLines, filter_of};
+use crate::log_lines::log_of;
 use crate::option_words::{name_file, words_of_file};
+use crate::secret::Secret;
 use crate::serving_runtime::ServingRuntime;
+use crate::store_runtime::StoreRuntime;
 use folder_shelf::Settings;
 use gate_core::{Gateway, GatewayFault};
 use gate_flow::Lobby;
 use gate_poll::{Limits, ServeFault, serve_on};
 use libc::net::{SO_SNDBUF, SOL_SOCKET, setsockopt};
-use log::{Log, Logged, info};
+use log::{Log, info};
 use mio::net::TcpListener;
 use server_board::Board;
 use server_options::{Options, Refusal, Shares, Task, read_words};
-use server_stores::small_files::read_at_most;
 use server_stores::{ProgramFault, ServerStore, check, handles, open_stores, restore, write_image};
 use share_store::Store;
 use std::alloc::Global;
@@ -38,9 +44,6 @@ use std::net::{Net, SocketAddr, ToSocketAddrs};
 use std::os::fd::AsRawFd;
 use std::rt::{Env, Files};
 use std::time::{Clock, CpuClock, Duration};
-
-/// How many bytes a secret may have.
-const MOST_SECRET: usize = 256;
 
 /// How many bytes of replies the system may buffer of a connection; Linux takes twice that for its own records too.
 const BUFFERED: i32 = 131_072;
@@ -68,8 +71,8 @@ pub fn run<
         Ok(Task::Check(folders)) => check(rt, &folders),
         Ok(Task::Image(folders)) => write_image(rt, &folders),
         Ok(Task::Restore(wanted)) => {
-            let secret = read_secret(rt, wanted.secret_file)?;
-            restore(rt, &wanted, &secret)
+            let secret = Secret::read(rt, wanted.secret_file)?;
+            restore(rt, &wanted, secret.bytes())
         }
         Err(refusal) => {
             if words.len() > typed {
@@ -133,9 +136,9 @@ fn serve<
     if let Some(fault) = few {
         return Err(fault);
     }
-    let lines = LogLines::new(rt.clone()?, options.log_format);
-    let told = &Logged::new(rt.clone()?, filter_of(options.log_level), lines);
-    let mut lobby = Lobby::new(open_gateway(told, options)?);
+    let told = &log_of(rt, options)?;
+    let opening = &StoreRuntime::new(rt.clone()?, told.clone()?);
+    let mut lobby = Lobby::new(open_gateway(opening, options)?);
     let listeners = listen_for(rt, options)?;
     let serving = &ServingRuntime::new(rt, told);
     serve_with(serving, options, listeners, &mut lobby)
@@ -205,7 +208,7 @@ fn serve_with<R: AllocGlobal + Clock + CpuClock + Net + Log, S: Store>(
         control,
     } = listeners;
     info!(serving; "started: at most {} connections", options.connections);
-    let limits = Limits::new(options.connections, Duration::from_secs(options.idle));
+    let limits = limits_of(options);
     match serve_on(serving, connections, control, &limits, lobby, &mut Board) {
         Ok(counts) => {
             info!(serving; "stopped: {} connections were opened", counts.opened);
@@ -216,19 +219,56 @@ fn serve_with<R: AllocGlobal + Clock + CpuClock + Net + Log, S: Store>(
     }
 }
 
+/// What is allowed to connections: as many may be open, and silent for as long, as is asked for.
+fn limits_of(options: &Options<'_>) -> Limits
+    ensures most { result.most ≡ options.now.connections }
+    ensures idle { as_nanos result.idle ≡ options.now.idle * 1_000_000_000 }
+    ensures endless { result.served ≡ None }
+{
+    Limits::new(options.connections, Duration::from_secs(options.idle))
+}
+
 /// A gateway over the stores that are wanted, with the secret that its file has.
 fn open_gateway<R: AllocGlobal + Files<File = File> + Net + Clock + Clone + Drop + Log + Eprint>(
     rt: &R,
     options: &Options<'_>,
-) -> Result<Gateway<ServerStore<R>>, ProgramFault> {
-    let secret = read_secret(rt, options.secret_file)?;
+) -> Result<Gateway<ServerStore<R>>, ProgramFault>
+    ensures needed { IfOk result (λ gateway. gateway.settings.k ≡ options.now.shares.needed) }
+    ensures made { IfOk result (λ gateway. gateway.settings.n ≡ options.now.shares.made) }
+    ensures servers { IfOk result (λ gateway.
+        gateway.settings.servers ≡ vec_len options.now.stores) }
+    ensures none { is_some options.now.secret_file ≡ false →
+        IfOk result (λ gateway. gateway.settings.secret ≡ []) }
+{
+    match Secret::read(rt, options.secret_file) {
+        Ok(secret) => open_under(rt, options, &secret),
+        Err(fault) => Err(fault),
+    }
+}
+
+/// The same with a secret, which is that of the file that is asked for.
+fn open_under<R: AllocGlobal + Files<File = File> + Net + Clock + Clone + Drop + Log + Eprint>(
+    rt: &R,
+    options: &Options<'_>,
+    secret: &Secret<'_>,
+) -> Result<Gateway<ServerStore<R>>, ProgramFault>
+    requires { secret.now.file ≡ options.now.secret_file }
+    ensures needed { IfOk result (λ gateway. gateway.settings.k ≡ options.now.shares.needed) }
+    ensures made { IfOk result (λ gateway. gateway.settings.n ≡ options.now.shares.made) }
+    ensures secret { IfOk result (λ gateway. gateway.settings.secret ≡ secret.now.bytes.items) }
+    ensures servers { IfOk result (λ gateway.
+        gateway.settings.servers ≡ vec_len options.now.stores) }
+{
     let Ok(servers) = u16::try_from(options.stores.len()) else {
         return Err(ProgramFault::Stores);
     };
     let Shares { needed, made } = options.shares;
-    let first = Settings::new(0, servers, needed, made, &secret);
+    let first = Settings::new(0, servers, needed, made, secret.bytes());
     let stores = open_stores(rt, options, &first)?;
-    gateway_over(rt.alloc(), options.shares, stores, &secret)
+    if stores.len() != options.stores.len() {
+        return Err(ProgramFault::Stores);
+    }
+    gateway_over(rt.alloc(), options.shares, stores, secret.bytes())
 }
 
 /// A gateway over these stores, of which nothing was called yet. `Shares` exactly where the numbers of shares, of stores
@@ -262,23 +302,6 @@ fn gateway_over<S: Store + Drop>(
     }
 }
 
-/// The bytes of a secret's file, and none where there is no such file.
-fn read_secret<R: AllocGlobal + Files>(rt: &R, path: Option<&str>) -> Result<Vec<u8>, ProgramFault>
-    ensures none { is_some path.entry ≡ false → IfOk result (λ secret. secret.items ≡ []) }
-    ensures fits { IfOk result (λ secret. length secret.items ≤ 256) }
-{
-    let Some(path) = path else {
-        return Ok(Vec::new(rt.alloc()));
-    };
-    let Ok(secret) = read_at_most(rt, path, MOST_SECRET) else {
-        return Err(ProgramFault::SecretUnread);
-    };
-    if secret.len() > MOST_SECRET {
-        return Err(ProgramFault::SecretTooLong);
-    }
-    Ok(secret)
-}
-
 /// The fault that there are fewer handles than connections, locks of folders and connections to Redis servers need, if
 /// the system says so.
 fn few_handles<R: AllocGlobal + Files>(rt: &R, options: &Options<'_>) -> Option<ProgramFault>
@@ -287,6 +310,14 @@ fn few_handles<R: AllocGlobal + Files>(rt: &R, options: &Options<'_>) -> Option<
 {
     let needed = handles::needed_for(options.connections, options.with_handles());
     let allowed = handles::allowed(rt)?;
+    judge_handles(allowed, needed)
+}
+
+/// The fault that so many handles are allowed where so many are needed, if these are more.
+fn judge_handles(allowed: u64, needed: u64) -> Option<ProgramFault>
+    ensures few { allowed < needed → result ≡ Some (ProgramFault.FewHandles allowed needed) }
+    ensures enough { needed ≤ allowed → result ≡ None }
+{
     if allowed < needed {
         Some(ProgramFault::FewHandles(allowed, needed))
     } else {

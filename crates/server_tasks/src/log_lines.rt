@@ -1,16 +1,33 @@
 //! How the log is written: a line an event, on standard error.
-ghost use Rattle.std.specs.Prelude.{true, [], Some};
+ghost use Rattle.std.specs.Prelude.{◌≡◌, true, [], Some, IfOk};
+ghost use Rattle.log.specs.Handle.{max_level, sink};
+ghost use Rattle.server_tasks.specs.Filters.{filter_of};
 
 use log::kv::Source;
 use log::span::Spans;
-use log::{Level, LevelFilter, Line, Log, Metadata, Record};
-use server_options::{LogFormat, LogLevel};
+use log::{Level, LevelFilter, Line, Log, Logged, Metadata, Record};
+use server_options::{LogFormat, LogLevel, Options};
+use std::alloc::AllocError;
 use std::fmt;
 use std::fmt::{Display, Formatter, Write};
 use std::time::Clock;
 
+/// The log that is asked for: lines of its level and of graver ones, in its format.
+pub fn log_of<R: Clone + Drop>(
+    rt: &R,
+    options: &Options<'_>,
+) -> Result<Logged<R, LogLines<R>>, AllocError>
+    ensures level { IfOk result (λ log. max_level log ≡ filter_of options.now.log_level) }
+    ensures format { IfOk result (λ log. (sink log).format ≡ options.now.log_format) }
+{
+    let lines = LogLines::new(rt.clone()?, options.log_format);
+    Ok(Logged::new(rt.clone()?, filter_of(options.log_level), lines))
+}
+
 /// Which levels are written.
-pub fn filter_of(level: LogLevel) -> LevelFilter {
+fn filter_of(level: LogLevel) -> LevelFilter
+    ensures { result ≡ filter_of level }
+{
     match level {
         LogLevel::Error => LevelFilter::Error,
         LogLevel::Warn => LevelFilter::Warn,
@@ -28,7 +45,9 @@ pub struct LogLines<R> {
 
 impl<R> LogLines<R> {
     /// Lines of this format.
-    pub fn new(rt: R, format: LogFormat) -> LogLines<R> {
+    fn new(rt: R, format: LogFormat) -> LogLines<R>
+        ensures { result.format ≡ format }
+    {
         LogLines { rt, format }
     }
 }

@@ -1,4 +1,8 @@
 //! The file of options.
+ghost use Rattle.std.specs.Prelude.{◌≡◌, ◌≤◌, length, map, string_bytes, Some, Ok, IfOk, OnOk, option_map};
+ghost use Rattle.toml.specs.Parse.{parse_document};
+ghost use Rattle.option_file.specs.Words.{table_words};
+
 use option_file::{OptionFault, file_words};
 use server_options::{Refusal, read_config};
 use server_stores::ProgramFault;
@@ -39,11 +43,27 @@ fn words_in<R: Eprint + AllocGlobal + Files<File = File>>(
         let _ = eprintln!(rt; "wozhinnam: {path}: the file of options can't be read");
         return Err(ProgramFault::OptionsUnread);
     };
+    words_of_bytes(rt, path, &bytes, words)
+}
+
+/// The words that a file of options with these bytes stands for beside those of the command line, and else told what is
+/// wrong with it, under its path.
+fn words_of_bytes<R: Eprint + AllocGlobal>(
+    rt: &R,
+    path: &str,
+    bytes: &[u8],
+    words: &[String],
+) -> Result<Vec<String>, ProgramFault>
+    ensures words { IfOk result (λ more.
+        option_map (table_words (map string_bytes words.now)) (parse_document bytes.now)
+        ≡ Some (Ok (map string_bytes more.items))) }
+    ensures limit { OnOk result (length bytes.now ≤ 1_048_576) }
+{
     if bytes.len() > MOST_OPTIONS {
         let _ = eprintln!(rt; "wozhinnam: {path}: it has more than {MOST_OPTIONS} bytes");
         return Err(ProgramFault::Options);
     }
-    let Ok(text) = str::from_utf8(&bytes) else {
+    let Ok(text) = str::from_utf8(bytes) else {
         let _ = eprintln!(rt; "wozhinnam: {path}: it is no UTF-8");
         return Err(ProgramFault::Options);
     };

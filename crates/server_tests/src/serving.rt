@@ -8,8 +8,8 @@ use gate_poll::Counts;
 use server_board::figures::StoreFigures;
 use server_board::{Asked, Method, asked_by, metrics_text, status_text};
 use server_options::{
-    LogFormat, LogLevel, Options, RedisPlace, Shares, StoreWanted, Task, read_config, read_size,
-    read_store, read_words,
+    LogFormat, LogLevel, Options, RedisPlace, Restoring, Shares, StoreWanted, Task, read_config,
+    read_size, read_store, read_words,
 };
 use server_stores::difference::Difference;
 use server_stores::folders::{Found, Opening, look, open_folder, open_on_disk};
@@ -86,6 +86,14 @@ fn served_with(alloc: Global, words: &[String]) -> Result<Options<'_>, Fail> {
     }
 }
 
+/// What `restore` is asked for.
+fn restored_with(alloc: Global, words: &[String]) -> Result<Restoring<'_>, Fail> {
+    match read_words(alloc, words) {
+        Ok(Task::Restore(wanted)) => Ok(wanted),
+        _ => Err(Fail::from("no image to restore")),
+    }
+}
+
 #[test]
 fn each_text_that_is_given_is_taken(rt: HostRuntime) -> Result<(), Fail> {
     for value in ["127.0.0.1:1", "[::1]:2"] {
@@ -121,10 +129,31 @@ fn each_number_that_is_given_is_taken(rt: HostRuntime) -> Result<(), Fail> {
         served_with(rt.alloc(), &words)?.stores.as_slice(),
         [StoreWanted::Memory(3_145_728); 2].as_slice()
     );
-    let words = words_of(rt.alloc(), &["serve", "--shares", "2,5", "--no-sync"])?;
-    let options = served_with(rt.alloc(), &words)?;
-    assert_eq!(rt; options.shares, Shares { needed: 2, made: 5 });
-    assert!(rt; !options.synced);
+    let words = words_of(rt.alloc(), &["serve", "--no-sync"])?;
+    assert!(rt; !served_with(rt.alloc(), &words)?.synced);
+    Ok(())
+}
+
+#[test]
+fn the_shares_that_are_given_are_taken(rt: HostRuntime) -> Result<(), Fail> {
+    for (text, needed, made) in [("2,5", 2, 5), ("1,256", 1, 256), ("+7,07", 7, 7)] {
+        let shares = Shares { needed, made };
+        let words = words_of(rt.alloc(), &["serve", "--shares", text])?;
+        assert_eq!(rt; served_with(rt.alloc(), &words)?.shares, shares);
+        let words = words_of(rt.alloc(), &["restore", "--shares", text, "image", "/a"])?;
+        assert_eq!(rt; restored_with(rt.alloc(), &words)?.shares, shares);
+    }
+    Ok(())
+}
+
+#[test]
+fn what_is_restored_is_synced_unless_it_is_not_to_be(rt: HostRuntime) -> Result<(), Fail> {
+    let words = words_of(rt.alloc(), &["restore", "image", "/a"])?;
+    let wanted = restored_with(rt.alloc(), &words)?;
+    assert!(rt; wanted.synced);
+    assert!(rt; wanted.secret_file.is_none());
+    let words = words_of(rt.alloc(), &["restore", "--no-sync", "image", "/a"])?;
+    assert!(rt; !restored_with(rt.alloc(), &words)?.synced);
     Ok(())
 }
 
@@ -196,9 +225,7 @@ fn each_verb_is_its_task(rt: HostRuntime) -> Result<(), Fail> {
             "/b",
         ],
     )?;
-    let Ok(Task::Restore(wanted)) = read_words(rt.alloc(), &words) else {
-        return Err(Fail::from("no image to restore"));
-    };
+    let wanted = restored_with(rt.alloc(), &words)?;
     assert!(rt; wanted.file == "image");
     assert_eq!(rt; wanted.folders.as_slice(), ["/a", "/b"].as_slice());
     assert!(rt; wanted.secret_file == Some("s"));

@@ -1,0 +1,3 @@
+-- Replies cites Asked.
+pub mod Asked
+pub mod Replies
