@@ -1,6 +1,8 @@
--- What a client makes of the answer to a read.
+-- What a client makes of the answer to a read, and to a put.
 use Rattle.std.specs.Prelude.{◌≡◌, ℕ, List, Result, Ok, Err}
 use Rattle.caps.specs.Fields.{ReadValue}
+use Rattle.caps.specs.declared.cap.Cap.{Cap}
+use Rattle.caps.specs.CapTexts.{IsCapText}
 use Rattle.cap_binding.specs.Binds.{Binds}
 use Rattle.client_core.specs.declared.exchange.Answer.{Answer}
 use Rattle.client_core.specs.declared.exchange.LinkFault.{LinkFault}
@@ -14,3 +16,8 @@ IsBoundAnswer f (Err fault) bytes = ⊥
 abbrev pub IsUnboundAnswer : ReadValue → Result Answer LinkFault → Type 0
 IsUnboundAnswer f (Ok answer) = answer.status ≡ 200 → Binds f answer.body → ⊥
 IsUnboundAnswer f (Err fault) = Unit {0}
+
+-- it carries out the put, and names this cap
+abbrev pub IsNamedAnswer : Result Answer LinkFault → Cap → Type 0
+IsNamedAnswer (Ok answer) cap = (answer.status ≡ 200) × IsCapText cap answer.body
+IsNamedAnswer (Err fault) cap = ⊥

@@ -18,6 +18,15 @@ use std::alloc::Global;
 /// The status of what was carried out.
 const OK: u16 = 200;
 
+/// The most bytes that are taken of what is stored, whatever a cap says: four times as many as a gateway takes in a body,
+/// since a directory's text may be longer than the JSON of which it is made.
+const MOST_STORED: u64 = 67_108_864;
+
+/// The most bytes that are taken of what is stored under these fields.
+pub(crate) fn most_of(fields: &ReadFields) -> u64 {
+    fields.size.min(MOST_STORED)
+}
+
 /// The body of an answer that carries out what was asked for.
 pub(crate) fn body_of(answer: Answer) -> Result<Vec<u8>, ClientFault>
     ensures given { IfOk result (λ bytes. bytes.items ≡ answer.body) }
@@ -36,7 +45,7 @@ pub(crate) fn body_of(answer: Answer) -> Result<Vec<u8>, ClientFault>
 /// The bytes that are stored under these fields, a file's or a directory's text.
 ///
 /// Whatever the gateway answers, they are those that the fields bind, or the call is refused: with
-/// [`ClientFault::NotBound`] where others came.
+/// [`ClientFault::NotBound`] where others came, and by the link where more than 67,108,864 came.
 pub fn fetch_stored<E: Exchange>(
     alloc: Global,
     gateway: &mut E,
@@ -48,7 +57,7 @@ pub fn fetch_stored<E: Exchange>(
         (λ fault. fault ≢ ClientFault.NoMemory → IsUnboundAnswer fields.now r) }
 {
     let ask = Ask::Read(*fields);
-    let answer = gateway.ask(&ask, &[], fields.size)?;
+    let answer = gateway.ask(&ask, &[], most_of(fields))?;
     let bytes = body_of(answer)?;
     match bound(alloc, fields, bytes)? {
         Some(bytes) => Ok(bytes),

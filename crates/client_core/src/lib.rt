@@ -14,9 +14,12 @@ mod fetch;
 mod walker;
 /// Storing files and directories.
 mod store;
+/// Several requests at once.
+mod ahead;
 /// What holds of walks.
 pub mod laws;
 
+pub use ahead::{begin_fetch, begin_put, fetch_begun, lane_at, put_begun, stored_begun};
 pub use exchange::{Answer, Exchange, LinkFault};
 pub use fault::ClientFault;
 pub use fetch::{fetch_directory, fetch_file, fetch_stored, fetch_text};

@@ -16,7 +16,7 @@ use dir_codec::{Directory, encode};
 use std::alloc::Global;
 
 /// How many bytes a cap's text has, at most: that of a literal cap of 55 bytes and of a stored one are shorter.
-const MOST_OF_A_CAP: u64 = 256;
+pub(crate) const MOST_OF_A_CAP: u64 = 256;
 
 /// Stores bytes as a file, and gives its cap, and the bytes again.
 ///

@@ -10,6 +10,9 @@ mod link;
 mod reply;
 /// Connections that are opened again.
 mod redial;
+/// Several connections at once.
+mod lanes;
 
+pub use lanes::Lanes;
 pub use link::Link;
 pub use redial::{Dial, Redialing};

@@ -42,29 +42,91 @@ impl<'a, D: Dial + Drop> Redialing<'a, D> {
     pub fn dialer(&self) -> &D {
         &self.dial
     }
+
+    /// The connection, where no request is under way on it, or else a new one.
+    fn idle_link(&mut self) -> Result<Link<'a, D::Stream>, LinkFault> {
+        if let Some(link) = self.link.take() {
+            if !link.is_under_way() {
+                return Ok(link);
+            }
+        }
+        Ok(Link::new(self.alloc, self.host, self.dial.dial()?))
+    }
+
+    /// The answer to a request that is under way on a connection, which is kept then; or to the same on a new one.
+    fn wait(
+        &mut self,
+        link: Link<'a, D::Stream>,
+        ask: &Ask,
+        body: &[u8],
+        most: u64,
+    ) -> Result<Answer, LinkFault>
+        ensures { IfOk result (λ answer. length answer.body ≤ most) }
+    {
+        let mut link = link;
+        match link.finish(0, ask, body, most) {
+            Ok(answer) => {
+                self.link = Some(link);
+                Ok(answer)
+            }
+            Err(fault) => {
+                if fault == LinkFault::Broken && (link.is_kept() && link.is_silent()) {
+                    self.ask_anew(ask, body, most)
+                } else {
+                    Err(fault)
+                }
+            }
+        }
+    }
+
+    /// The answer to a request on a new connection.
+    fn ask_anew(&mut self, ask: &Ask, body: &[u8], most: u64) -> Result<Answer, LinkFault>
+        ensures { IfOk result (λ answer. length answer.body ≤ most) }
+    {
+        let mut link = Link::new(self.alloc, self.host, self.dial.dial()?);
+        let answer = link.ask(ask, body, most)?;
+        self.link = Some(link);
+        Ok(answer)
+    }
 }
 
 impl<D: Dial + Drop> Exchange for Redialing<'_, D> {
     fn ask(&mut self, ask: &Ask, body: &[u8], most: u64) -> Result<Answer, LinkFault>
         ensures { IfOk result (λ answer. length answer.body ≤ most) }
     {
-        if let Some(link) = self.link.take() {
+        let mut link = self.idle_link()?;
+        link.begin(0, ask, body);
+        self.wait(link, ask, body, most)
+    }
+
+    fn lanes(&self) -> usize {
+        1
+    }
+
+    fn begin(&mut self, _lane: usize, ask: &Ask, body: &[u8]) {
+        if let Ok(link) = self.idle_link() {
             let mut link = link;
-            match link.ask(ask, body, most) {
-                Ok(answer) => {
-                    self.link = Some(link);
-                    return Ok(answer);
-                }
-                Err(fault) => {
-                    if fault != LinkFault::Broken || !link.is_silent() {
-                        return Err(fault);
-                    }
-                }
-            }
+            link.begin(0, ask, body);
+            self.link = Some(link);
         }
-        let mut link = Link::new(self.alloc, self.host, self.dial.dial()?);
-        let answer = link.ask(ask, body, most)?;
-        self.link = Some(link);
-        Ok(answer)
+    }
+
+    fn finish(
+        &mut self,
+        _lane: usize,
+        ask: &Ask,
+        body: &[u8],
+        most: u64,
+    ) -> Result<Answer, LinkFault>
+        ensures { IfOk result (λ answer. length answer.body ≤ most) }
+    {
+        match self.link.take() {
+            Some(link) if link.has_begun(ask, body) => self.wait(link, ask, body, most),
+            Some(link) => {
+                self.link = Some(link);
+                self.ask(ask, body, most)
+            }
+            None => self.ask(ask, body, most),
+        }
     }
 }

@@ -33,11 +33,15 @@ IsVerb given verb Holds = (rows : List Row) × ((given ≡ Some (verb, rows)) ×
 
 -- a task is what a verb asks for
 abbrev pub IsTask : Option (List ℕ × List Row) → Task → Type 0
-IsTask given (Put what recursive) = IsVerb given (codes "put") (λ rows.
-    (what.now ≡ word_of (codes "what") rows) × (recursive ≡ is_set (codes "recursive") rows))
-IsTask given (Get node file recursive) = IsVerb given (codes "get") (λ rows.
+IsTask given (Put what recursive jobs state verified) = IsVerb given (codes "put") (λ rows.
+    (what.now ≡ word_of (codes "what") rows) × ((recursive ≡ is_set (codes "recursive") rows)
+    × ((option_map (λ s. s.now) jobs ≡ first_of (codes "jobs") rows)
+    × ((option_map (λ s. s.now) state ≡ first_of (codes "skip-existing") rows)
+    × (verified ≡ is_set (codes "verify") rows)))))
+IsTask given (Get node file recursive jobs) = IsVerb given (codes "get") (λ rows.
     IsNodeOf rows node × ((option_map (λ s. s.now) file ≡ first_of (codes "file") rows)
-    × (recursive ≡ is_set (codes "recursive") rows)))
+    × ((recursive ≡ is_set (codes "recursive") rows)
+    × (option_map (λ s. s.now) jobs ≡ first_of (codes "jobs") rows))))
 IsTask given (Ls node json) = IsVerb given (codes "ls") (λ rows.
     IsNodeOf rows node × (json ≡ is_set (codes "json") rows))
 IsTask given (Check node verify read recursive) = IsVerb given (codes "check") (λ rows.

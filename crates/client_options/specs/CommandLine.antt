@@ -19,6 +19,18 @@ flag name = record (new_rule name) { long = Some name; action = Some SetTrue }
 abbrev pub recursive : Rule
 recursive = record (flag (codes "recursive")) { short = Some 114 }
 
+-- how many connections there may be
+abbrev pub jobs : Rule
+jobs = valued (codes "jobs")
+
+-- the file that tells what was stored before
+abbrev pub skip_existing : Rule
+skip_existing = valued (codes "skip-existing")
+
+-- shares are verified, or files that were stored before
+abbrev pub verify : Rule
+verify = flag (codes "verify")
+
 -- a word by its place
 abbrev pub placed_rule : List ℕ → Rule
 placed_rule name = record (new_rule name) { value_names = 1 }
@@ -40,10 +52,10 @@ abbrev pub verb : List ℕ → List Rule → Shape
 verb name rules = record (new_shape name) { rules = rules }
 
 abbrev pub verb_shapes : List Shape
-verb_shapes = verb (codes "put") (recursive ∷ needed (codes "what") ∷ [])
-    ∷ verb (codes "get") (recursive ∷ node_rule ∷ placed_rule (codes "file") ∷ [])
+verb_shapes = verb (codes "put") (recursive ∷ jobs ∷ skip_existing ∷ verify ∷ needed (codes "what") ∷ [])
+    ∷ verb (codes "get") (recursive ∷ jobs ∷ node_rule ∷ placed_rule (codes "file") ∷ [])
     ∷ verb (codes "ls") (flag (codes "json") ∷ node_rule ∷ [])
-    ∷ verb (codes "check") (flag (codes "verify") ∷ flag (codes "read") ∷ recursive ∷ node_rule ∷ [])
+    ∷ verb (codes "check") (verify ∷ flag (codes "read") ∷ recursive ∷ node_rule ∷ [])
     ∷ verb (codes "repair") (recursive ∷ node_rule ∷ [])
     ∷ verb (codes "mkdir") (needed_all (codes "children") ∷ [])
     ∷ []

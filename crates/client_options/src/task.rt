@@ -38,12 +38,18 @@ pub enum Task<'a> {
     Put {
         what: &'a str,
         recursive: bool,
+        jobs: Option<&'a str>,
+        /// The file that tells what was stored before.
+        state: Option<&'a str>,
+        /// Whether what was stored before is held against its caps.
+        verified: bool,
     },
     /// To write what a cap is of.
     Get {
         node: Node<'a>,
         file: Option<&'a str>,
         recursive: bool,
+        jobs: Option<&'a str>,
     },
     /// To list a directory.
     List {
@@ -88,12 +94,16 @@ fn read_task<'a>(alloc: Global, matches: &ArgMatches<'a>) -> Result<Task<'a>, Al
         Ok(Task::Put {
             what: word_of(given, "what"),
             recursive: has_flag(given, "recursive"),
+            jobs: find_word(given, "jobs"),
+            state: find_word(given, "skip-existing"),
+            verified: has_flag(given, "verify"),
         })
     } else if let Some(given) = matches.subcommand_matches("get") {
         Ok(Task::Get {
             node: node_of(given),
             file: find_word(given, "file"),
             recursive: has_flag(given, "recursive"),
+            jobs: find_word(given, "jobs"),
         })
     } else if let Some(given) = matches.subcommand_matches("ls") {
         Ok(Task::List {

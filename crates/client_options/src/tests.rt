@@ -52,14 +52,24 @@ fn progress_is_told_but_for_quiet(rt: HostRuntime) -> Result<(), Fail> {
 fn a_put_has_its_file(rt: HostRuntime) -> Result<(), Fail> {
     for word in ["-r", "--recursive"] {
         let words = line(rt.alloc(), &["put", word, "papers"])?;
-        let Task::Put { what, recursive } = read(rt.alloc(), &words)?.task else {
+        let Task::Put {
+            what,
+            recursive,
+            ..
+        } = read(rt.alloc(), &words)?.task
+        else {
             return Err(Fail::from("no put"));
         };
         assert!(rt; what == "papers" && recursive);
     }
     for name in ["-", "notes.txt"] {
         let words = line(rt.alloc(), &["put", name])?;
-        let Task::Put { what, recursive } = read(rt.alloc(), &words)?.task else {
+        let Task::Put {
+            what,
+            recursive,
+            ..
+        } = read(rt.alloc(), &words)?.task
+        else {
             return Err(Fail::from("no put"));
         };
         assert!(rt; what == name && !recursive);
@@ -74,6 +84,7 @@ fn a_get_has_its_node_and_file(rt: HostRuntime) -> Result<(), Fail> {
         node,
         file,
         recursive,
+        ..
     } = read(rt.alloc(), &words)?.task
     else {
         return Err(Fail::from("no get"));
@@ -84,6 +95,7 @@ fn a_get_has_its_node_and_file(rt: HostRuntime) -> Result<(), Fail> {
         node,
         file,
         recursive,
+        ..
     } = read(rt.alloc(), &words)?.task
     else {
         return Err(Fail::from("no get"));
@@ -165,6 +177,10 @@ fn other_words_are_refused(rt: HostRuntime) -> Result<(), Fail> {
             ErrorKind::UnknownArgument,
         ),
         (
+            ["get", "--skip-existing", "seen", "@cap"].as_slice(),
+            ErrorKind::UnknownArgument,
+        ),
+        (
             ["check", "--read", "--read", "@cap"].as_slice(),
             ErrorKind::ArgumentConflict,
         ),
@@ -181,5 +197,48 @@ fn other_words_are_refused(rt: HostRuntime) -> Result<(), Fail> {
             Err(error) => assert_eq!(rt; error.kind(), wanted),
         }
     }
+    Ok(())
+}
+
+#[test]
+fn jobs_are_those_that_are_given(rt: HostRuntime) -> Result<(), Fail> {
+    let words = line(rt.alloc(), &["put", "-r", "--jobs", "3", "papers"])?;
+    let Task::Put { jobs, .. } = read(rt.alloc(), &words)?.task else {
+        return Err(Fail::from("no put"));
+    };
+    assert!(rt; jobs == Some("3"));
+    let words = line(rt.alloc(), &["get", "-r", "@cap", "out"])?;
+    let Task::Get { jobs, .. } = read(rt.alloc(), &words)?.task else {
+        return Err(Fail::from("no get"));
+    };
+    assert!(rt; jobs.is_none());
+    Ok(())
+}
+
+#[test]
+fn a_put_has_its_state(rt: HostRuntime) -> Result<(), Fail> {
+    let words = line(
+        rt.alloc(),
+        &["put", "-r", "--skip-existing", "seen", "--verify", "papers"],
+    )?;
+    let Task::Put {
+        state,
+        verified,
+        ..
+    } = read(rt.alloc(), &words)?.task
+    else {
+        return Err(Fail::from("no put"));
+    };
+    assert!(rt; state == Some("seen") && verified);
+    let words = line(rt.alloc(), &["put", "-r", "papers"])?;
+    let Task::Put {
+        state,
+        verified,
+        ..
+    } = read(rt.alloc(), &words)?.task
+    else {
+        return Err(Fail::from("no put"));
+    };
+    assert!(rt; state.is_none() && !verified);
     Ok(())
 }

@@ -5,7 +5,7 @@ use Rattle.client_core.specs.declared.fault.ClientFault.TheVariants as client
 use Rattle.client_tree.specs.declared.fault.TreeFault.{TreeFault}
 use Rattle.client_tree.specs.declared.fault.TreeFault.TheVariants as tree
 use Rattle.client_tasks.specs.declared.fault.TaskFault.{TaskFault}
-use Rattle.client_tasks.specs.declared.fault.TaskFault.TheVariants.{Words, BadUrl, NoCap, Tree, NotWell, PassedOver, Unread, Unwritten, NotPrinted, NoMemory}
+use Rattle.client_tasks.specs.declared.fault.TaskFault.TheVariants.{Words, BadUrl, BadJobs, BadSkips, BadState, NoCap, Tree, NotWell, OtherCap, PassedOver, Unread, Unwritten, NotPrinted, NoMemory}
 
 -- of what the gateway gave, or didn't give
 abbrev pub client_cause : ClientFault → ℕ
@@ -31,9 +31,13 @@ tree_cause tree.NoMemory = 8
 abbrev pub cause : TaskFault → ℕ
 cause Words = 2
 cause BadUrl = 2
+cause BadJobs = 2
+cause BadSkips = 2
+cause BadState = 9
 cause NoCap = 3
 cause (Tree fault) = tree_cause fault
 cause NotWell = 7
+cause OtherCap = 7
 cause PassedOver = 8
 cause Unread = 8
 cause Unwritten = 8

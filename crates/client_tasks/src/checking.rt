@@ -182,7 +182,7 @@ fn push_caps(alloc: Global, directory: &Directory, left: &mut Vec<Cap>) -> Resul
 }
 
 /// Has missing shares put back of what a cap is of, of a file in parts and of each part, and with `recursive` of all that it
-/// leads to: what isn't healthy is read, held against its cap and stored again. `NotWell` where it was stored under another cap.
+/// leads to: what isn't healthy is read, held against its cap and stored again. `OtherCap` where another cap came of it.
 pub fn repair<R: AllocGlobal + Print, E: Exchange>(
     rt: &R,
     gateway: &mut E,
@@ -227,7 +227,7 @@ fn repair_one<R: AllocGlobal + Print, E: Exchange>(
     }
 }
 
-/// Reads what is stored under the fields, and stores it again. `NotWell` where other fields came of it: it was stored under
+/// Reads what is stored under the fields, and stores it again. `OtherCap` where other fields came of it: it was stored under
 /// another secret, or other numbers, and can't be repaired here.
 fn store_again<E: Exchange>(
     alloc: Global,
@@ -241,7 +241,7 @@ fn store_again<E: Exchange>(
     if has_fields(&made, fields) {
         Ok(())
     } else {
-        Err(TaskFault::NotWell)
+        Err(TaskFault::OtherCap)
     }
 }
 

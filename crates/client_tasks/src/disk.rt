@@ -1,16 +1,21 @@
 //! Folders and files on a disk.
+ghost use Rattle.std.specs.Prelude.{◌≡◌, IfSome, Some};
 
+use crate::journal::{Journal, stamp_of};
 use crate::progress::Progress;
-use client_tree::{Folder, Item, LocalFault, PART_BYTES, Source};
+use crate::state::Stamp;
+use caps::Cap;
+use client_tree::{Child, Folder, Item, LocalFault, PART_BYTES, Source};
 use octets::Text;
 use std::alloc::{AllocError, Global};
 use std::fs::{File, OpenFile, OpenOptions};
 use std::io::{ErrorKind, Read, Write};
+use std::random::RandomSource;
 use std::rt::Files;
 use std::{fs, io};
 
 /// How many new names are tried for what isn't whole yet.
-const MOST_TRIES: u32 = 1000;
+const MOST_TRIES: u32 = 10;
 
 /// What on a disk files are written into: a folder or a file, under a new name until it is whole.
 #[derive(Drop)]
@@ -148,18 +153,32 @@ pub struct DiskSource<'a, R: Files + AllocGlobal + Eprint + Clone + Drop> {
     passed_over: bool,
     /// The file that is read, up to its last piece.
     open: Option<R::File>,
+    /// How it was when it was opened, if that could be told.
+    begun: Option<Stamp>,
+    /// How many bytes of it were read.
+    count: u64,
+    /// Files that needn't be read, where there may be such.
+    journal: Option<Journal>,
 }
 
 impl<'a, R: Files + AllocGlobal + Eprint + Clone + Drop> DiskSource<'a, R> {
-    /// At a path.
-    pub fn new(rt: &'a R, top: &'a str, progress: Progress) -> Self {
+    /// At a path, with what is known of files below it that were stored before.
+    pub fn new(rt: &'a R, top: &'a str, journal: Option<Journal>, progress: Progress) -> Self {
         DiskSource {
             rt,
             top,
             progress,
             passed_over: false,
             open: None,
+            begun: None,
+            count: 0,
+            journal,
         }
+    }
+
+    /// What is known of the files below it.
+    pub fn journal(&self) -> Option<&Journal> {
+        self.journal.as_ref()
     }
 
     /// Nothing more comes; whether something was passed over.
@@ -194,12 +213,54 @@ impl<'a, R: Files + AllocGlobal + Eprint + Clone + Drop> DiskSource<'a, R> {
     /// The next piece of the file that is read, or the first of the one at a place.
     fn piece_at(&mut self, place: &str, is_first: bool) -> io::Result<Vec<u8>> {
         if is_first {
-            self.open = Some(File::open(self.rt, place)?);
+            let file = File::open(self.rt, place)?;
+            self.begun = stamp_of_open(&file);
+            self.count = 0;
+            self.open = Some(file);
         }
         let Some(file) = &mut self.open else {
             return Err(io::Error::from(ErrorKind::NotFound));
         };
-        read_part(self.rt.alloc(), file)
+        let bytes = read_part(self.rt.alloc(), file)?;
+        self.count = self.count.saturating_add(bytes.len() as u64);
+        Ok(bytes)
+    }
+
+    /// Takes note of the file of these names, all of which was read, where it stayed as it was meanwhile.
+    fn note(&mut self, path: &[Text]) -> Result<(), AllocError> {
+        let Some(journal) = &mut self.journal else {
+            return Ok(());
+        };
+        let Some(file) = &self.open else {
+            return Ok(());
+        };
+        match stayed(self.begun, stamp_of_open(file), self.count) {
+            Some(stamp) => journal.see(self.rt.alloc(), path, stamp),
+            None => Ok(()),
+        }
+    }
+}
+
+/// How an open file is, if that can be told.
+fn stamp_of_open<F: OpenFile>(file: &F) -> Option<Stamp> {
+    match file.metadata() {
+        Ok(metadata) => stamp_of(&metadata),
+        Err(_) => None,
+    }
+}
+
+/// How a file was while all of it was read: `None` where it was another before than after, or hadn't as many bytes as
+/// came.
+fn stayed(before: Option<Stamp>, after: Option<Stamp>, count: u64) -> Option<Stamp>
+    ensures { IfSome result (λ stamp. (before ≡ Some stamp) × ((after ≡ Some stamp)
+        × (stamp.size ≡ count))) }
+{
+    let before = before?;
+    let after = after?;
+    if before.size == after.size && before.time == after.time && before.size == count {
+        Some(before)
+    } else {
+        None
     }
 }
 
@@ -215,7 +276,29 @@ impl<R: Files + AllocGlobal + Eprint + Clone + Drop> Source for DiskSource<'_, R
         let read = self.piece_at(place.as_str(), is_first);
         let bytes = told(self.rt, place.as_str(), read)?;
         self.progress.count(self.rt, bytes.len(), is_first);
+        if (bytes.len() as u64) < PART_BYTES {
+            self.note(path)?;
+        }
         Ok(bytes)
+    }
+
+    fn known(&mut self, path: &[Text]) -> Result<Option<Cap>, LocalFault> {
+        let Some(journal) = &mut self.journal else {
+            return Ok(None);
+        };
+        let place = place_of(self.rt.alloc(), self.top, path)?;
+        let cap = journal.known(self.rt, path, place.as_str())?;
+        if cap.is_some() {
+            self.progress.count(self.rt, 0, true);
+        }
+        Ok(cap)
+    }
+
+    fn stored(&mut self, path: &[Text], files: &[Child]) -> Result<(), LocalFault> {
+        if let Some(journal) = &mut self.journal {
+            journal.stored(self.rt.alloc(), path, files)?;
+        }
+        Ok(())
     }
 }
 
@@ -243,6 +326,14 @@ impl<S: Read + Drop> Source for StreamSource<S> {
             Ok(bytes) => Ok(bytes),
             Err(_) => Err(LocalFault),
         }
+    }
+
+    fn known(&mut self, _path: &[Text]) -> Result<Option<Cap>, LocalFault> {
+        Ok(None)
+    }
+
+    fn stored(&mut self, _path: &[Text], _files: &[Child]) -> Result<(), LocalFault> {
+        Ok(())
     }
 }
 
@@ -278,17 +369,25 @@ pub fn told<R: Eprint, T: Drop>(
     }
 }
 
-/// A name beside a path, at which nothing stands.
-pub fn new_name<R: Files + AllocGlobal>(rt: &R, path: &str) -> Result<Option<String>, AllocError> {
+/// A name beside a path, at which nothing stands. It is of random digits, so that two programs that write the same path have
+/// two names, and none removes what the other one wrote.
+pub fn new_name<R: Files + AllocGlobal + RandomSource>(
+    rt: &R,
+    path: &str,
+) -> Result<Option<String>, AllocError> {
     let alloc = rt.alloc();
-    let whole = path.trim_end_matches('/');
-    let (folder, name) = match whole.rsplit_once('/') {
-        Some((folder, name)) => (format!(in alloc; "{folder}/")?, name),
-        None => (String::new(alloc), whole),
+    let folder = match path.trim_end_matches('/').rsplit_once('/') {
+        Some((folder, _)) => format!(in alloc; "{folder}/")?,
+        None => String::new(alloc),
     };
     let folder = folder.as_str();
-    for count in 0..MOST_TRIES {
-        let tried = format!(in alloc; "{folder}.{name}.woz-{count}")?;
+    for _ in 0..MOST_TRIES {
+        let mut digits = [0; 8];
+        if rt.fill_bytes(&mut digits).is_err() {
+            return Ok(None);
+        }
+        let number = u64::from_be_bytes(digits);
+        let tried = format!(in alloc; "{folder}.woz-{number:016x}")?;
         match fs::symlink_metadata(rt, tried.as_str()) {
             Err(error) if error.kind() == ErrorKind::NotFound => return Ok(Some(tried)),
             _ => {}

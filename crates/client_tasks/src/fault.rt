@@ -16,6 +16,15 @@ pub enum TaskFault {
     /// The gateway's URL is none that can be asked.
     #[error("the gateway's URL is to be http://HOST or http://HOST:PORT")]
     BadUrl,
+    /// The number of connections is none that there can be.
+    #[error("--jobs is to be a number from 1 to 64")]
+    BadJobs,
+    /// A state was named, or `--verify` given, where nothing can be skipped.
+    #[error("--skip-existing is for put -r, and --verify for --skip-existing")]
+    BadSkips,
+    /// What was named as a state is none.
+    #[error("the file of --skip-existing is no state that a put wrote")]
+    BadState,
     /// What was given as a cap is none.
     #[error("no cap")]
     NoCap,
@@ -25,6 +34,9 @@ pub enum TaskFault {
     /// A check found shares that are missing or not good: it was told already.
     #[error("not all is well")]
     NotWell,
+    /// What was stored again for a repair has another cap: it was stored under another secret or other numbers.
+    #[error("it was stored under another secret or other numbers, and can't be repaired here")]
+    OtherCap,
     /// Something was passed over: it was told already.
     #[error("not all was stored")]
     PassedOver,
@@ -58,9 +70,13 @@ impl TaskFault {
         match self {
             TaskFault::Words => 2,
             TaskFault::BadUrl => 2,
+            TaskFault::BadJobs => 2,
+            TaskFault::BadSkips => 2,
+            TaskFault::BadState => 9,
             TaskFault::NoCap => 3,
             TaskFault::Tree(fault) => tree_status(fault),
             TaskFault::NotWell => 7,
+            TaskFault::OtherCap => 7,
             TaskFault::PassedOver => 8,
             TaskFault::Unread => 8,
             TaskFault::Unwritten => 8,

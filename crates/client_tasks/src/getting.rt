@@ -8,6 +8,7 @@ use client_core::{Exchange, walk};
 use client_tree::{TreeFault, get_file, get_tree};
 use octets::Text;
 use std::fs;
+use std::random::RandomSource;
 use std::rt::Files;
 
 /// How deep folders may stand.
@@ -33,7 +34,7 @@ pub fn get_to_output<R: Print + AllocGlobal + Drop, E: Exchange>(
 }
 
 /// Writes the file to which names lead: under a new name, which becomes `path` once it is whole.
-pub fn get_to_file<R: Files + AllocGlobal + Eprint + Drop, E: Exchange>(
+pub fn get_to_file<R: Files + AllocGlobal + Eprint + RandomSource + Drop, E: Exchange>(
     rt: &R,
     gateway: &mut E,
     cap: &Cap,
@@ -54,7 +55,7 @@ pub fn get_to_file<R: Files + AllocGlobal + Eprint + Drop, E: Exchange>(
 }
 
 /// Writes what names lead to: under a new name, which becomes `path` once all is there.
-pub fn get_to_folder<R: Files + AllocGlobal + Eprint + Drop, E: Exchange>(
+pub fn get_to_folder<R: Files + AllocGlobal + Eprint + RandomSource + Drop, E: Exchange>(
     rt: &R,
     gateway: &mut E,
     cap: &Cap,

@@ -6,8 +6,14 @@
 mod fault;
 /// The gateway: its URL, and connections to it.
 mod gateway;
+/// How many connections to it there are at once.
+mod jobs;
 /// Caps and paths as they are given.
 mod given;
+/// What a put tells the next put of the same folder, as text.
+mod state;
+/// Files that a put skips because they were stored before.
+mod journal;
 /// Folders and files on a disk.
 mod disk;
 /// What is told of files that pass.

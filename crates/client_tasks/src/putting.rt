@@ -4,6 +4,7 @@ use crate::disk::{DiskSource, StreamSource};
 use crate::fault::TaskFault;
 use crate::getting::{MOST_DEPTH, MOST_NODES};
 use crate::given::read_cap;
+use crate::journal::Journal;
 use crate::progress::Progress;
 use caps::{Cap, print};
 use client_core::Exchange;
@@ -12,6 +13,7 @@ use octets::Text;
 use std::alloc::Global;
 use std::fs::File;
 use std::io::{ErrorKind, Read};
+use std::random::RandomSource;
 use std::rt::Files;
 
 /// Stores a file, or with `-` standard input, and prints its cap. What has more than 16,777,216 bytes is stored in parts.
@@ -46,16 +48,31 @@ fn put_stream<R: AllocGlobal + Print, E: Exchange, S: Read + Drop>(
 
 /// Stores a folder, and prints its cap. `PassedOver` where something in it is neither a file nor a folder; the cap is of the
 /// rest then.
-pub fn put_folder<R: Files + AllocGlobal + Print + Eprint + Clone + Drop, E: Exchange>(
+///
+/// Where a state is named, files that it knows as they are aren't stored again, and it is written anew once the cap is
+/// printed.
+pub fn put_folder<
+    R: Files + AllocGlobal + Print + Eprint + RandomSource + Clone + Drop,
+    E: Exchange,
+>(
     rt: &R,
     gateway: &mut E,
     path: &str,
+    state: Option<&str>,
+    verified: bool,
     told: bool,
 ) -> Result<(), TaskFault> {
-    let mut source = DiskSource::new(rt, path, Progress::new(told));
+    let journal = match state {
+        Some(state) => Some(Journal::read(rt, state, verified)?),
+        None => None,
+    };
+    let mut source = DiskSource::new(rt, path, journal, Progress::new(told));
     let stored = put_tree(rt.alloc(), gateway, &mut source, MOST_DEPTH, MOST_NODES);
     let passed_over = source.end();
     print_cap(rt, &stored?)?;
+    if let (Some(state), Some(journal)) = (state, source.journal()) {
+        journal.write(rt, state)?;
+    }
     if passed_over {
         return Err(TaskFault::PassedOver);
     }

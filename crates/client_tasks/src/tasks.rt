@@ -1,21 +1,24 @@
 //! Reading the words, and doing what they ask for.
-ghost use Rattle.std.specs.Prelude.{◌≡◌, IsTrue, IfOk, IfSome, string_bytes};
+ghost use Rattle.std.specs.Prelude.{◌≡◌, IsTrue, IfOk, IfSome, MatchResult, string_bytes};
 ghost use Rattle.client_tasks.specs.Had.{IsEndOf, IsReadAt};
+ghost use Rattle.client_tasks.specs.State.{AreSkips};
 
 use crate::checking::{check, read_all, repair};
 use crate::fault::TaskFault;
-use crate::gateway::{Dialer, read_url};
+use crate::gateway::read_url;
 use crate::getting::{get_to_file, get_to_folder, get_to_output};
 use crate::given::{read_cap, read_names};
+use crate::jobs::lanes_of;
 use crate::listing::{list, list_json};
 use crate::putting::{make_folder, put_folder, put_one};
 use caps::Cap;
 use client_core::{Exchange, walk};
-use client_link::Redialing;
+use client_link::{Dial, Lanes};
 use client_options::{Node, Options, Task, read_words};
 use std::env;
 use std::env::VarError;
 use std::net::Net;
+use std::random::RandomSource;
 use std::rt::{Env, Files};
 
 /// Where a gateway is that isn't named.
@@ -23,10 +26,9 @@ const DEFAULT_URL: &str = "http://127.0.0.1:3456";
 
 /// Does what the words of the command line ask for, up to the first fault. Progress is told where standard error is a
 /// terminal.
-pub fn run<R: Env + Print + Eprint + Input + AllocGlobal + Files + Net + Clone + Drop>(
-    rt: &R,
-    is_terminal: bool,
-) -> Result<(), TaskFault> {
+pub fn run<
+    R: Env + Print + Eprint + Input + AllocGlobal + Files + Net + RandomSource + Clone + Drop,
+>(rt: &R, is_terminal: bool) -> Result<(), TaskFault> {
     let words = arguments_of(rt)?;
     match read_words(rt.alloc(), &words) {
         Ok(options) => run_with(rt, &options, is_terminal),
@@ -56,21 +58,23 @@ fn arguments_of(rt: &(impl Env + AllocGlobal)) -> Result<Vec<String>, TaskFault>
 }
 
 /// Does a task over the gateway that is named.
-fn run_with<R: Env + Print + Eprint + Input + AllocGlobal + Files + Net + Clone + Drop>(
-    rt: &R,
-    options: &Options<'_>,
-    is_terminal: bool,
-) -> Result<(), TaskFault> {
+fn run_with<
+    R: Env + Print + Eprint + Input + AllocGlobal + Files + Net + RandomSource + Clone + Drop,
+>(rt: &R, options: &Options<'_>, is_terminal: bool) -> Result<(), TaskFault> {
     let url = url_of(rt, options)?;
     let place = read_url(rt.alloc(), url.as_str())?;
-    let dialer = Dialer::new(rt, place.address.as_str());
-    let mut gateway = Redialing::new(rt.alloc(), place.host.as_str(), dialer);
-    do_task(
-        rt,
-        &mut gateway,
-        &options.task,
-        is_terminal && !options.quiet,
-    )
+    let gateway = lanes_of(rt, &place, &options.task)?;
+    do_over(rt, gateway, &options.task, is_terminal && !options.quiet)
+}
+
+/// Does a task over connections. Whoever opens them is any type here: how long what it borrows lives can't be proved where
+/// they are made.
+fn do_over<
+    R: Print + Eprint + Input + AllocGlobal + Files + RandomSource + Clone + Drop,
+    D: Dial + Drop,
+>(rt: &R, gateway: Lanes<'_, D>, task: &Task<'_>, told: bool) -> Result<(), TaskFault> {
+    let mut gateway = gateway;
+    do_task(rt, &mut gateway, task, told)
 }
 
 /// The gateway's URL: that of the words, or else of the environment.
@@ -90,16 +94,21 @@ fn url_of<R: Env + AllocGlobal>(rt: &R, options: &Options<'_>) -> Result<String,
 }
 
 /// Does a task.
-fn do_task<R: Print + Eprint + Input + AllocGlobal + Files + Clone + Drop, E: Exchange>(
-    rt: &R,
-    gateway: &mut E,
-    task: &Task<'_>,
-    told: bool,
-) -> Result<(), TaskFault> {
+fn do_task<
+    R: Print + Eprint + Input + AllocGlobal + Files + RandomSource + Clone + Drop,
+    E: Exchange,
+>(rt: &R, gateway: &mut E, task: &Task<'_>, told: bool) -> Result<(), TaskFault> {
     match task {
-        Task::Put { what, recursive } => {
+        Task::Put {
+            what,
+            recursive,
+            state,
+            verified,
+            ..
+        } => {
+            test_skips(*recursive, state.is_some(), *verified)?;
             if *recursive {
-                put_folder(rt, gateway, *what, told)
+                put_folder(rt, gateway, *what, *state, *verified, told)
             } else {
                 put_one(rt, gateway, *what)
             }
@@ -108,6 +117,7 @@ fn do_task<R: Print + Eprint + Input + AllocGlobal + Files + Clone + Drop, E: Ex
             node,
             file,
             recursive,
+            ..
         } => get(rt, gateway, node, *file, *recursive, told),
         Task::List { node, json } => list_node(rt, gateway, node, *json),
         Task::Check {
@@ -124,8 +134,22 @@ fn do_task<R: Print + Eprint + Input + AllocGlobal + Files + Clone + Drop, E: Ex
     }
 }
 
+/// `BadSkips` where a state is given for one file, or `--verify` without a state.
+fn test_skips(recursive: bool, given: bool, verified: bool) -> Result<(), TaskFault>
+    ensures { MatchResult result (λ done. AreSkips recursive given verified)
+        (λ fault. (fault ≡ TaskFault.BadSkips) × ¬ (AreSkips recursive given verified)) }
+{
+    if given && !recursive {
+        return Err(TaskFault::BadSkips);
+    }
+    if verified && !given {
+        return Err(TaskFault::BadSkips);
+    }
+    Ok(())
+}
+
 /// Writes what a cap and a path are of.
-fn get<R: Print + Eprint + AllocGlobal + Files + Drop, E: Exchange>(
+fn get<R: Print + Eprint + AllocGlobal + Files + RandomSource + Drop, E: Exchange>(
     rt: &R,
     gateway: &mut E,
     node: &Node<'_>,

@@ -14,13 +14,13 @@ use Rattle.client_tree.specs.declared.children.Child.{Child}
 pub no_groups : (holds : List File → Type 0) → AreGroups holds []
 no_groups holds = record { groups = []; each = All-nil holds; joined = refl }
 
-one_group : (holds : List File → Type 0) (files : List File) → holds files → AreGroups holds files
+pub one_group : (holds : List File → Type 0) (files : List File) → holds files → AreGroups holds files
 one_group holds files is = record { groups = files ∷ []; each = All-cons holds files [] is (All-nil holds); joined = append-nil files }
 
 pub groups_more : (holds other : List File → Type 0) (files : List File) → ((group : List File) → holds group → other group) → AreGroups holds files → AreGroups other files
 groups_more holds other files known are = record { groups = are.groups; each = All-weaker holds other known are.groups are.each; joined = are.joined }
 
-both_groups : (holds : List File → Type 0) (files more : List File) → AreGroups holds files → AreGroups holds more → AreGroups holds (files ++ more)
+pub both_groups : (holds : List File → Type 0) (files more : List File) → AreGroups holds files → AreGroups holds more → AreGroups holds (files ++ more)
 both_groups holds files more one other = record {
   groups = one.groups ++ other.groups;
   each = All-append holds one.groups other.groups one.each other.each;

@@ -4,3 +4,4 @@ pub mod Below
 pub mod PartSizes
 pub mod Joined
 pub mod Read
+pub mod UnderWay

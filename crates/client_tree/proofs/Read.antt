@@ -6,7 +6,7 @@ use Rattle.cap_binding.specs.Binds.{AreFileOf}
 use Rattle.client_tree.specs.Parts.{part_bytes, AreParts, AreFilesOf, caps_of}
 use Rattle.client_tree.specs.Runs.{File}
 use Rattle.client_tree.specs.Joined.{pieces_at}
-use Rattle.client_tree.specs.Stored.{HasParts, IsStoredWhole, IsStoredAt}
+use Rattle.client_tree.specs.Stored.{HasParts, IsStoredWhole, IsStoredAt, IsStoredFrom}
 use Rattle.client_tree.proofs.Joined.{one_more_file, files_more, concat_more}
 use Rattle.client_tree.proofs.PartSizes.{all_pieces_have}
 
@@ -42,6 +42,29 @@ all_read path caps size cap files piece short stored before = record {
   files_are = ap (λ (fs : List File). fs ++ record { path = path; bytes = piece } ∷ []) before.files_are ∙ sym (files_more path before.pieces piece);
   stored = subst (λ (bs : List ℕ). IsStoredWhole cap bs) (sym (concat_more before.pieces piece)) (stored before.pieces before.bound before.size_is);
 }
+
+-- the same before the piece that came last, where another one came first
+pub record IsReadUpTo (path : List (List ℕ)) (caps : List Cap) (size : ℕ) (first piece : List ℕ) (files : List File) : Type 0 where
+  pub before : List File
+  pub read : IsReadSoFar path caps size before
+  pub files_are : record { path = path; bytes = first } ∷ files ≡ before ++ record { path = path; bytes = piece } ∷ []
+
+pub first_read : (path : List (List ℕ)) (first : List ℕ) → IsReadUpTo path [] 0 first first []
+first_read path first = record { before = []; read = none_read path; files_are = refl }
+
+pub next_read : (path : List (List ℕ)) (caps : List Cap) (cap : Cap) (size : ℕ) (first piece next : List ℕ) (files : List File) → AreFileOf cap piece
+    → IsReadUpTo path caps size first piece files → IsReadUpTo path (caps ++ cap ∷ []) (size + length piece) first next (files ++ record { path = path; bytes = next } ∷ [])
+next_read path caps cap size first piece next files is up = record {
+  before = up.before ++ record { path = path; bytes = piece } ∷ [];
+  read = one_more_read path caps cap size up.before piece is up.read;
+  files_are = ap (λ (fs : List File). fs ++ record { path = path; bytes = next } ∷ []) up.files_are;
+}
+
+pub last_read : (path : List (List ℕ)) (caps : List Cap) (size : ℕ) (cap : Cap) (first piece : List ℕ) (files : List File) → length piece < part_bytes
+    → ((pieces : List (List ℕ)) → AreFilesOf caps pieces → size ≡ length (concat pieces) → IsStoredWhole cap (concat pieces ++ piece))
+    → IsReadUpTo path caps size first piece files → IsStoredFrom cap path first files
+last_read path caps size cap first piece files short stored up =
+    subst (λ (fs : List File). IsStoredAt cap path fs) (sym up.files_are) (all_read path caps size cap up.before piece short stored up.read)
 
 -- a directory of parts is of the pieces that its parts are of
 pub parts_stored : (caps : List Cap) (size : ℕ) (cap : Cap) (pieces : List (List ℕ)) → HasParts caps size cap → AreFilesOf caps pieces → IsStoredWhole cap (concat pieces)

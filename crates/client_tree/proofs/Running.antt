@@ -70,3 +70,12 @@ one_more_passed step rest holds all first middle last file known before taken = 
 -- a run without files
 pub nothing_passed : {A : Type 0} (step : A → File → A → Type 0) (rest : A → A → Type 0) (holds : List File → Type 0) (first last : A) → holds [] → FileRun step rest first [] last → Passes step rest holds first last
 nothing_passed step rest holds first last held run = record { files = []; run = run; hold = held }
+
+-- one passes, and then files of which that holds behind it
+pub passed_behind : {A : Type 0} (step : A → File → A → Type 0) (rest : A → A → Type 0) (holds other : List File → Type 0) (first middle last : A) (file : File)
+    → ((files : List File) → holds files → other (file ∷ files)) → step first file middle → Passes step rest holds middle last → Passes step rest other first last
+passed_behind step rest holds other first middle last file known taken after = record {
+  files = file ∷ after.files;
+  run = joined (passes none taken) after.run;
+  hold = known after.files after.hold;
+}

@@ -28,6 +28,10 @@ pub record IsStoredAt (cap : Cap) (path : List (List ℕ)) (files : List File) :
   pub files_are : files ≡ pieces_at path (pieces ++ end ∷ [])
   pub stored : IsStoredWhole cap (concat (pieces ++ end ∷ []))
 
+-- the same behind the first piece; for a private clause
+abbrev pub IsStoredFrom : Cap → List (List ℕ) → List ℕ → List File → Type 0
+IsStoredFrom cap path first files = IsStoredAt cap path (record { path = path; bytes = first } ∷ files)
+
 -- the names behind that path in the file's own lead from the cap to one of all its pieces
 pub record IsStoredFile (cap : Cap) (path : List (List ℕ)) (files : List File) : Type 0 where
   pub names : List (List ℕ)

@@ -12,10 +12,11 @@ use crate::file_name::is_file_name;
 use crate::folder::Folder;
 use crate::parts::parts_size;
 use crate::path::{path_below, text_of};
+use crate::row::Row;
 use caps::Cap;
 use client_core::laws::children_are_found;
-use client_core::{ClientFault, Exchange, fetch_directory, fetch_file, walk};
-use dir_codec::Directory;
+use client_core::{ClientFault, Exchange, fetch_begun, fetch_directory, fetch_file, walk};
+use dir_codec::{Directory, Entry};
 use octets::Text;
 use std::alloc::Global;
 
@@ -190,7 +191,8 @@ fn get_node<E: Exchange, F: Folder>(
     }
 }
 
-/// Writes what the entries of a directory lead to, under their names below a path.
+/// Writes what the entries of a directory lead to, under their names below a path. Of small files that stand one behind the
+/// other in it several are asked for at once.
 #[cycle(tree)]
 fn get_children<E: Exchange, F: Folder>(
     alloc: Global,
@@ -208,10 +210,67 @@ fn get_children<E: Exchange, F: Folder>(
         (λ fault. Passes F.wrote F.kept (All (IsBoundBelow directory.now path.now)) folder.old folder.new) }
 {
     children_are_found();
+    let entries = directory.entries();
+    let mut row = Row::new();
     for entry in directory.entries() {
         let below = path_below(alloc, path, entry.name.as_str())?;
-        get_node(alloc, gateway, folder, &entry.cap, &below, depth, left)?;
+        row.go_on(gateway, entries);
+        get_entry(
+            alloc, gateway, folder, &entry.cap, &row, entries, &below, depth, left,
+        )?;
     }
+    Ok(())
+}
+
+/// Writes what the cap of an entry leads to under a path, which stands in such a row.
+#[cycle(tree)]
+fn get_entry<E: Exchange, F: Folder>(
+    alloc: Global,
+    gateway: &mut E,
+    folder: &mut F,
+    cap: &Cap,
+    row: &Row,
+    entries: &[Entry],
+    path: &[Text],
+    depth: u32,
+    left: &mut u64,
+) -> Result<(), TreeFault>
+    requires { AreFileNames path.now }
+    ensures { MatchResult result
+        (λ done. Passes F.wrote F.kept (IsTreeOf cap.now path.now) folder.old folder.new)
+        (λ fault. Passes F.wrote F.kept (All (IsBoundFile cap.now path.now)) folder.old folder.new) }
+{
+    if row.is_within() {
+        get_begun(alloc, gateway, folder, cap, row, entries, path, left)
+    } else {
+        get_node(alloc, gateway, folder, cap, path, depth, left)
+    }
+}
+
+/// Writes the file that a cap is of, which was asked for ahead.
+fn get_begun<E: Exchange, F: Folder>(
+    alloc: Global,
+    gateway: &mut E,
+    folder: &mut F,
+    cap: &Cap,
+    row: &Row,
+    entries: &[Entry],
+    path: &[Text],
+    left: &mut u64,
+) -> Result<(), TreeFault>
+    requires { AreFileNames path.now }
+    ensures { MatchResult result
+        (λ done. Passes F.wrote F.kept (IsTreeOf cap.now path.now) folder.old folder.new)
+        (λ fault. Passes F.wrote F.kept (All (IsBoundFile cap.now path.now)) folder.old folder.new) }
+{
+    if *left == 0 {
+        return Err(TreeFault::TooMany);
+    }
+    *left -= 1;
+    let lane = row.lane(gateway);
+    let next = row.next(gateway, entries);
+    let bytes = fetch_begun(alloc, gateway, lane, cap, next)?;
+    folder.write_file(path, &bytes)?;
     Ok(())
 }
 

@@ -13,12 +13,16 @@ mod source;
 mod fault;
 /// Files that are too long for one upload: directories of their parts.
 mod parts;
+/// Rows of small files in a directory.
+mod row;
 /// Writing what a cap leads to.
 mod get;
 /// Directories that are made of what stands under names.
 mod children;
 /// Files that are stored while they are read, piece after piece.
 mod pieces;
+/// Files that are on their way, several at once.
+mod window;
 /// Storing a folder.
 mod put;
 /// What holds of the definitions.

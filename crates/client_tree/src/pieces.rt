@@ -4,7 +4,7 @@ ghost use Rattle.std.specs.List.{concat};
 ghost use Rattle.cap_binding.specs.Binds.{AreFileOf};
 ghost use Rattle.client_tree.specs.Runs.{Passes};
 ghost use Rattle.client_tree.specs.Parts.{AreFilesOf, caps_of, AreParts};
-ghost use Rattle.client_tree.specs.Stored.{HasParts, IsStoredWhole, IsStoredAt};
+ghost use Rattle.client_tree.specs.Stored.{HasParts, IsStoredWhole, IsStoredAt, IsStoredFrom};
 
 use crate::children::{are_same, named_directory};
 use crate::fault::TreeFault;
@@ -32,16 +32,32 @@ pub fn put_whole<E: Exchange, S: Source>(
     ensures { IfOk result (λ cap.
         Passes S.gave S.kept (IsStoredAt cap path.now) source.old source.new) }
 {
+    let first = source.read_piece(path, true)?;
+    put_rest(alloc, gateway, source, path, first)
+}
+
+/// Stores the file under a path of which the first piece was read, while the rest is read, and gives its cap.
+pub(crate) fn put_rest<E: Exchange, S: Source>(
+    alloc: Global,
+    gateway: &mut E,
+    source: &mut S,
+    path: &[Text],
+    first: Vec<u8>,
+) -> Result<Cap, TreeFault>
+    ensures { IfOk result (λ cap.
+        Passes S.gave S.kept (IsStoredFrom cap path.now first.items) source.old source.new) }
+{
     let mut caps = Vec::new(alloc);
     let mut size = 0u64;
+    let mut piece = first;
     for _ in 0..MOST_PIECES {
-        let piece = source.read_piece(path, caps.is_empty())?;
         let count = piece.len() as u64;
         if count < PART_BYTES {
             return put_last(alloc, gateway, caps, size, piece);
         }
         size = grown(size, count)?;
         caps.push(put_piece(alloc, gateway, piece)?)?;
+        piece = source.read_piece(path, false)?;
     }
     Err(TreeFault::TooMany)
 }

@@ -1,23 +1,30 @@
 //! Storing a folder.
-ghost use Rattle.std.specs.Prelude.{[], IfOk};
+ghost use Rattle.std.specs.Prelude.{◌≡◌, [], ◌∷◌, ◌++◌, IfOk, OnOk};
 ghost use Rattle.client_tree.specs.Runs.{Passes, AreGroups};
-ghost use Rattle.client_tree.specs.Stored.{IsStoredFile};
+ghost use Rattle.client_tree.specs.Stored.{IsStoredFile, IsStoredBelow};
+ghost use Rattle.client_tree.specs.UnderWay.{IsInHand, IsFilePut, StaysInHand};
 
 use crate::children::{Child, child_of, directory_of};
 use crate::fault::TreeFault;
-use crate::path::path_below;
-use crate::pieces::put_whole;
-use crate::source::Source;
+use crate::path::{path_below, text_of};
+use crate::pieces::put_rest;
+use crate::source::{Item, Source};
+use crate::window::{Waiting, Window};
 use caps::Cap;
 use client_core::Exchange;
-use octets::Text;
+use octets::{Bytes, Text};
 use std::alloc::Global;
 
-/// Stores all that stands in a folder, what stands below first, and gives the cap. There are at most `most` files and
+/// The most bytes of a file that is on its way beside others, and is kept in memory meanwhile.
+pub(crate) const MOST_BESIDE: u64 = 262_144;
+
+/// Stores all that stands in a folder, what stands below before it, and gives the cap. Of the files of a folder that have at
+/// most 262,144 bytes several are on their way at once, one on each lane of the gateway. There are at most `most` files and
 /// folders, in folders that stand at most `depth` deep.
 ///
-/// Whatever the gateway answers, for each file that was read under a path, whole or piece after piece, the names of the path,
-/// in NFC, lead from the cap to one that is of all bytes which were read.
+/// Whatever the gateway answers, for each file that was read under a path, whole or piece after piece, the names of the
+/// path, in NFC, lead from the cap to one that is of all bytes which were read. A file whose cap the source knows isn't
+/// read: that cap stands under its name.
 pub fn put_tree<E: Exchange, S: Source>(
     alloc: Global,
     gateway: &mut E,
@@ -33,34 +40,16 @@ pub fn put_tree<E: Exchange, S: Source>(
     put_folder(alloc, gateway, source, &path, depth, &mut left)
 }
 
-/// Stores what stands under a path, which is a folder or a file.
-#[cycle(stored)]
-fn put_node<E: Exchange, S: Source>(
-    alloc: Global,
-    gateway: &mut E,
-    source: &mut S,
-    path: &[Text],
-    is_folder: bool,
-    depth: u32,
-    left: &mut u64,
-) -> Result<Cap, TreeFault>
-    ensures { IfOk result (λ cap.
-        Passes S.gave S.kept (AreGroups (IsStoredFile cap path.now)) source.old source.new) }
-{
+/// One of those that may still come.
+fn take_one(left: &mut u64) -> Result<(), TreeFault> {
     if *left == 0 {
         return Err(TreeFault::TooMany);
     }
     *left -= 1;
-    if is_folder {
-        if depth == 0 {
-            return Err(TreeFault::TooDeep);
-        }
-        return put_folder(alloc, gateway, source, path, depth - 1, left);
-    }
-    put_whole(alloc, gateway, source, path)
+    Ok(())
 }
 
-/// Stores the folder under a path.
+/// Stores the folder under a path: its files, and then its folders.
 #[cycle(stored)]
 fn put_folder<E: Exchange, S: Source>(
     alloc: Global,
@@ -74,11 +63,121 @@ fn put_folder<E: Exchange, S: Source>(
         Passes S.gave S.kept (AreGroups (IsStoredFile cap path.now)) source.old source.new) }
 {
     let items = source.items(path)?;
-    let mut children = Vec::with_capacity(alloc, items.len())?;
-    for item in &items {
+    let mut children = put_files(alloc, gateway, source, path, &items, left)?;
+    let mut folders = put_folders(alloc, gateway, source, path, &items, depth, left)?;
+    children.append(&mut folders)?;
+    directory_of(alloc, gateway, &children)
+}
+
+/// Stores those of these items below a path that are folders.
+#[cycle(stored)]
+fn put_folders<E: Exchange, S: Source>(
+    alloc: Global,
+    gateway: &mut E,
+    source: &mut S,
+    path: &[Text],
+    items: &[Item],
+    depth: u32,
+    left: &mut u64,
+) -> Result<Vec<Child>, TreeFault>
+    ensures { IfOk result (λ children. Passes S.gave S.kept
+        (AreGroups (IsStoredBelow children.items path.now)) source.old source.new) }
+{
+    let mut children = Vec::new(alloc);
+    for item in items {
+        if !item.is_folder {
+            continue;
+        }
+        take_one(left)?;
+        if depth == 0 {
+            return Err(TreeFault::TooDeep);
+        }
         let below = path_below(alloc, path, item.name.as_str())?;
-        let cap = put_node(alloc, gateway, source, &below, item.is_folder, depth, left)?;
+        let cap = put_folder(alloc, gateway, source, &below, depth - 1, left)?;
         children.push(child_of(alloc, &item.name, cap)?)?;
     }
-    directory_of(alloc, gateway, &children)
+    Ok(children)
+}
+
+/// Stores those of these items below a path that are files, and tells the source of them.
+fn put_files<E: Exchange, S: Source>(
+    alloc: Global,
+    gateway: &mut E,
+    source: &mut S,
+    path: &[Text],
+    items: &[Item],
+    left: &mut u64,
+) -> Result<Vec<Child>, TreeFault>
+    ensures { IfOk result (λ children. Passes S.gave S.kept
+        (AreGroups (IsStoredBelow children.items path.now)) source.old source.new) }
+{
+    let mut window = Window::new(alloc);
+    for item in items {
+        if item.is_folder {
+            continue;
+        }
+        take_one(left)?;
+        put_file_of(alloc, gateway, source, path, &item.name, &mut window)?;
+    }
+    let children = window.finish(alloc, gateway)?;
+    source.stored(path, &children)?;
+    Ok(children)
+}
+
+/// Has the file of a name below a path among the children, where the source knows its cap; else stores it, or sends it
+/// on its way.
+fn put_file_of<E: Exchange, S: Source>(
+    alloc: Global,
+    gateway: &mut E,
+    source: &mut S,
+    path: &[Text],
+    name: &Text,
+    window: &mut Window,
+) -> Result<(), TreeFault>
+    ensures put { OnOk result (IsFilePut S.gave S.kept S.knew
+        window.new.children.items window.new.waiting.items path.now name.now
+        source.old source.new) }
+    ensures stays { OnOk result (StaysInHand
+        window.old.children.items window.old.waiting.items
+        window.new.children.items window.new.waiting.items) }
+{
+    let below = path_below(alloc, path, name.as_str())?;
+    if let Some(known) = source.known(&below)? {
+        window.children.push(child_of(alloc, name, known)?)?;
+        return Ok(());
+    }
+    put_unknown(alloc, gateway, source, path, name, &below, window)
+}
+
+/// Stores the file of a name below a path, which are the names `below`, or sends it on its way.
+fn put_unknown<E: Exchange, S: Source>(
+    alloc: Global,
+    gateway: &mut E,
+    source: &mut S,
+    path: &[Text],
+    name: &Text,
+    below: &[Text],
+    window: &mut Window,
+) -> Result<(), TreeFault>
+    requires { below.now ≡ path.now ++ name.now ∷ [] }
+    ensures passed { OnOk result (Passes S.gave S.kept
+        (IsInHand window.new.children.items window.new.waiting.items path.now)
+        source.old source.new) }
+    ensures stays { OnOk result (StaysInHand
+        window.old.children.items window.old.waiting.items
+        window.new.children.items window.new.waiting.items) }
+{
+    let first = source.read_piece(below, true)?;
+    let size = first.len() as u64;
+    if size > MOST_BESIDE {
+        window.settle_all(alloc, gateway)?;
+        let cap = put_rest(alloc, gateway, source, below, first)?;
+        window.children.push(child_of(alloc, name, cap)?)?;
+        return Ok(());
+    }
+    let file = Waiting {
+        name: text_of(alloc, name.as_str())?,
+        bytes: Bytes::from_vec(first),
+    };
+    window.send(alloc, gateway, file)
 }

@@ -1,7 +1,9 @@
 //! Folders that files are read from.
-ghost use Rattle.std.specs.Prelude.{IfOk, OnErr};
+ghost use Rattle.std.specs.Prelude.{IfOk, IfSome, OnErr};
 
+use crate::children::Child;
 use crate::fault::LocalFault;
+use caps::Cap;
 use octets::Text;
 
 /// What stands in a folder.
@@ -15,8 +17,12 @@ pub struct Item {
 
 /// A folder that files are read from. A path is the names below it; none is the folder itself.
 ///
-/// What a call leaves of it may be told by the two relations of a type, or not told at all, as by one on a disk.
+/// A source may know the caps of files in it that were stored before: those aren't read.
+///
+/// What a call leaves of it may be told by the relations of a type, or not told at all, as by one on a disk.
 pub trait Source {
+    ghost use Rattle.std.specs.Prelude.{ℕ, List};
+    ghost use Rattle.caps.specs.declared.cap.Cap.{Cap};
     ghost use Rattle.client_tree.specs.Runs.{File};
 
     /// What a call leaves that gave a piece of a file.
@@ -24,6 +30,9 @@ pub trait Source {
 
     /// What a call leaves that gave none.
     ghost kept: { Self → Self → Type 0 } = { λ _ _. Unit {0} };
+
+    /// What a call leaves that gave the cap of a file.
+    ghost knew: { Self → List (List ℕ) → Cap → Self → Type 0 } = { λ _ _ _ _. Unit {0} };
 
     /// What stands in a folder of it.
     fn items(&mut self, path: &[Text]) -> Result<Vec<Item>, LocalFault>
@@ -35,4 +44,14 @@ pub trait Source {
         ensures ok { IfOk result (λ bytes.
             gave self.old (record { path = path.now; bytes = bytes.items }) self.new) }
         ensures err { OnErr result (kept self.old self.new) };
+
+    /// The cap of a file in it that was stored before, if it knows one.
+    fn known(&mut self, path: &[Text]) -> Result<Option<Cap>, LocalFault>
+        ensures kept { kept self.old self.new }
+        ensures cap { IfOk result (λ found. IfSome found (λ cap.
+            knew self.old path.now cap self.new)) };
+
+    /// Takes note that the files of a folder stand, with their caps.
+    fn stored(&mut self, path: &[Text], files: &[Child]) -> Result<(), LocalFault>
+        ensures { kept self.old self.new };
 }

@@ -1,7 +1,8 @@
 //! A client of a web gateway for capability-addressed storage, which trusts neither the gateway nor its servers.
 //!
-//!     woz [--gateway URL] [--quiet] put [-r] FILE|FOLDER|-
-//!                                   get [-r] CAP[/PATH] [FILE|FOLDER]
+//!     woz [--gateway URL] [--quiet] put [--jobs N] FILE|-
+//!                                   put -r [--jobs N] [--skip-existing STATE [--verify]] FOLDER
+//!                                   get [-r] [--jobs N] CAP[/PATH] [FILE|FOLDER]
 //!                                   ls [--json] CAP[/PATH]
 //!                                   check [--verify] [--read] [-r] CAP[/PATH]
 //!                                   repair [-r] CAP[/PATH]

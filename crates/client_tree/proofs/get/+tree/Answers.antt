@@ -28,9 +28,9 @@ get_children-returns-in_err-below g t c =
     (λ fs trees. trees_bound_in c.children_are_found.ensures path entries c.args.directory.now c.loop-entry.entry-index fs c.entries-entry-items.ensures.same trees)
     c.loop-entry.invariant)
 
-pub get_children-returns-in_err-get_node : goal.get_children-returns-in_err-get_node
-get_children-returns-in_err-get_node g t c =
-    let p = err_from_is_err_and c.from_residual-in_err-get_node.result c.from_residual-in_err-get_node.ensures.1 in
+pub get_children-returns-in_err-get_entry : goal.get_children-returns-in_err-get_entry
+get_children-returns-in_err-get_entry g t c =
+    let p = err_from_is_err_and c.from_residual-in_err-get_entry.result c.from_residual-in_err-get_entry.ensures.1 in
     let path : List (List ℕ) = c.args.path.now in
     let all : List Entry = c.args.directory.now in
     let entries : List Entry = c.entries-entry-items.result.now in
@@ -41,12 +41,12 @@ get_children-returns-in_err-get_node g t c =
     let among : Contains all entry =
     subst (λ (es : List Entry). Contains es entry) c.entries-entry-items.ensures.same (c.loop-entry.entry-index, c.loop-entry-test.true, sym c.entry-item.is) in
     rw p.1 (both_passed g.F.Folder.wrote g.F.Folder.kept (AreTreesOf path (take c.loop-entry.entry-index entries)) (All (IsBoundFile entry.cap below))
-    (All (IsBoundBelow all path)) c.args.folder.now c.loop-entry.folder c.get_node.new.folder
+    (All (IsBoundBelow all path)) c.args.folder.now c.loop-entry.folder c.get_entry.new.folder
     (λ fs more trees bound. All-append (IsBoundBelow all path) fs more
     (trees_bound_in c.children_are_found.ensures path entries all c.loop-entry.entry-index fs c.entries-entry-items.ensures.same trees)
     (All-weaker (IsBoundFile entry.cap below) (IsBoundBelow all path)
     (λ f known. record { entry = entry; among = among; bound = subst (λ (q : List (List ℕ)). IsBoundFile entry.cap q f) place known }) more bound))
-    c.loop-entry.invariant c.in_err-get_node.ensures)
+    c.loop-entry.invariant c.in_err-get_entry.ensures)
 
 pub get_children-loop-entry-preserved : goal.get_children-loop-entry-preserved
 get_children-loop-entry-preserved g t c =
@@ -60,10 +60,10 @@ get_children-loop-entry-preserved g t c =
     let more_of : take i entries ++ entry ∷ [] ≡ take (i + 1) entries =
     ap (λ (e : Entry). take i entries ++ e ∷ []) c.entry-item.is ∙ sym (take_more entries i entry c.loop-entry-test.true) in
     both_passed g.F.Folder.wrote g.F.Folder.kept (AreTreesOf path (take i entries)) (IsTreeOf entry.cap below) (AreTreesOf path (take (i + 1) entries))
-    c.args.folder.now c.loop-entry.folder c.get_node.new.folder
+    c.args.folder.now c.loop-entry.folder c.get_entry.new.folder
     (λ fs more trees tree. subst (λ (es : List Entry). AreTreesOf path es (fs ++ more)) more_of
     (one_more_tree path (take i entries) fs more entry trees (subst (λ (q : List (List ℕ)). IsTreeOf entry.cap q more) place tree)))
-    c.loop-entry.invariant c.in_ok-get_node.ensures
+    c.loop-entry.invariant c.in_ok-get_entry.ensures
 
 pub get_node-returns-then-left-eq0 : goal.get_node-returns-then-left-eq0
 get_node-returns-then-left-eq0 g t c =
