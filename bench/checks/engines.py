@@ -11,8 +11,9 @@ file that was acknowledged in this round is read.
 
 Before the rounds one server alone is filled, and read right after it refused uploads, as `store full`; and emptied
 (FLUSHALL), after which the same uploads put their files again at once. Two programs over the same servers read what the
-other one answered, at once. And a start is tried over servers that are down, at other places, of another K, N or secret,
-with a rotten text, and with a password: its status is looked at, or that it goes on.
+other one answered, at once. A program whose standard error is closed tells no line of its log to a server. And a start
+is tried over servers that are down, at other places, of another K, N or secret, with a rotten text, and with a
+password: its status is looked at, or that it goes on.
 
 A read is to be answered 200 with the file's bytes. An upload is to be answered 200 or one of the two 503. All bytes that
 are compared were made here.
@@ -38,7 +39,7 @@ sys.path.insert(0, os.path.join(os.path.dirname(os.path.abspath(__file__)), "../
 
 from fleet import Engine
 from kills import body_of
-from server import Client, Server, fail, serve_words, wozhinnam
+from server import Client, Server, fail, serve_words, started, wozhinnam
 
 CLIENTS = 4
 SERVERS = 5
@@ -243,6 +244,25 @@ def one_server(options, folder, faults):
     engine.kill()
 
 
+def without_errors(options, folder, faults):
+    """A program whose standard error is closed: no connection to a server has its number and is told the log."""
+    engine = Engine(os.path.join(folder, "unlogged"), durable=False)
+    engine.start()
+    words = serve_words(options.program, "--shares", "1,1", "--store", "redis:127.0.0.1:%d" % engine.port)
+    running = started(Server(["/bin/sh", "-c", 'exec "$@" 2>&-', "sh"] + words))
+    client = Client(running.address)
+    body = body_of("unlogged", options.most)
+    status, cap = client.put(body)
+    faults.wants("an upload without standard error", (status, cap), 200)
+    faults.wants("a read of it", client.get(cap), 200, body)
+    refused = int(engine.info(b"stats").split(b"total_error_replies:")[1].split(b"\r\n")[0])
+    if refused:
+        faults.add("lines that a server refused from a program without standard error", refused)
+    client.close()
+    running.kill()
+    engine.kill()
+
+
 def over(engines, *options):
     """The words of a grid over these servers, each under the same name."""
     return list(options) + sum([["--store", "redis:127.0.0.1:%d/both" % engine.port] for engine in engines], [])
@@ -345,6 +365,7 @@ def starts(options, folder):
     """How many faults there were of one server, of two programs, and of starts."""
     faults = Faults()
     one_server(options, folder, faults)
+    without_errors(options, folder, faults)
     engines = [Engine(os.path.join(folder, "s%d" % at)) for at in range(SERVERS)]
     for engine in engines:
         engine.start()

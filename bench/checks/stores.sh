@@ -1,7 +1,9 @@
 #!/bin/sh
 # `wozhinnam` over folders, the built program: each exit status that a folder or an image can give, that the folder is
-# named, that files are read after a restart, `check`, `image` and `restore`, rotten files and strangers, and a disk that
-# fills (a file system in memory, where this user may mount one). It needs curl, and takes half a minute.
+# named, that files are read after a restart, `check`, `image` and `restore`, also where standard input, output or error
+# is closed, rotten files, strangers and folders in the way, one Redis server under two names, and, where this user may
+# mount them, a folder that takes no writes and a disk that fills (a file system in memory). It needs curl, and takes
+# half a minute.
 # usage: bench/checks/stores.sh PROGRAM
 set -eu
 program=${1:?usage: bench/checks/stores.sh PROGRAM}
@@ -10,6 +12,7 @@ here=$(cd "$(dirname "$0")" && pwd)
 end() {
     kill_server
     umount "$folder/disk" 2> /dev/null || true
+    umount "$folder/bound" 2> /dev/null || true
     finish
 }
 trap end EXIT
@@ -37,6 +40,14 @@ for store in disk:/a dir: mem: mem:1k dir:/a:1k dir:/a:1GB dir:/a:16777216T; do
 done
 ends 2 --room serve --room 1GB
 ends 2 --new serve --store dir:/a --new /b
+
+# one Redis server under two names, of which none is asked; and two NAMEs on it, which are two stores
+for name in 127.0.0.1:1 127.0.0.1:01 localhost:1; do
+    ends 2 'each NAME once' serve --shares 1,1 --store redis:127.0.0.1:1 --store "redis:$name"
+    ends 2 'each NAME once' serve --shares 1,1 --store "redis:$name/a" --store redis:127.0.0.1:1/a
+done
+start --shares 1,1 --store redis:127.0.0.1:1/a --store redis:localhost:1/b
+stop
 
 # folders that can't be opened
 echo text > "$folder/file"
@@ -135,12 +146,39 @@ stop
 status=0
 "$program" image "$folder/x" "$folder/y" "$folder/z" > /dev/full 2> "$folder/why" || status=$?
 test "$status" = 27 || fail "an image on a full disk ends with $status"
-# a closed output: an image is not written into a folder's file in its place
-cp "$folder/x/lock" "$folder/lock"
-status=0
-"$program" image "$folder/x" "$folder/y" "$folder/z" >&- 2> "$folder/why" || status=$?
-test "$status" = 27 || fail "an image on a closed output ends with $status"
-cmp "$folder/x/lock" "$folder/lock" || fail 'an image was written into the lock of a folder'
+# standard input, output or error closed: the next file that is opened, as a lock, would have that number, and what is
+# printed would go into it
+sums() {
+    find "$folder/x" "$folder/y" "$folder/z" -type f -exec cksum {} + | sort
+}
+image_of_three() {
+    "$program" image "$folder/x" "$folder/y" "$folder/z"
+}
+sums > "$folder/sums"
+for closed in '<&-' '1>&-' '2>&-' '<&- 1>&-' '<&- 2>&-' '1>&- 2>&-' '<&- 1>&- 2>&-'; do
+    case $closed in
+        *1*) wanted=27 ;;
+        *) wanted=0 ;;
+    esac
+    status=0
+    eval "image_of_three > \"\$folder/given\" 2> \"\$folder/why\" $closed" || status=$?
+    test "$status" = "$wanted" || fail "an image with $closed ends with $status and not $wanted"
+    test "$wanted" != 0 || cmp "$folder/given" "$folder/image" || fail "another image with $closed"
+    sums | cmp - "$folder/sums" || fail "a folder was written by an image with $closed"
+done
+# a folder that takes no writes: its image is read, and it is not served
+mkdir "$folder/bound"
+if mount --bind "$folder/x" "$folder/bound" 2> "$folder/nothing" &&
+    mount -o remount,bind,ro "$folder/bound" 2> "$folder/nothing"; then
+    ends 0 '' check "$folder/bound" "$folder/y" "$folder/z"
+    ends 0 '' image "$folder/bound" "$folder/y" "$folder/z"
+    cmp "$folder/given" "$folder/image" || fail 'another image of a folder that takes no writes'
+    ends 14 "$folder/bound" serve $three $(stores bound y z)
+    umount "$folder/bound"
+    sums | cmp - "$folder/sums" || fail 'a folder that takes no writes was written'
+else
+    echo 'no folder can be mounted elsewhere: one that takes no writes is not tried'
+fi
 
 # rotten files and strangers
 share=$(find "$folder/x" -name '*.[0-2]' | head -n 1)
@@ -186,6 +224,26 @@ for kind in pipe device sparse folder; do
         test -f "$share" && test ! -L "$share" || fail "a share was not put in the place of a $kind"
         rm -rf "$folder"/x/new/*.folder
     done
+done
+
+# folders under the names of the files that are written before they stand, at a start and at a put: they are moved aside
+name=${share##*/}
+for how in '' ':1000000000,disk'; do
+    rm "$share"
+    for at in probe "$name"; do
+        mkdir "$folder/x/new/$at"
+        echo text > "$folder/x/new/$at/README"
+    done
+    start $three $(odd_grid "$how")
+    for at in 1 2 3; do
+        $curl -T "$folder/file$at" "$base/uri" | cmp - "$folder/cap$at" || fail 'no upload beside a folder in new/'
+    done
+    stop
+    test -f "$share" || fail 'a share was not put beside a folder in new/'
+    for at in probe "$name"; do
+        test "$(cat "$folder/x/new/$at.folder/README")" = text || fail "a folder new/$at was not moved aside"
+    done
+    rm -r "$folder"/x/new/*.folder
 done
 ends 0 '' check "$folder/x" "$folder/y" "$folder/z"
 

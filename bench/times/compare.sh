@@ -103,9 +103,9 @@ awk -v body=4194304 -v builds="$builds" '
         row(build, "apply", "apply", "openssl_with", "OpenSSL with AES instructions", "none")
         row(build, "encode", "encode", "zfec", "zfec", "4 or more")
         row(build, "decode", "decode", "zfec", "zfec", "1 or more")
-        row(build, "put", "put", "python", "Python over the libraries", "none")
-        row(build, "get", "get", "python", "Python over the libraries", "none")
-        row(build, "get, last shares", "get_secondary", "python", "Python over the libraries", "none")
+        row(build, "put", "put", "python", "Python over the libraries", build == "v3" ? "1.82 or more" : "none")
+        row(build, "get", "get", "python", "Python over the libraries", build == "v3" ? "1.54 or more" : "none")
+        row(build, "get, last shares", "get_secondary", "python", "Python over the libraries", build == "v3" ? "1.82 or more" : "none")
         print ""
         print "| part | time | sha2 alone for its hashing | times that | aim |"
         print "|---|---|---|---|---|"
@@ -114,7 +114,7 @@ awk -v body=4194304 -v builds="$builds" '
         beside(build, "get, last shares", "get_secondary", "hash_get", "0.9 or less")
         first = least[build " get_1m"]
         again = least[build " get_1m_again"]
-        if (first > 0) printf "\n1 MiB read: %.2f ms, and again: %.2f ms, %.3f of that (aim: 0.05 or less)\n", first / 1000, again / 1000, again / first
+        if (first > 0) printf "\n1 MiB read: %.2f ms, and again: %.2f ms, %.3f of that (aim: 0.033 or less)\n", first / 1000, again / 1000, again / first
         printf "\ngather of ten shares: %.2f us among 10, %.2f us among 100,000\n\n", least[build " gather_10"] / 1000, least[build " gather_100000"] / 1000
     }
     END {
