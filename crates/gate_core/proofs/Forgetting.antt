@@ -16,23 +16,24 @@ use Rattle.gate_core.specs.declared.fault.GatewayFault.{GatewayFault}
 use Rattle.gate_core.specs.declared.fault.GatewayFault.TheVariants.{NotOpen, NoMemory}
 use Rattle.gate_core.specs.Events.{Event, Take}
 use Rattle.gate_core.specs.Came.{Opening, Came, GoesOn}
-use Rattle.gate_core.specs.Held.{Held, Connections, State, IsBare, connection_at, waiting, waiting_in, is_closed_in, bytes_refusal, take_refusal, forget_refusal, going_refusal}
-use Rattle.gate_core.specs.Lefts.{with_held, taken}
+use Rattle.gate_core.specs.ConnectionState.{ConnectionState, Connections, State, IsBare, connection_at, waiting, waiting_in, is_closed_in, bytes_refusal, take_refusal, forget_refusal, going_refusal}
+use Rattle.gate_core.specs.AfterCall.{with_held, taken}
 use Rattle.gate_core.specs.Forgotten.{gone, gone_in, gone_at, with_gone}
+use Rattle.gate_core.specs.Kept.{kept_in}
 use Rattle.gate_core.proofs.Maps.{get_viewed, written, insert_same, get-insert_other, Changed}
 use Rattle.gate_core.proofs.Arrivals.{same_state, is_with_held, meant, some_is}
 
 -- ---- entries, and others behind them
 
-abbrev first_of : Option Held → Option Held → Option Held
+abbrev first_of : Option ConnectionState → Option ConnectionState → Option ConnectionState
 first_of (Some x) o = Some x
 first_of None o = o
 
-chosen : (b : Bool) (v : Held) (x o : Option Held) → cond b (Some v) (first_of x o) ≡ first_of (cond b (Some v) x) o
+chosen : (b : Bool) (v : ConnectionState) (x o : Option ConnectionState) → cond b (Some v) (first_of x o) ≡ first_of (cond b (Some v) x) o
 chosen true v x o = refl
 chosen false v x o = refl
 
-lookup-behind : (p : ℕ → Bool) (es gs : List (ℕ × Held)) → lookup p (es ++ gs) ≡ first_of (lookup p es) (lookup p gs)
+lookup-behind : (p : ℕ → Bool) (es gs : List (ℕ × ConnectionState)) → lookup p (es ++ gs) ≡ first_of (lookup p es) (lookup p gs)
 lookup-behind p [] gs = refl
 lookup-behind p (e ∷ es) gs = ap (cond (p e.0) (Some e.1)) (lookup-behind p es gs) ∙ chosen (p e.0) e.1 (lookup p es) (lookup p gs)
 
@@ -47,14 +48,14 @@ lookup_listed q (k ∷ ks) = ap (cond (eq_by_cmp nat_cmp q k) (Some gone)) (look
 lookup_gone : (ids : set.FinSet nat_cmp) (q : ℕ) → lookup (is_at (nat_cmp q)) (gone_at (set.items ids)) ≡ gone_in ids q
 lookup_gone ids q = lookup_listed q (set.items ids) ∙ ap (λ b. cond b (Some gone) None) (sym (set.contains-items ids q))
 
-get_all : (es : List (ℕ × Held)) (ids : set.FinSet nat_cmp) (q : ℕ) → map.get (with_gone es ids) q ≡ first_of (lookup (is_at (nat_cmp q)) es) (gone_in ids q)
+get_all : (es : List (ℕ × ConnectionState)) (ids : set.FinSet nat_cmp) (q : ℕ) → map.get (with_gone es ids) q ≡ first_of (lookup (is_at (nat_cmp q)) es) (gone_in ids q)
 get_all es ids q =
     get_viewed (es ++ gone_at (set.items ids)) q
     ∙ lookup-behind (is_at (nat_cmp q)) es (gone_at (set.items ids))
     ∙ ap (first_of (lookup (is_at (nat_cmp q)) es)) (lookup_gone ids q)
 
 -- a value that is put at a key
-pub put_all : (es fs : List (ℕ × Held)) (ids : set.FinSet nat_cmp) (k : ℕ) (v : Held)
+pub put_all : (es fs : List (ℕ × ConnectionState)) (ids : set.FinSet nat_cmp) (k : ℕ) (v : ConnectionState)
     → ((q : ℕ) → lookup (is_at (nat_cmp q)) fs ≡ cond (is_at (nat_cmp k) q) (Some v) (lookup (is_at (nat_cmp q)) es))
     → with_gone fs ids ≡ map.insert (with_gone es ids) k v
 put_all es fs ids k v puts =
@@ -65,12 +66,12 @@ put_all es fs ids k v puts =
     ∙ sym (chosen (is_at (nat_cmp k) q) v (lookup (is_at (nat_cmp q)) es) (lookup (is_at (nat_cmp q)) behind))
     ∙ ap (cond (is_at (nat_cmp k) q) (Some v)) (sym (lookup-behind (is_at (nat_cmp q)) es behind)))
 
-parted : (a b : Bool) (o : Option Held) → first_of (cond a None o) (cond (a || b) (Some gone) None) ≡ cond a (Some gone) (first_of o (cond b (Some gone) None))
+parted : (a b : Bool) (o : Option ConnectionState) → first_of (cond a None o) (cond (a || b) (Some gone) None) ≡ cond a (Some gone) (first_of o (cond b (Some gone) None))
 parted true b o = refl
 parted false b o = refl
 
 -- an entry that is taken out and put behind
-pub put_away : (es fs : List (ℕ × Held)) (ids : set.FinSet nat_cmp) (k : ℕ)
+pub put_away : (es fs : List (ℕ × ConnectionState)) (ids : set.FinSet nat_cmp) (k : ℕ)
     → ((q : ℕ) → lookup (is_at (nat_cmp q)) fs ≡ cond (is_at (nat_cmp k) q) None (lookup (is_at (nat_cmp q)) es))
     → with_gone fs (set.insert ids k) ≡ map.insert (with_gone es ids) k gone
 put_away es fs ids k puts =
@@ -83,7 +84,7 @@ put_away es fs ids k puts =
     ∙ ap (cond (eq_by_cmp nat_cmp q k) (Some gone)) (sym (get_all es ids q))
     ∙ sym (map.get-insert nat_cmp_total (with_gone es ids) k gone q))
 
-pub nothing_held : (es : List (ℕ × Held)) (ids : set.FinSet nat_cmp) → es ≡ [] → ids ≡ set.empty → with_gone es ids ≡ map.empty
+pub nothing_held : (es : List (ℕ × ConnectionState)) (ids : set.FinSet nat_cmp) → es ≡ [] → ids ≡ set.empty → with_gone es ids ≡ map.empty
 nothing_held es ids none empty =
     map.same_map nat_cmp_total map.nat_cmp-IsAntisymmetric _ _ (λ q.
     get_all es ids q
@@ -92,9 +93,9 @@ nothing_held es ids none empty =
     ∙ ap (λ b. cond b (Some gone) None) (set.contains-empty nat_cmp q)
     ∙ sym (map.get-empty nat_cmp q))
 
-module _ (m : Connections) (es : List (ℕ × Held)) (ids : set.FinSet nat_cmp) (k : ℕ) (is : with_gone es ids ≡ m) where
+module _ (m : Connections) (es : List (ℕ × ConnectionState)) (ids : set.FinSet nat_cmp) (k : ℕ) (is : with_gone es ids ≡ m) where
   -- what `get_mut` lent was left at `new`
-  pub lent : (fs : List (ℕ × Held)) (old new : Held) → Some old ≡ lookup (is_at (nat_cmp k)) es
+  pub lent : (fs : List (ℕ × ConnectionState)) (old new : ConnectionState) → Some old ≡ lookup (is_at (nat_cmp k)) es
       → (IsSome (lookup (is_at (nat_cmp k)) es) → (q : ℕ) → lookup (is_at (nat_cmp q)) fs ≡ cond (is_at (nat_cmp k) q) (Some new) (lookup (is_at (nat_cmp q)) es))
       → Changed m (with_gone fs ids) k old new
   lent fs old new had puts = record {
@@ -102,13 +103,13 @@ module _ (m : Connections) (es : List (ℕ × Held)) (ids : set.FinSet nat_cmp) 
     put = put_all es fs ids k new (puts (ap is_some (sym had))) ∙ ap (λ g. map.insert g k new) is;
   }
 
-  pub entry_found : (held : Held) → Some held ≡ lookup (is_at (nat_cmp k)) es → map.get m k ≡ Some held
+  pub entry_found : (held : ConnectionState) → Some held ≡ lookup (is_at (nat_cmp k)) es → map.get m k ≡ Some held
   entry_found held had = ap (λ g. map.get g k) (sym is) ∙ get_all es ids k ∙ ap (λ o. first_of o (gone_in ids k)) (sym had)
 
   pub no_entry : None ≡ lookup (is_at (nat_cmp k)) es → map.get m k ≡ gone_in ids k
   no_entry none = ap (λ g. map.get g k) (sym is) ∙ get_all es ids k ∙ ap (λ o. first_of o (gone_in ids k)) (sym none)
 
-  some_first : (o : Option Held) (b : Bool) → is_some (first_of o (cond b (Some gone) None)) ≡ (is_some o || b)
+  some_first : (o : Option ConnectionState) (b : Bool) → is_some (first_of o (cond b (Some gone) None)) ≡ (is_some o || b)
   some_first (Some x) b = refl
   some_first None true = refl
   some_first None false = refl
@@ -126,7 +127,7 @@ pub on_ok_if : {T E : Type 0} (r : Result T E) (X : Type 0) → X → OnOk r X
 on_ok_if (Ok x) X h = h
 on_ok_if (Err e) X h = tt
 
-gone_is : (b : Bool) (held : Held) → cond b (Some gone) None ≡ Some held → gone ≡ held
+gone_is : (b : Bool) (held : ConnectionState) → cond b (Some gone) None ≡ Some held → gone ≡ held
 gone_is true held e = some_is gone held e
 gone_is false held e = cc
 
@@ -152,6 +153,10 @@ pub gone_closed : (b : Bool) → is_closed_in (cond b (Some gone) None) ≡ b
 gone_closed true = or_true (is_left_closed (part_of []))
 gone_closed false = refl
 
+nothing_kept : (b : Bool) → kept_in (cond b (Some gone) None) ≡ 0
+nothing_kept true = refl
+nothing_kept false = refl
+
 module _ (g h : State) (id : ℕ) (ids : set.FinSet nat_cmp) (unheld : connection_at g id ≡ gone_in ids id) where
   pub unheld_refused : (P : Type 0) (Q : GatewayFault → Type 0) → Q NotOpen → h ≡ g → MatchOption (bytes_refusal (connection_at g id)) P (λ e. Q e × (h ≡ g))
   unheld_refused P Q refused same = subst (λ o. MatchOption o P (λ e. Q e × (h ≡ g))) (sym (ap bytes_refusal unheld ∙ no_bytes (set.contains ids id))) (refused, same)
@@ -159,18 +164,21 @@ module _ (g h : State) (id : ℕ) (ids : set.FinSet nat_cmp) (unheld : connectio
   pub unheld_waits : waiting g id ≡ []
   unheld_waits = ap waiting_in unheld ∙ nothing_waits (set.contains ids id)
 
+  pub unheld_keeps : kept_in (connection_at g id) ≡ 0
+  unheld_keeps = ap kept_in unheld ∙ nothing_kept (set.contains ids id)
+
   pub unheld_closed : set.contains ids id ≡ is_closed_in (connection_at g id)
   unheld_closed = sym (ap is_closed_in unheld ∙ gone_closed (set.contains ids id))
 
   -- what waits of it is taken, which is nothing
-  pub unheld_taken : (max : ℕ) (held : Held) → connection_at g id ≡ Some held → h ≡ g → h ≡ with_held g id (taken max held)
+  pub unheld_taken : (max : ℕ) (held : ConnectionState) → connection_at g id ≡ Some held → h ≡ g → h ≡ with_held g id (taken max held)
   unheld_taken max held found same =
       let is : taken max held ≡ gone = ap (taken max) (sym (gone_is (set.contains ids id) held (sym unheld ∙ found))) ∙ taken_gone max in
       same ∙ same_state (with_held g id (taken max held)) g refl
       (sym (insert_same g.connections id (taken max held) (found ∙ ap Some (sym (is ∙ gone_is (set.contains ids id) held (sym unheld ∙ found)))))) refl refl
 
   -- what an id without an entry is answered
-  pub unheld_answer : {T : Type 0} (r : Result T GatewayFault) (f : Option Held → Option GatewayFault) → MatchOption (f (gone_in ids id)) (IsOk r) (λ e. r ≡ Err e)
+  pub unheld_answer : {T : Type 0} (r : Result T GatewayFault) (f : Option ConnectionState → Option GatewayFault) → MatchOption (f (gone_in ids id)) (IsOk r) (λ e. r ≡ Err e)
       → MatchOption (f (connection_at g id)) (IsOkUnless r NoMemory) (λ e. r ≡ Err e)
   unheld_answer r f answer =
       subst (λ o. MatchOption (f o) (IsOkUnless r NoMemory) (λ e. r ≡ Err e)) (sym unheld)
@@ -181,7 +189,7 @@ module _ (g h : State) (id : ℕ) (ids : set.FinSet nat_cmp) (unheld : connectio
 
   -- taking from it goes on
   pub unheld_came : {T : Type 0} (items : T → List ℕ) (r : Result T GatewayFault) (max : ℕ) → h ≡ g
-      → ((opening : Opening) (g : State) (events : List Event) (id max : ℕ) (held : Held) → Came opening g events → connection_at g id ≡ Some held → Came opening (with_held g id (taken max held)) (events ++ Take id (take max held.waiting) ∷ []))
+      → ((opening : Opening) (g : State) (events : List Event) (id max : ℕ) (held : ConnectionState) → Came opening g events → connection_at g id ≡ Some held → Came opening (with_held g id (taken max held)) (events ++ Take id (take max held.waiting) ∷ []))
       → MatchOption (take_refusal (gone_in ids id)) (IsOk r) (λ e. r ≡ Err e) → IfOk r (λ x. items x ≡ []) → IfOk r (λ x. GoesOn g h (Take id (items x)))
   unheld_came items r max same law answer given =
       elim (set.contains ids id) as (λ b. set.contains ids id ≡ b → MatchOption (take_refusal (cond b (Some gone) None)) (IsOk r) (λ e. r ≡ Err e) → IfOk r (λ x. GoesOn g h (Take id (items x)))) [
@@ -195,12 +203,12 @@ module _ (g h : State) (id : ℕ) (ids : set.FinSet nat_cmp) (unheld : connectio
 
 -- ---- `forget`
 
-module _ (g : State) (id : ℕ) (old : Held) (found : connection_at g id ≡ Some old) where
+module _ (g : State) (id : ℕ) (old : ConnectionState) (found : connection_at g id ≡ Some old) where
   pub forgettable : (o : Option GatewayFault) (P : Type 0) (Q : GatewayFault → Type 0) → going_refusal old.stage ≡ o → MatchOption o P Q → MatchOption (forget_refusal (connection_at g id)) P Q
   forgettable o P Q is answer = subst (λ x. MatchOption x P Q) (sym (ap forget_refusal found ∙ is)) answer
 
   -- of one that was cut nothing waits
-  pub cut_forgotten : (held : Held) → connection_at g id ≡ Some held → IsBare old → old.stage ≡ stage.Cut → g ≡ with_held g id (taken (length held.waiting) held)
+  pub cut_forgotten : (held : ConnectionState) → connection_at g id ≡ Some held → IsBare old → old.stage ≡ stage.Cut → g ≡ with_held g id (taken (length held.waiting) held)
   cut_forgotten held there bare cut =
       let is = meant (connection_at g id) old held found there in
       let none : held.waiting ≡ [] = subst (λ x. x.waiting ≡ []) is (bare.cut cut) in
@@ -208,7 +216,7 @@ module _ (g : State) (id : ℕ) (old : Held) (found : connection_at g id ≡ Som
       same_state (with_held g id (taken (length held.waiting) held)) g refl (sym (insert_same g.connections id (taken (length held.waiting) held) (there ∙ ap Some (sym same)))) refl refl
 
   -- one that ended is put away
-  pub ended_forgotten : (h : State) (held : Held) → connection_at g id ≡ Some held → IsBare old → old.stage ≡ stage.Ended
+  pub ended_forgotten : (h : State) (held : ConnectionState) → connection_at g id ≡ Some held → IsBare old → old.stage ≡ stage.Ended
       → h.settings ≡ g.settings → h.connections ≡ map.insert g.connections id gone → h.grid ≡ g.grid → h.tally ≡ g.tally → h ≡ with_held g id (taken (length held.waiting) held)
   ended_forgotten h held there bare ended settings put grid counts =
       let is = meant (connection_at g id) old held found there in
@@ -222,8 +230,8 @@ both_ways (Ok x) X ok err = ok
 both_ways (Err e) X ok err = err
 
 module _ (g h : State) (id : ℕ) (r : Result (Unit {0}) GatewayFault) (answer : MatchOption (forget_refusal (connection_at g id)) (IsOkUnless r NoMemory) (λ e. r ≡ Err e))
-    (left : (held : Held) → connection_at g id ≡ Some held → OnOk r (h ≡ with_held g id (taken (length held.waiting) held))) where
-  where_forgotten : (X : Type 0) → ((held : Held) → connection_at g id ≡ Some held → h ≡ with_held g id (taken (length held.waiting) held) → X) → OnOk r X
+    (left : (held : ConnectionState) → connection_at g id ≡ Some held → OnOk r (h ≡ with_held g id (taken (length held.waiting) held))) where
+  where_forgotten : (X : Type 0) → ((held : ConnectionState) → connection_at g id ≡ Some held → h ≡ with_held g id (taken (length held.waiting) held) → X) → OnOk r X
   where_forgotten X step =
       elim (connection_at g id) as (λ o. connection_at g id ≡ o → MatchOption (forget_refusal o) (IsOkUnless r NoMemory) (λ e. r ≡ Err e) → OnOk r X) [
         | None ↦ λ _ err. subst (λ x. OnOk x X) (sym err) tt
@@ -236,7 +244,7 @@ module _ (g h : State) (id : ℕ) (r : Result (Unit {0}) GatewayFault) (answer :
       (where_forgotten (connection_at h other ≡ connection_at g other) (λ held found is. ap (λ s. connection_at s other) is ∙ get-insert_other g.connections id other (taken (length held.waiting) held) apart))
       (on_err_weaker r (ap (λ s. connection_at s other)) err)
 
-  pub forgotten_came : ((opening : Opening) (g : State) (events : List Event) (id max : ℕ) (held : Held) → Came opening g events → connection_at g id ≡ Some held → Came opening (with_held g id (taken max held)) (events ++ Take id (take max held.waiting) ∷ []))
+  pub forgotten_came : ((opening : Opening) (g : State) (events : List Event) (id max : ℕ) (held : ConnectionState) → Came opening g events → connection_at g id ≡ Some held → Came opening (with_held g id (taken max held)) (events ++ Take id (take max held.waiting) ∷ []))
       → OnOk r (GoesOn g h (Take id (waiting g id)))
   forgotten_came law =
       where_forgotten (GoesOn g h (Take id (waiting g id))) (λ held found is opening events came.

@@ -4,7 +4,7 @@ use Rattle.std.specs.Ordering.{nat_cmp}
 use Rattle.std.specs.FinMap as map
 use Rattle.gate_core.specs.Events.{Event}
 use Rattle.gate_core.specs.Items.{items}
-use Rattle.gate_core.specs.Held.{State, waiting, waiting_in}
+use Rattle.gate_core.specs.ConnectionState.{State, waiting, waiting_in}
 use Rattle.gate_core.specs.Came.{Opening, Came, GoesOn, Stays}
 use Rattle.gate_core.specs.Isolated.{Isolates, IsolatesFirst, IsolatesAfter, IsolatesStill}
 

@@ -20,12 +20,13 @@ use Rattle.web_request.specs.declared.fault.WebFault.TheVariants.{NoMemory}
 use Rattle.web_request.specs.Requests.{interpreted}
 use Rattle.web_ops.specs.declared.reply.Reply.{Reply}
 use Rattle.web_ops.specs.Encoding.{Encoding, encoding_of}
-use Rattle.web_ops.specs.Replies.{refusal_reply}
 use Rattle.web_ops.specs.Uploads.{upload_in, after_stored}
 use Rattle.web_ops.specs.Answers.{request_reply}
 use Rattle.web_ops.specs.Replied.{IsReply}
 use Rattle.web_ops.specs.Changes.{HasRoomFor, IsStoredIn, IsBegunIn, TellsOfIn, Follows}
-use Rattle.gate_core.specs.Settings.{Settings, settings_of}
+use Rattle.gate_core.specs.declared.pages.Page.{Page}
+use Rattle.gate_core.specs.Settings.{Settings, setup_of, settings_of}
+use Rattle.gate_core.specs.Pages.{reply_elsewhere}
 use Rattle.gate_core.specs.Requests.{Interpreted, web_head, asked_of}
 use Rattle.gate_core.specs.Uploaded.{BringsBytes}
 use Rattle.gate_core.specs.Rooms.{Rooms, brought_by}
@@ -82,15 +83,15 @@ room_for (Some u) old w rooms shows fits = λ s. fit_in (new_bytes (length old.s
 
 -- ---- a request is carried out
 
-performed : {E : Type 0} (e : Encoding) (request : Request) (r : Result Reply E) (old new : GridState) → Leaves old new
+performed : {E : Type 0} (e : Encoding) (pages : List Page) (head : Head) (request : Request) (r : Result Reply E) (old new : GridState) → Leaves old new
     → IfOk r (λ reply. IsReply e request reply)
     → (IsHonest old → HasRoomFor old (upload_in e request) → NoneFailed old new → IfOk r (λ reply. reply ≡ request_reply e (look_in (stood old)) request))
     → (IsHonest old → HasRoomFor old (upload_in e request) → NoneFailed old new → OnOk r (IsStoredIn (upload_in e request) old new))
     → (IsHonest old → HasRoomFor old (upload_in e request) → NoneFailed old new → OnOk r (Follows (upload_in e request) old new))
     → OnOk r (BringsBytes (upload_in e request))
     → IfOk r (λ reply. TellsOfIn (upload_in e request) reply old new)
-    → IfOk r (λ reply. IsCarriedOut (settings_of e (length old.stores)) (Ok request) reply old new)
-performed e request (Ok reply) old new leaves fits written stored follows bytes tells = record {
+    → IfOk r (λ reply. IsCarriedOut (settings_of (setup_of e pages) (length old.stores)) head (Ok request) reply old new)
+performed e pages head request (Ok reply) old new leaves fits written stored follows bytes tells = record {
   fits = fits;
   bytes = bytes;
   tells = tells;
@@ -101,7 +102,7 @@ performed e request (Ok reply) old new leaves fits written stored follows bytes 
         stores = Shows-stored (upload_in e request) old new w rooms leaves (stored shows.honest room none) (follows shows.honest room none) shows;
       };
 }
-performed e request (Err failed) old new leaves fits written stored follows bytes tells = tt
+performed e pages head request (Err failed) old new leaves fits written stored follows bytes tells = tt
 
 -- ---- what was asked for
 
@@ -112,7 +113,7 @@ asked_as head body same asked is read = ap (λ h. interpreted h body) (sym is) �
 same_encoding : (e : Encoding) (k n : ℕ) (secret : List ℕ) → k ≡ e.k → n ≡ e.n → secret ≡ e.secret → encoding_of k n secret ≡ e
 same_encoding e k n secret a b c i = record { k = a i; n = b i; secret = c i }
 
-pub carried_out : {E : Type 0} (e : Encoding) (k n : ℕ) (secret : List ℕ) (head : Head) (body : List ℕ) (same : WebHead) (request : Request) (r : Result Reply E) (old new : GridState)
+pub carried_out : {E : Type 0} (e : Encoding) (pages : List Page) (k n : ℕ) (secret : List ℕ) (head : Head) (body : List ℕ) (same : WebHead) (request : Request) (r : Result Reply E) (old new : GridState)
     → k ≡ e.k → n ≡ e.n → secret ≡ e.secret
     → same ≡ web_head head → interpreted same body ≡ Ok request → Leaves old new
     → IfOk r (λ reply. IsReply (encoding_of k n secret) request reply)
@@ -121,11 +122,11 @@ pub carried_out : {E : Type 0} (e : Encoding) (k n : ℕ) (secret : List ℕ) (h
     → (IsHonest old → HasRoomFor old (upload_in (encoding_of k n secret) request) → NoneFailed old new → OnOk r (Follows (upload_in (encoding_of k n secret) request) old new))
     → OnOk r (BringsBytes (upload_in (encoding_of k n secret) request))
     → IfOk r (λ reply. TellsOfIn (upload_in (encoding_of k n secret) request) reply old new)
-    → IfOk r (λ reply. IsCarriedOut (settings_of e (length old.stores)) (asked_of head body) reply old new)
-carried_out e k n secret head body same request r old new is_k is_n is_secret is_head read leaves fits written stored follows bytes tells =
-    subst (λ asked. IfOk r (λ reply. IsCarriedOut (settings_of e (length old.stores)) asked reply old new)) (sym (asked_as head body same (Ok request) is_head read))
-    (subst (λ f. IfOk r (λ reply. IsCarriedOut (settings_of f (length old.stores)) (Ok request) reply old new)) (same_encoding e k n secret is_k is_n is_secret)
-    (performed (encoding_of k n secret) request r old new leaves fits written stored follows bytes tells))
+    → IfOk r (λ reply. IsCarriedOut (settings_of (setup_of e pages) (length old.stores)) head (asked_of head body) reply old new)
+carried_out e pages k n secret head body same request r old new is_k is_n is_secret is_head read leaves fits written stored follows bytes tells =
+    subst (λ asked. IfOk r (λ reply. IsCarriedOut (settings_of (setup_of e pages) (length old.stores)) head asked reply old new)) (sym (asked_as head body same (Ok request) is_head read))
+    (subst (λ f. IfOk r (λ reply. IsCarriedOut (settings_of (setup_of f pages) (length old.stores)) head (Ok request) reply old new)) (same_encoding e k n secret is_k is_n is_secret)
+    (performed (encoding_of k n secret) pages head request r old new leaves fits written stored follows bytes tells))
 
 -- a beginning of its upload was put, if any
 pub begun_out : (e : Encoding) (k n : ℕ) (secret : List ℕ) (head : Head) (body : List ℕ) (same : WebHead) (request : Request) (old new : GridState)
@@ -148,9 +149,10 @@ no_error E x e = cc
 -- what is no request is refused, and memory that ran out gives no reply
 pub refused : {E : Type 0} (settings : Settings) (head : Head) (body : List ℕ) (same : WebHead) (fault : WebFault) (r : Result Reply E) (g : GridState)
     → same ≡ web_head head → (fault ≢ NoMemory → interpreted same body ≡ Err fault)
-    → IfOk r (λ reply. reply ≡ refusal_reply fault) → (fault ≡ NoMemory → IsErr r)
-    → IfOk r (λ reply. IsCarriedOut settings (asked_of head body) reply g g)
+    → IfOk r (λ reply. reply ≡ reply_elsewhere settings.pages same.method same.target fault) → (fault ≡ NoMemory → IsErr r)
+    → IfOk r (λ reply. IsCarriedOut settings head (asked_of head body) reply g g)
 refused {E = E} settings head body same fault (Ok reply) g is_head read is memory =
-    subst (λ asked. IsCarriedOut settings asked reply g g) (sym (asked_as head body same (Err fault) is_head (read (λ e. no_error E reply (memory e)))))
-    (record { fits = is; bytes = tt; tells = tt; calm = λ w rooms shows brings none. record { written = is; stores = Shows-same g w rooms shows } })
+    let as_sent : reply ≡ reply_elsewhere settings.pages head.method head.target fault = is ∙ ap (λ (h : WebHead). reply_elsewhere settings.pages h.method h.target fault) is_head in
+    subst (λ asked. IsCarriedOut settings head asked reply g g) (sym (asked_as head body same (Err fault) is_head (read (λ e. no_error E reply (memory e)))))
+    (record { fits = as_sent; bytes = tt; tells = tt; calm = λ w rooms shows brings none. record { written = as_sent; stores = Shows-same g w rooms shows } })
 refused settings head body same fault (Err failed) g is_head read is memory = tt

@@ -6,10 +6,9 @@ use Rattle.http_edge.specs.declared.item.Item.TheVariants.{Request as RequestIte
 use Rattle.http_edge.specs.declared.item.Head.{Head}
 use Rattle.grid.specs.GridState.{GridState, IsHonest}
 use Rattle.grid.specs.Leaves.{Leaves}
-use Rattle.web_ops.specs.Encoding.{Encoding}
 use Rattle.web_ops.specs.Changes.{IsBegunIn}
 use Rattle.gate_core.specs.declared.tally.Tally.{Tally}
-use Rattle.gate_core.specs.Settings.{Settings, settings_of, under, encoding_in}
+use Rattle.gate_core.specs.Settings.{Setup, Settings, settings_of, under, encoding_in}
 use Rattle.gate_core.specs.Requests.{asked_of}
 use Rattle.gate_core.specs.Runs.{upload_asked, upload_by}
 use Rattle.gate_core.specs.Served.{AreServed, AreServedAfter}
@@ -42,7 +41,7 @@ stopped_first s secret items g t = record {
 }
 
 -- at an item after those that were answered
-pub stopped_at : (p : Encoding) (n : ℕ) (secret : List ℕ) (items those : List Item) (item : Item) (w1 w2 : List ℕ) (g1 g2 g3 : GridState) (t1 t2 t3 : Tally) → length g1.stores ≡ n
+pub stopped_at : (p : Setup) (n : ℕ) (secret : List ℕ) (items those : List Item) (item : Item) (w1 w2 : List ℕ) (g1 g2 g3 : GridState) (t1 t2 t3 : Tally) → length g1.stores ≡ n
     → AreServedAfter (settings_of p n) secret those w1 w2 g1 g2 → those ≡ take (length those) items → slice_get items (length those) ≡ Some item → Leaves g2 g3
     → (IsHonest g2 → IsBegunIn (upload_by (under (settings_of p (length g2.stores)) secret) item) g2 g3)
     → AreTalliedAfter those w1 w2 t1 t2 → t3 ≡ t2

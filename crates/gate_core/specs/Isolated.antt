@@ -7,7 +7,7 @@ use Rattle.gate_core.specs.Runs.{said_by, said}
 use Rattle.gate_core.specs.Reach.{only, kept_by, kept}
 use Rattle.gate_core.specs.Uploaded.{IsLeftBy}
 use Rattle.gate_core.specs.Apart.{Apart}
-use Rattle.gate_core.specs.Held.{State, waiting}
+use Rattle.gate_core.specs.ConnectionState.{State, waiting}
 use Rattle.gate_core.specs.Came.{Opening, Came}
 
 -- What a caller was handed in these calls, and then what waits for it, is what the written answers say when the items of

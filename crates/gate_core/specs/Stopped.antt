@@ -9,8 +9,8 @@ use Rattle.web_ops.specs.Changes.{IsBegunIn}
 use Rattle.gate_core.specs.declared.tally.Tally.{Tally}
 use Rattle.gate_core.specs.Settings.{Settings, under}
 use Rattle.gate_core.specs.Runs.{upload_by}
-use Rattle.gate_core.specs.Held.{Held, State, secret_at}
-use Rattle.gate_core.specs.Lefts.{with_held, with_grid, with_tally, cut}
+use Rattle.gate_core.specs.ConnectionState.{ConnectionState, State, secret_at}
+use Rattle.gate_core.specs.AfterCall.{with_held, with_grid, with_tally, cut}
 use Rattle.gate_core.specs.Served.{AreServed}
 use Rattle.gate_core.specs.Tallies.{AreTallied}
 
@@ -34,6 +34,6 @@ pub record IsStopped (settings : Settings) (secret : List ℕ) (items : List Ite
 
 -- Memory ran out where a piece came on a connection: it stopped at one of the items that the piece completes. Of the
 -- connection nothing is left, and all but the stores and the tally is as it was.
-pub record IsCutShort (old new : State) (id : ℕ) (before : Held) (piece : List ℕ) : Type 0 where
+pub record IsCutShort (old new : State) (id : ℕ) (before : ConnectionState) (piece : List ℕ) : Type 0 where
   pub left : new ≡ with_tally (with_grid (with_held old id cut) new.grid) new.tally
   pub stopped : IsStopped old.settings (secret_at old.settings before) (frame_from before.conn piece) old.grid new.grid old.tally new.tally

@@ -4,6 +4,8 @@
 
 /// Why a call was refused.
 mod fault;
+/// Pages of the gateway's own, beside the web API.
+mod pages;
 /// What a gateway is set up with.
 mod parameters;
 /// Answering requests over a grid.
@@ -31,4 +33,5 @@ pub mod laws;
 
 pub use fault::{GatewayFault, RestoreFault};
 pub use gateway::Gateway;
+pub use pages::{Page, Pages};
 pub use tally::Tally;

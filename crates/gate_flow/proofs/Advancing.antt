@@ -3,7 +3,7 @@ use Rattle.std.proofs.Common.{◌≡◌, ◌≢◌, ℕ, suc, ◌≤◌, List, [
 use Rattle.std.specs.Prelude.{IsTrue, ◌↔◌, MatchBool}
 use Rattle.std.proofs.lemmas.List.{length-take}
 use Rattle.gate_core.specs.Events.{Take}
-use Rattle.gate_core.specs.Held.{State, connection_at, bytes_refusal}
+use Rattle.gate_core.specs.ConnectionState.{State, connection_at, bytes_refusal}
 use Rattle.gate_core.specs.Came.{GoesOn}
 use Rattle.gate_flow.specs.declared.want.Want.{Want}
 use Rattle.gate_flow.specs.declared.want.Want.TheVariants.{Read, Advance, Write, Nothing}

@@ -10,8 +10,8 @@ use Rattle.gate_core.specs.declared.stage.Stage.{Stage}
 use Rattle.gate_core.specs.declared.stage.Stage.TheVariants as stage
 use Rattle.gate_core.specs.declared.fault.GatewayFault.{GatewayFault}
 use Rattle.gate_core.specs.Events.{Event, Take}
-use Rattle.gate_core.specs.Held.{Held, State, connection_at, waiting, waiting_in, cut_refusal, forget_refusal}
-use Rattle.gate_core.specs.Lefts.{with_held, taken}
+use Rattle.gate_core.specs.ConnectionState.{ConnectionState, State, connection_at, waiting, waiting_in, cut_refusal, forget_refusal}
+use Rattle.gate_core.specs.AfterCall.{with_held, taken}
 use Rattle.gate_core.specs.Faithful.{Faithful, FaithfulAt}
 use Rattle.gate_flow.specs.Led.{IsLed}
 use Rattle.gate_flow.specs.Hosted.{IsForgotten}
@@ -29,7 +29,7 @@ cut_not_open : (st : Stage) → st ≡ stage.Cut → st ≡ stage.Open → ⊥
 cut_not_open st is open_is = cc
 
 -- one on which memory ran out is told no more, so what is taken of it is no call
-cut_told : (g : State) (id max : ℕ) (held : Held) (events : List Event) → connection_at g id ≡ Some held → held.stage ≡ stage.Cut → Faithful g events → Faithful (with_held g id (taken max held)) events
+cut_told : (g : State) (id max : ℕ) (held : ConnectionState) (events : List Event) → connection_at g id ≡ Some held → held.stage ≡ stage.Cut → Faithful g events → Faithful (with_held g id (taken max held)) events
 cut_told g id max held events found is told = record { each = λ other. each other }
   where
     own : FaithfulAt g.settings id (Some held) events → FaithfulAt g.settings id (Some (taken max held)) events
@@ -48,8 +48,8 @@ cut_told g id max held events found is told = record { each = λ other. each oth
       | inr ne ↦ subst (λ o. FaithfulAt g.settings other o events) (sym (there g.connections id other (taken max held) ne)) (told.each other)
     ]
 
-forgotten_held : ((g : State) (events : List Event) (id max : ℕ) (held : Held) → Faithful g events → connection_at g id ≡ Some held → cut_refusal held.stage ≡ None → Faithful (with_held g id (taken max held)) (events ++ Take id (take max held.waiting) ∷ []))
-    → (id : ℕ) (g h : State) (held : Held) → connection_at g id ≡ Some held → h ≡ with_held g id (taken (length held.waiting) held)
+forgotten_held : ((g : State) (events : List Event) (id max : ℕ) (held : ConnectionState) → Faithful g events → connection_at g id ≡ Some held → cut_refusal held.stage ≡ None → Faithful (with_held g id (taken max held)) (events ++ Take id (take max held.waiting) ∷ []))
+    → (id : ℕ) (g h : State) (held : ConnectionState) → connection_at g id ≡ Some held → h ≡ with_held g id (taken (length held.waiting) held)
     → ((other : ℕ) → other ≢ id → connection_at h other ≡ connection_at g other) → IsForgotten id g h
 forgotten_held law id g h held found is others = elim (uncut_stage held.stage) [
   | inl gives ↦ inr (led_held id (Take id (waiting g id) ∷ []) g h (taken (length held.waiting) held) is others
@@ -61,13 +61,13 @@ forgotten_held law id g h held found is others = elim (uncut_stage held.stage) [
 forgotten_still : (id : ℕ) (g h : State) → h ≡ g → IsForgotten id g h
 forgotten_still id g h same = inl (subst (IsLed id [] g) (sym same) (led_none id g))
 
-pub forgotten_so : {X : Type 0} → ((g : State) (events : List Event) (id max : ℕ) (held : Held) → Faithful g events → connection_at g id ≡ Some held → cut_refusal held.stage ≡ None → Faithful (with_held g id (taken max held)) (events ++ Take id (take max held.waiting) ∷ []))
+pub forgotten_so : {X : Type 0} → ((g : State) (events : List Event) (id max : ℕ) (held : ConnectionState) → Faithful g events → connection_at g id ≡ Some held → cut_refusal held.stage ≡ None → Faithful (with_held g id (taken max held)) (events ++ Take id (take max held.waiting) ∷ []))
     → (id : ℕ) (g h : State) (r : Result X GatewayFault) (P : Type 0) → MatchOption (forget_refusal (connection_at g id)) P (λ e. r ≡ Err e)
-    → ((held : Held) → connection_at g id ≡ Some held → OnOk r (h ≡ with_held g id (taken (length held.waiting) held))) → OnErr r (h ≡ g)
+    → ((held : ConnectionState) → connection_at g id ≡ Some held → OnOk r (h ≡ with_held g id (taken (length held.waiting) held))) → OnErr r (h ≡ g)
     → ((other : ℕ) → other ≢ id → connection_at h other ≡ connection_at g other) → IsForgotten id g h
 forgotten_so {X} law id g h (Err e) P answer left err others = forgotten_still id g h err
 forgotten_so {X} law id g h (Ok u) P answer left err others = by (connection_at g id) refl answer
   where
-    by : (o : Option Held) → connection_at g id ≡ o → MatchOption (forget_refusal o) P (λ e. Ok u ≡ Err e) → IsForgotten id g h
+    by : (o : Option ConnectionState) → connection_at g id ≡ o → MatchOption (forget_refusal o) P (λ e. Ok u ≡ Err e) → IsForgotten id g h
     by None found answer = cc
     by (Some held) found answer = forgotten_held law id g h held found (left held found) others

@@ -6,7 +6,7 @@ use Rattle.std.proofs.lemmas.List.{append-nil}
 use Rattle.std.proofs.lemmas.List.Elements.{All-append, All-nil, All-cons, All-head, All-tail}
 use Rattle.grid.proofs.Turns.{leaves_none, leaves_both}
 use Rattle.gate_core.specs.Events.{Event, Open, Bytes, End, Take, Lose, Spoil}
-use Rattle.gate_core.specs.Held.{State, waiting}
+use Rattle.gate_core.specs.ConnectionState.{State, waiting}
 use Rattle.gate_core.specs.Faithful.{Faithful}
 use Rattle.gate_flow.specs.Led.{IsLed, IsMove, AreMoves}
 use Rattle.gate_flow.specs.Hosted.{IsHosted, IsOwn, IsOwnId, IsForgotten}

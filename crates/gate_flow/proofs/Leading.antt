@@ -17,8 +17,8 @@ use Rattle.gate_core.specs.declared.fault.GatewayFault.TheVariants.{Known, NotOp
 use Rattle.gate_core.specs.declared.tally.Tally.{Tally}
 use Rattle.gate_core.specs.Settings.{Settings}
 use Rattle.gate_core.specs.Events.{Event, Open, Bytes, End, Take, caller_of, piece_of, given_by, is_caller, is_of, calls_of, bytes_of_calls, handed}
-use Rattle.gate_core.specs.Held.{Held, State, connection_at, waiting, waiting_in, is_over, is_closed_in, stage_refusal, cut_refusal, open_refusal, bytes_refusal, take_refusal}
-use Rattle.gate_core.specs.Lefts.{with_held, with_grid, with_tally, opened, taken, ended, cut}
+use Rattle.gate_core.specs.ConnectionState.{ConnectionState, State, connection_at, waiting, waiting_in, is_over, is_closed_in, stage_refusal, cut_refusal, open_refusal, bytes_refusal, take_refusal}
+use Rattle.gate_core.specs.AfterCall.{with_held, with_grid, with_tally, opened, taken, ended, cut}
 use Rattle.gate_core.specs.Served.{IsReceived}
 use Rattle.gate_core.specs.Came.{Opening, Came, IsRoomy, GoesOn}
 use Rattle.gate_core.specs.Faithful.{Faithful, FaithfulAt}
@@ -91,7 +91,7 @@ calm_on g h e on opening events came roomy none = on opening events came
 -- ---- single calls
 
 -- one that left the grid as it was
-pub led_held : (id : ℕ) (calls : List Event) (g h : State) (held : Held) → h ≡ with_held g id held → ((other : ℕ) → other ≢ id → connection_at h other ≡ connection_at g other)
+pub led_held : (id : ℕ) (calls : List Event) (g h : State) (held : ConnectionState) → h ≡ with_held g id held → ((other : ℕ) → other ≢ id → connection_at h other ≡ connection_at g other)
     → ((events : List Event) → Faithful g events → Faithful (with_held g id held) (events ++ calls)) → IsLed id calls g h
 led_held id calls g h held is others told = record {
   settings = ap (λ (s : State). s.settings) is;
@@ -101,7 +101,7 @@ led_held id calls g h held is others told = record {
 }
 
 -- an id that is opened was not used before
-pub unopened : (held : Option Held) (n : ℕ) (P : Type 0) (Q : GatewayFault → Type 0) → ((e : GatewayFault) → Q e → ⊥) → MatchOption (open_refusal held n) P Q → held ≡ None
+pub unopened : (held : Option ConnectionState) (n : ℕ) (P : Type 0) (Q : GatewayFault → Type 0) → ((e : GatewayFault) → Q e → ⊥) → MatchOption (open_refusal held n) P Q → held ≡ None
 unopened None n P Q never answer = refl
 unopened (Some h) n P Q never answer = absurd (never Known answer)
 
@@ -116,7 +116,7 @@ open_stage stage.Ended P Q never answer = absurd (never NotOpen answer)
 open_stage stage.Cut P Q never answer = absurd (never Cut answer)
 
 -- a connection that took bytes, or an end, is open
-taking : (held : Option Held) (P : Type 0) (Q : GatewayFault → Type 0) → ((e : GatewayFault) → Q e → ⊥) → MatchOption (bytes_refusal held) P Q → (h : Held) × (held ≡ Some h) × (h.stage ≡ stage.Open)
+taking : (held : Option ConnectionState) (P : Type 0) (Q : GatewayFault → Type 0) → ((e : GatewayFault) → Q e → ⊥) → MatchOption (bytes_refusal held) P Q → (h : ConnectionState) × (held ≡ Some h) × (h.stage ≡ stage.Open)
 taking None P Q never answer = absurd (never NotOpen answer)
 taking (Some h) P Q never answer = (h, refl, open_stage h.stage P Q never answer)
 
@@ -126,13 +126,13 @@ uncut_stage stage.Ended P Q never answer = refl
 uncut_stage stage.Cut P Q never answer = absurd (never Cut answer)
 
 -- one that gave bytes was not cut
-giving : (held : Option Held) (P : Type 0) (Q : GatewayFault → Type 0) → ((e : GatewayFault) → Q e → ⊥) → MatchOption (take_refusal held) P Q → (h : Held) × (held ≡ Some h) × (cut_refusal h.stage ≡ None)
+giving : (held : Option ConnectionState) (P : Type 0) (Q : GatewayFault → Type 0) → ((e : GatewayFault) → Q e → ⊥) → MatchOption (take_refusal held) P Q → (h : ConnectionState) × (held ≡ Some h) × (cut_refusal h.stage ≡ None)
 giving None P Q never answer = absurd (never NotOpen answer)
 giving (Some h) P Q never answer = (h, refl, uncut_stage h.stage P Q never answer)
 
-pub bytes_led : ((g h : State) (events : List Event) (id : ℕ) (held : Held) (piece : List ℕ) → Faithful g events → connection_at g id ≡ Some held → held.stage ≡ stage.Open → IsReceived g h id held piece → Faithful h (events ++ Bytes id piece ∷ []))
+pub bytes_led : ((g h : State) (events : List Event) (id : ℕ) (held : ConnectionState) (piece : List ℕ) → Faithful g events → connection_at g id ≡ Some held → held.stage ≡ stage.Open → IsReceived g h id held piece → Faithful h (events ++ Bytes id piece ∷ []))
     → (id : ℕ) (piece : List ℕ) (g h : State) (P : Type 0) (Q : GatewayFault → Type 0) → ((e : GatewayFault) → Q e → ⊥) → MatchOption (bytes_refusal (connection_at g id)) P Q
-    → ((held : Held) → connection_at g id ≡ Some held → IsReceived g h id held piece) → ((other : ℕ) → other ≢ id → connection_at h other ≡ connection_at g other) → Leaves g.grid h.grid
+    → ((held : ConnectionState) → connection_at g id ≡ Some held → IsReceived g h id held piece) → ((other : ℕ) → other ≢ id → connection_at h other ≡ connection_at g other) → Leaves g.grid h.grid
     → IsLed id (Bytes id piece ∷ []) g h
 bytes_led law id piece g h P Q never answer received others leaves =
     let was = taking (connection_at g id) P Q never answer in
@@ -143,9 +143,9 @@ bytes_led law id piece g h P Q never answer received others leaves =
       told = λ events told. law g h events id was.0 piece told was.1 was.2 (received was.0 was.1);
     }
 
-pub taken_led : ((g : State) (events : List Event) (id max : ℕ) (held : Held) → Faithful g events → connection_at g id ≡ Some held → cut_refusal held.stage ≡ None → Faithful (with_held g id (taken max held)) (events ++ Take id (take max held.waiting) ∷ []))
+pub taken_led : ((g : State) (events : List Event) (id max : ℕ) (held : ConnectionState) → Faithful g events → connection_at g id ≡ Some held → cut_refusal held.stage ≡ None → Faithful (with_held g id (taken max held)) (events ++ Take id (take max held.waiting) ∷ []))
     → (id max : ℕ) (given : List ℕ) (g h : State) (P : Type 0) (Q : GatewayFault → Type 0) → ((e : GatewayFault) → Q e → ⊥) → MatchOption (take_refusal (connection_at g id)) P Q
-    → given ≡ take max (waiting g id) → ((held : Held) → connection_at g id ≡ Some held → h ≡ with_held g id (taken max held)) → ((other : ℕ) → other ≢ id → connection_at h other ≡ connection_at g other)
+    → given ≡ take max (waiting g id) → ((held : ConnectionState) → connection_at g id ≡ Some held → h ≡ with_held g id (taken max held)) → ((other : ℕ) → other ≢ id → connection_at h other ≡ connection_at g other)
     → IsLed id (Take id given ∷ []) g h
 taken_led law id max given g h P Q never answer is left others =
     let was = giving (connection_at g id) P Q never answer in
@@ -153,9 +153,9 @@ taken_led law id max given g h P Q never answer is left others =
     led_held id (Take id given ∷ []) g h (taken max was.0) (left was.0 was.1) others
     (λ events told. subst (λ bs. Faithful (with_held g id (taken max was.0)) (events ++ Take id bs ∷ [])) (sym given_is) (law g events id max was.0 told was.1 was.2))
 
-pub ended_led : ((g : State) (events : List Event) (id : ℕ) (held : Held) → Faithful g events → connection_at g id ≡ Some held → held.stage ≡ stage.Open → Faithful (with_held g id (ended held)) (events ++ End id ∷ []))
+pub ended_led : ((g : State) (events : List Event) (id : ℕ) (held : ConnectionState) → Faithful g events → connection_at g id ≡ Some held → held.stage ≡ stage.Open → Faithful (with_held g id (ended held)) (events ++ End id ∷ []))
     → (id : ℕ) (g h : State) (P : Type 0) (Q : GatewayFault → Type 0) → ((e : GatewayFault) → Q e → ⊥) → MatchOption (bytes_refusal (connection_at g id)) P Q
-    → ((held : Held) → connection_at g id ≡ Some held → h ≡ with_held g id (ended held)) → ((other : ℕ) → other ≢ id → connection_at h other ≡ connection_at g other)
+    → ((held : ConnectionState) → connection_at g id ≡ Some held → h ≡ with_held g id (ended held)) → ((other : ℕ) → other ≢ id → connection_at h other ≡ connection_at g other)
     → IsLed id (End id ∷ []) g h
 ended_led law id g h P Q never answer left others =
     let was = taking (connection_at g id) P Q never answer in
@@ -166,7 +166,7 @@ no_memory (Ok u) fault is only = cc
 no_memory (Err e) fault is only = cc
 
 -- bytes that were refused are no call, nor are those for which memory ran out
-pub refused_led : ((g : State) (events : List Event) (id : ℕ) (held : Held) (grid : GridState) (tally : Tally) → Faithful g events → connection_at g id ≡ Some held → Faithful (with_tally (with_grid (with_held g id cut) grid) tally) events)
+pub refused_led : ((g : State) (events : List Event) (id : ℕ) (held : ConnectionState) (grid : GridState) (tally : Tally) → Faithful g events → connection_at g id ≡ Some held → Faithful (with_tally (with_grid (with_held g id cut) grid) tally) events)
     → (id : ℕ) (fault : GatewayFault) (r : Result (Unit {0}) GatewayFault) (g h : State) → r ≡ Err fault
     → MatchOption (bytes_refusal (connection_at g id)) (IsOkUnless r NoMemory) (λ e. (r ≡ Err e) × (h ≡ g))
     → (r ≡ Err NoMemory → h ≡ with_tally (with_grid (with_held g id cut) h.grid) h.tally) → ((other : ℕ) → other ≢ id → connection_at h other ≡ connection_at g other) → Leaves g.grid h.grid
@@ -176,7 +176,7 @@ refused_led law id fault r g h is answer left others leaves = by (connection_at 
     same : h ≡ g → IsLed id [] g h
     same back = subst (IsLed id [] g) (sym back) (led_none id g)
 
-    gone : (held : Held) → connection_at g id ≡ Some held → IsOkUnless r NoMemory → IsLed id [] g h
+    gone : (held : ConnectionState) → connection_at g id ≡ Some held → IsOkUnless r NoMemory → IsLed id [] g h
     gone held found only =
         let now = left (no_memory r fault is only) in
         record {
@@ -186,12 +186,12 @@ refused_led law id fault r g h is answer left others leaves = by (connection_at 
           told = λ events told. subst (λ s. Faithful s (events ++ [])) (sym now) (subst (Faithful (with_tally (with_grid (with_held g id cut) h.grid) h.tally)) (sym (append-nil events)) (law g events id held h.grid h.tally told found));
         }
 
-    at : (st : Stage) (held : Held) → connection_at g id ≡ Some held → MatchOption (stage_refusal st) (IsOkUnless r NoMemory) (λ e. (r ≡ Err e) × (h ≡ g)) → IsLed id [] g h
+    at : (st : Stage) (held : ConnectionState) → connection_at g id ≡ Some held → MatchOption (stage_refusal st) (IsOkUnless r NoMemory) (λ e. (r ≡ Err e) × (h ≡ g)) → IsLed id [] g h
     at stage.Open held found answer = gone held found answer
     at stage.Ended held found answer = same answer.1
     at stage.Cut held found answer = same answer.1
 
-    by : (held : Option Held) → connection_at g id ≡ held → MatchOption (bytes_refusal held) (IsOkUnless r NoMemory) (λ e. (r ≡ Err e) × (h ≡ g)) → IsLed id [] g h
+    by : (held : Option ConnectionState) → connection_at g id ≡ held → MatchOption (bytes_refusal held) (IsOkUnless r NoMemory) (λ e. (r ≡ Err e) × (h ≡ g)) → IsLed id [] g h
     by None found answer = same answer.1
     by (Some held) found answer = at held.stage held found answer
 
@@ -200,7 +200,7 @@ refused_led law id fault r g h is answer left others leaves = by (connection_at 
 pub here : {X : Type 0} (m : map.FinMap nat_cmp X) (k : ℕ) (v : X) → map.get (map.insert m k v) k ≡ Some v
 here m k v = grind (arith, map.gets, rules)
 
-pub waiting_held : (g h : State) (id : ℕ) (held : Held) → h ≡ with_held g id held → waiting h id ≡ held.waiting
+pub waiting_held : (g h : State) (id : ℕ) (held : ConnectionState) → h ≡ with_held g id held → waiting h id ≡ held.waiting
 waiting_held g h id held is = ap (λ (s : State). waiting s id) is ∙ ap waiting_in (here g.connections id held)
 
 no_end : (r : Result (Unit {0}) GatewayFault) (fault : GatewayFault) → r ≡ Err fault → IsOk r → ⊥
@@ -212,27 +212,27 @@ end_same g h r fault None is answer = absurd (no_end r fault is answer)
 end_same g h r fault (Some e) is answer = answer.1
 
 pub end_waits : (id : ℕ) (g h : State) (P : Type 0) (Q : GatewayFault → Type 0) → ((e : GatewayFault) → Q e → ⊥) → MatchOption (bytes_refusal (connection_at g id)) P Q
-    → ((held : Held) → connection_at g id ≡ Some held → h ≡ with_held g id (ended held)) → waiting h id ≡ waiting g id
+    → ((held : ConnectionState) → connection_at g id ≡ Some held → h ≡ with_held g id (ended held)) → waiting h id ≡ waiting g id
 end_waits id g h P Q never answer left =
     let was = taking (connection_at g id) P Q never answer in
     waiting_held g h id (ended was.0) (left was.0 was.1) ∙ sym (ap waiting_in was.1)
 
 -- ---- what is held after a call
 
-pub held_after : (g h : State) (id : ℕ) (held : Held) → h ≡ with_held g id held → connection_at h id ≡ Some held
+pub held_after : (g h : State) (id : ℕ) (held : ConnectionState) → h ≡ with_held g id held → connection_at h id ≡ Some held
 held_after g h id held is = ap (λ (s : State). connection_at s id) is ∙ here g.connections id held
 
 -- the gateway takes bytes of a connection after it took some
 pub bytes_open : (id : ℕ) (piece : List ℕ) (g h : State) (P : Type 0) (Q : GatewayFault → Type 0) → ((e : GatewayFault) → Q e → ⊥) → MatchOption (bytes_refusal (connection_at g id)) P Q
-    → ((held : Held) → connection_at g id ≡ Some held → IsReceived g h id held piece) → TakesBytes (connection_at h id)
+    → ((held : ConnectionState) → connection_at g id ≡ Some held → IsReceived g h id held piece) → TakesBytes (connection_at h id)
 bytes_open id piece g h P Q never answer received =
     let was = taking (connection_at g id) P Q never answer in
     let now = received was.0 was.1 in
     let found : connection_at h id ≡ Some now.after = ap (λ m. map.get m id) now.connections ∙ here g.connections id now.after in
-    ap bytes_refusal found ∙ ap stage_refusal (ap (λ (s : Held). s.stage) now.fed.left ∙ was.2)
+    ap bytes_refusal found ∙ ap stage_refusal (ap (λ (s : ConnectionState). s.stage) now.fed.left ∙ was.2)
 
 -- why bytes are refused, or none
-pub bytes_refused : (held : Option Held) (fault : GatewayFault) (r : Result (Unit {0}) GatewayFault) (Q : GatewayFault → Type 0) → r ≡ Err fault → fault ≢ NoMemory
+pub bytes_refused : (held : Option ConnectionState) (fault : GatewayFault) (r : Result (Unit {0}) GatewayFault) (Q : GatewayFault → Type 0) → r ≡ Err fault → fault ≢ NoMemory
     → MatchOption (bytes_refusal held) (IsOkUnless r NoMemory) Q → bytes_refusal held ≢ None
 bytes_refused held fault r Q is other answer takes =
     let only : IsOkUnless r NoMemory = subst (λ o. MatchOption o (IsOkUnless r NoMemory) Q) takes answer in
@@ -243,7 +243,7 @@ bytes_refused held fault r Q is other answer takes =
 
 -- bytes that wait are taken, and what is left waits still
 pub take_splits : (id max : ℕ) (given : List ℕ) (g h : State) (P : Type 0) (Q : GatewayFault → Type 0) → ((e : GatewayFault) → Q e → ⊥) → MatchOption (take_refusal (connection_at g id)) P Q
-    → given ≡ take max (waiting g id) → ((held : Held) → connection_at g id ≡ Some held → h ≡ with_held g id (taken max held)) → waiting g id ≡ given ++ waiting h id
+    → given ≡ take max (waiting g id) → ((held : ConnectionState) → connection_at g id ≡ Some held → h ≡ with_held g id (taken max held)) → waiting g id ≡ given ++ waiting h id
 take_splits id max given g h P Q never answer is left =
     let was = giving (connection_at g id) P Q never answer in
     let before : waiting g id ≡ was.0.waiting = ap waiting_in was.1 in
@@ -252,7 +252,7 @@ take_splits id max given g h P Q never answer is left =
 
 -- and the gateway takes bytes as it did before
 pub take_stays : (id max : ℕ) (g h : State) (P : Type 0) (Q : GatewayFault → Type 0) → ((e : GatewayFault) → Q e → ⊥) → MatchOption (take_refusal (connection_at g id)) P Q
-    → ((held : Held) → connection_at g id ≡ Some held → h ≡ with_held g id (taken max held)) → bytes_refusal (connection_at h id) ≡ bytes_refusal (connection_at g id)
+    → ((held : ConnectionState) → connection_at g id ≡ Some held → h ≡ with_held g id (taken max held)) → bytes_refusal (connection_at h id) ≡ bytes_refusal (connection_at g id)
 take_stays id max g h P Q never answer left =
     let was = giving (connection_at g id) P Q never answer in
     ap bytes_refusal (held_after g h id (taken max was.0) (left was.0 was.1)) ∙ sym (ap bytes_refusal was.1)
@@ -262,12 +262,12 @@ uncut stage.Open takes = refl
 uncut stage.Ended takes = cc
 uncut stage.Cut takes = cc
 
-gives_bytes : (held : Option Held) → TakesBytes held → take_refusal held ≡ None
+gives_bytes : (held : Option ConnectionState) → TakesBytes held → take_refusal held ≡ None
 gives_bytes None takes = cc
 gives_bytes (Some held) takes = uncut held.stage takes
 
 -- a connection of which the gateway takes bytes gives what waits
-pub take_refused : (held : Option Held) (fault : GatewayFault) (r : Result (Unit {0}) GatewayFault) (Q : GatewayFault → Type 0) → r ≡ Err fault → fault ≢ NoMemory
+pub take_refused : (held : Option ConnectionState) (fault : GatewayFault) (r : Result (Unit {0}) GatewayFault) (Q : GatewayFault → Type 0) → r ≡ Err fault → fault ≢ NoMemory
     → MatchOption (take_refusal held) (IsOkUnless r NoMemory) Q → bytes_refusal held ≢ None
 take_refused held fault r Q is other answer takes =
     let only : IsOkUnless r NoMemory = subst (λ o. MatchOption o (IsOkUnless r NoMemory) Q) (gives_bytes held takes) answer in
@@ -278,7 +278,7 @@ take_refused held fault r Q is other answer takes =
 
 -- after its end the gateway takes no bytes of a connection
 pub end_over : (id : ℕ) (g h : State) (P : Type 0) (Q : GatewayFault → Type 0) → ((e : GatewayFault) → Q e → ⊥) → MatchOption (bytes_refusal (connection_at g id)) P Q
-    → ((held : Held) → connection_at g id ≡ Some held → h ≡ with_held g id (ended held)) → bytes_refusal (connection_at h id) ≢ None
+    → ((held : ConnectionState) → connection_at g id ≡ Some held → h ≡ with_held g id (ended held)) → bytes_refusal (connection_at h id) ≢ None
 end_over id g h P Q never answer left =
     let was = taking (connection_at g id) P Q never answer in
     let closed : bytes_refusal (connection_at h id) ≡ Some NotOpen = ap bytes_refusal (held_after g h id (ended was.0) (left was.0 was.1)) in
@@ -295,7 +295,7 @@ end_still_over id g h fault r is answer =
     subst (λ (s : State). bytes_refusal (connection_at s id) ≢ None) (sym (end_same g h r fault (bytes_refusal (connection_at g id)) is answer)) (end_refused g h (bytes_refusal (connection_at g id)) fault r is answer)
 
 -- why a call is refused, as a flow tells it
-pub call_fault : (held : Option Held) (fault : GatewayFault) (made : FlowFault) → made ≡ flow_of fault → (fault ≢ NoMemory → bytes_refusal held ≢ None) → IsCallFault held made
+pub call_fault : (held : Option ConnectionState) (fault : GatewayFault) (made : FlowFault) → made ≡ flow_of fault → (fault ≢ NoMemory → bytes_refusal held ≢ None) → IsCallFault held made
 call_fault held fault made is why = subst (IsCallFault held) (sym is) (by fault why)
   where
     by : (fault : GatewayFault) → (fault ≢ NoMemory → bytes_refusal held ≢ None) → IsCallFault held (flow_of fault)
@@ -329,7 +329,7 @@ none_closes = refl
 pub unclosed : (g : State) (id : ℕ) (events : List Event) → is_closed_in (connection_at g id) ≡ false → Faithful g events → IsUnclosed id events
 unclosed g id events none told = at (connection_at g id) none (told.each id)
   where
-    at : (held : Option Held) → is_closed_in held ≡ false → FaithfulAt g.settings id held events → IsUnclosed id events
+    at : (held : Option ConnectionState) → is_closed_in held ≡ false → FaithfulAt g.settings id held events → IsUnclosed id events
     at None none told = ap (λ bytes. is_left_closed (rest bytes)) told.read ∙ none_closes
     at (Some held) none told =
         sym (ap is_left_closed (told.read (still_open held.stage (not_right (is_left_closed held.conn) (is_over held.stage) none))))

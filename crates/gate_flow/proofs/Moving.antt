@@ -8,7 +8,7 @@ use Rattle.gate_core.specs.Events.{Event, Open, Bytes, End, Take, Lose, Spoil, c
 use Rattle.std.specs.List.{list_any}
 use Rattle.std.proofs.lemmas.List.Elements.{filter-append}
 use Rattle.std.proofs.lemmas.List.Folds.{list_any-append}
-use Rattle.gate_core.specs.Held.{State, connection_at, waiting, bytes_refusal, is_closed_in}
+use Rattle.gate_core.specs.ConnectionState.{State, connection_at, waiting, bytes_refusal, is_closed_in}
 use Rattle.gate_core.specs.Came.{GoesOn}
 use Rattle.gate_core.specs.Faithful.{Faithful}
 use Rattle.gate_flow.specs.Parts.{IsPart}

@@ -11,7 +11,7 @@ use Rattle.http_edge.specs.Left.{rest, is_closed as is_left_closed}
 use Rattle.gate_core.specs.declared.stage.Stage.{Stage}
 use Rattle.gate_core.specs.declared.stage.Stage.TheVariants as stage
 use Rattle.gate_core.specs.Events.{Event, Open, is_end, is_of, calls_of, bytes_of_calls, handed, has_ended}
-use Rattle.gate_core.specs.Held.{Held, State, connection_at, waiting, waiting_in, is_over, is_closed_in, stage_refusal}
+use Rattle.gate_core.specs.ConnectionState.{ConnectionState, State, connection_at, waiting, waiting_in, is_over, is_closed_in, stage_refusal}
 use Rattle.gate_core.specs.Faithful.{Faithful, FaithfulAt}
 use Rattle.gate_flow.specs.declared.fault.FlowFault.{FlowFault}
 use Rattle.gate_flow.specs.declared.fault.FlowFault.TheVariants.{Refused, ReadFailed, WriteFailed, NoMemory}
@@ -153,7 +153,7 @@ module _ (id : ℕ) (secret : List ℕ) (g h k : State) (f : FlowState) (read le
 -- ---- where it rests
 
 -- nothing is left of a flow that doesn't want to write, but what stands behind an item that closes
-quiet : (w : Want) (f : FlowState) (held : Option Held) → Stands w f → RestsAt w f held → w ≢ want.Write → (f.portion ≡ []) × (waiting_in held ≡ []) × ((f.piece ≡ []) ⊎ IsTrue (is_closed_in held))
+quiet : (w : Want) (f : FlowState) (held : Option ConnectionState) → Stands w f → RestsAt w f held → w ≢ want.Write → (f.portion ≡ []) × (waiting_in held ≡ []) × ((f.piece ≡ []) ⊎ IsTrue (is_closed_in held))
 quiet want.Read f held stands rests other = (stands.1, rests.0, inl stands.0)
 quiet want.Advance f held stands rests other = absurd rests
 quiet want.Write f held stands rests other = absurd (other refl)
@@ -177,7 +177,7 @@ left_so false b none so = cc
 closed_by : (g : State) (id : ℕ) (events : List Event) → TakesBytes (connection_at g id) → IsTrue (is_closed_in (connection_at g id)) → Faithful g events → is_left_closed (rest (bytes_of_calls id events)) ≡ true
 closed_by g id events takes closed told = at (connection_at g id) takes closed (told.each id)
   where
-    at : (held : Option Held) → TakesBytes held → IsTrue (is_closed_in held) → FaithfulAt g.settings id held events → is_left_closed (rest (bytes_of_calls id events)) ≡ true
+    at : (held : Option ConnectionState) → TakesBytes held → IsTrue (is_closed_in held) → FaithfulAt g.settings id held events → is_left_closed (rest (bytes_of_calls id events)) ≡ true
     at None takes closed told = cc
     at (Some held) takes closed told =
         let going = open_stage held.stage takes in

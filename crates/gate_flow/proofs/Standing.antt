@@ -6,7 +6,7 @@ use Rattle.std.proofs.lemmas.List.Elements.{All-head, All-tail}
 use Rattle.http_edge.specs.Frame.{frame}
 use Rattle.gate_core.specs.Settings.{Settings}
 use Rattle.gate_core.specs.Events.{Event, Open, caller_of, piece_of, given_by, is_caller, is_of, calls_of, bytes_of_calls, handed}
-use Rattle.gate_core.specs.Held.{State, connection_at}
+use Rattle.gate_core.specs.ConnectionState.{State, connection_at}
 use Rattle.gate_core.specs.Replied.{AreAnswered}
 use Rattle.gate_core.specs.Faithful.{Faithful, FaithfulAt}
 use Rattle.gate_flow.specs.State.{FlowState, opened_flow}

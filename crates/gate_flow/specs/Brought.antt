@@ -1,7 +1,7 @@
 -- The parts that one call for a flow brings of its piece.
 use Rattle.std.specs.Prelude.{◌≡◌, ◌≢◌, ◌⊎◌, ℕ, List, [], ◌∷◌, ◌++◌, take, drop, false, IsTrue, Option}
 use Rattle.gate_core.specs.Events.{Event, Bytes, bytes_of_calls}
-use Rattle.gate_core.specs.Held.{Held, State, connection_at, waiting, waiting_in, is_closed_in}
+use Rattle.gate_core.specs.ConnectionState.{ConnectionState, State, connection_at, waiting, waiting_in, is_closed_in}
 use Rattle.gate_flow.specs.Parts.{IsPart}
 use Rattle.gate_flow.specs.Led.{IsLed, IsLedCalmly}
 
@@ -33,5 +33,5 @@ pub record AreInParts (id : ℕ) (calls : List Event) (g h : State) (piece left 
   pub bare : bytes_of_calls id others ≡ []
 
 -- no further part is brought: the piece is used up, something waits, or no more bytes count
-abbrev pub IsEnough : List ℕ → Option Held → Type 0
+abbrev pub IsEnough : List ℕ → Option ConnectionState → Type 0
 IsEnough left held = (left ≡ []) ⊎ ((waiting_in held ≢ []) ⊎ IsTrue (is_closed_in held))

@@ -2,7 +2,7 @@
 use Rattle.std.specs.Prelude.{◌≢◌, ⊤, Option, None}
 use Rattle.gate_core.specs.declared.fault.GatewayFault.{GatewayFault}
 use Rattle.gate_core.specs.declared.fault.GatewayFault.TheVariants as gateway
-use Rattle.gate_core.specs.Held.{Held, bytes_refusal}
+use Rattle.gate_core.specs.ConnectionState.{ConnectionState, bytes_refusal}
 use Rattle.gate_flow.specs.declared.fault.FlowFault.{FlowFault}
 use Rattle.gate_flow.specs.declared.fault.FlowFault.TheVariants.{Refused, ReadFailed, WriteFailed, NoMemory}
 
@@ -16,7 +16,7 @@ flow_of gateway.NoMemory = NoMemory
 flow_of gateway.StillOpen = Refused
 
 -- of a call of a gateway: it was refused where no bytes are taken of the connection, or memory was
-abbrev pub IsCallFault : Option Held → FlowFault → Type 0
+abbrev pub IsCallFault : Option ConnectionState → FlowFault → Type 0
 IsCallFault held Refused = bytes_refusal held ≢ None
 IsCallFault held ReadFailed = ⊥
 IsCallFault held WriteFailed = ⊥

@@ -2,7 +2,7 @@
 use Rattle.std.specs.Prelude.{◌≡◌, ℕ, ◌≤◌, ◌<◌, ◌⊎◌, List, [], ◌∷◌, ◌++◌, All}
 use Rattle.grid.specs.Leaves.{Leaves}
 use Rattle.gate_core.specs.Events.{Event, Open, Bytes, End, Take, Lose, Spoil}
-use Rattle.gate_core.specs.Held.{State, connection_at, waiting}
+use Rattle.gate_core.specs.ConnectionState.{State, connection_at, waiting}
 use Rattle.gate_core.specs.Faithful.{Faithful}
 use Rattle.gate_flow.specs.Led.{IsLed}
 

@@ -4,7 +4,7 @@ use Rattle.grid.specs.GridState.{NoneFailed}
 use Rattle.grid.specs.Leaves.{Leaves}
 use Rattle.http_edge.specs.Left.{rest, is_closed as is_left_closed}
 use Rattle.gate_core.specs.Events.{Event, Open, Bytes, End, Take, Lose, Spoil, caller_of, bytes_of_calls, handed, has_ended}
-use Rattle.gate_core.specs.Held.{Held, State, connection_at, waiting, bytes_refusal}
+use Rattle.gate_core.specs.ConnectionState.{ConnectionState, State, connection_at, waiting, bytes_refusal}
 use Rattle.gate_core.specs.Came.{Opening, Came, IsRoomy}
 use Rattle.gate_core.specs.Faithful.{Faithful}
 
@@ -25,7 +25,7 @@ abbrev pub AreMoves : ℕ → List Event → Type 0
 AreMoves id calls = All (IsMove id) calls
 
 -- the gateway takes bytes of a connection: it was opened, its end didn't come, and memory didn't run out on it
-abbrev pub TakesBytes : Option Held → Type 0
+abbrev pub TakesBytes : Option ConnectionState → Type 0
 TakesBytes held = bytes_refusal held ≡ None
 
 -- These calls of one connection led from one state of a gateway to another, whatever the stores: so every caller was told

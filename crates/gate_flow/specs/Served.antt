@@ -3,7 +3,7 @@ use Rattle.std.specs.Prelude.{◌≡◌, ◌≢◌, ℕ, List, [], ◌++◌, ◌
 use Rattle.std.specs.Io.KnownBytes.{Consumes, Appends}
 use Rattle.http_edge.specs.Left.{rest, is_closed as is_left_closed}
 use Rattle.gate_core.specs.Events.{Event, bytes_of_calls, handed, has_ended}
-use Rattle.gate_core.specs.Held.{State, connection_at, waiting, bytes_refusal}
+use Rattle.gate_core.specs.ConnectionState.{State, connection_at, waiting, bytes_refusal}
 use Rattle.gate_core.specs.Faithful.{Faithful}
 use Rattle.gate_flow.specs.declared.fault.FlowFault.{FlowFault}
 use Rattle.gate_flow.specs.declared.fault.FlowFault.TheVariants.{Refused, ReadFailed, WriteFailed, NoMemory}

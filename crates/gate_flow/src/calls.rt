@@ -1,7 +1,7 @@
 //! The calls of a gateway that a flow makes.
 ghost use Rattle.std.specs.Prelude.{◌≡◌, ◌≢◌, ◌<◌, ◌≤◌, ◌⊎◌, [], ◌∷◌, ◌++◌, length, take, OnOk, OnErr, IfOk, IfErr, IsOk, IsOkUnless, IsTrue, MatchBool, MatchOption, None, false, unwrap_or, option_copied};
 ghost use Rattle.gate_core.specs.Events.{Open, Bytes, End, Take};
-ghost use Rattle.gate_core.specs.Held.{connection_at, waiting, is_closed_in, bytes_refusal, open_refusal};
+ghost use Rattle.gate_core.specs.ConnectionState.{connection_at, waiting, is_closed_in, bytes_refusal, open_refusal};
 ghost use Rattle.gate_core.specs.Came.{GoesOn};
 ghost use Rattle.gate_flow.specs.Faults.{IsCallFault};
 ghost use Rattle.gate_flow.specs.Led.{TakesBytes, IsLed, IsLedCalmly, IsMoved, IsMovedCalmly, IsGivenUp};
@@ -45,7 +45,7 @@ pub fn begin<S: Store>(
 }
 
 /// Brings bytes that were read.
-fn bring<S: Store>(gateway: &mut Gateway<S>, id: u64, piece: &[u8]) -> Result<(), FlowFault>
+fn feed<S: Store>(gateway: &mut Gateway<S>, id: u64, piece: &[u8]) -> Result<(), FlowFault>
     ensures led { OnOk result (IsLed id (Bytes id piece.now ∷ []) gateway.old gateway.new) }
     ensures calm { OnOk result (IsLedCalmly (Bytes id piece.now ∷ []) gateway.old gateway.new) }
     ensures takes { OnOk result (TakesBytes (connection_at gateway.new id)) }
@@ -107,7 +107,7 @@ fn bring_end<S: Store>(gateway: &mut Gateway<S>, id: u64) -> Result<(), FlowFaul
 }
 
 /// Brings the first part of a piece, while nothing waits.
-fn bring_part<S: Store>(
+fn feed_part<S: Store>(
     gateway: &mut Gateway<S>,
     id: u64,
     piece: &mut Stretch,
@@ -127,13 +127,13 @@ fn bring_part<S: Store>(
 {
     let bytes = piece.as_slice();
     let len = part_len(bytes);
-    bring(gateway, id, &bytes[..len])?;
+    feed(gateway, id, &bytes[..len])?;
     piece.skip(len);
     Ok(())
 }
 
 /// Brings a piece part by part, until bytes wait, no more count, or it is used up.
-pub fn bring_parts<S: Store>(
+pub fn feed_parts<S: Store>(
     gateway: &mut Gateway<S>,
     id: u64,
     piece: &mut Stretch,
@@ -156,7 +156,7 @@ pub fn bring_parts<S: Store>(
         if gateway.closed(id) {
             return Ok(());
         }
-        bring_part(gateway, id, piece)?;
+        feed_part(gateway, id, piece)?;
     }
     Ok(())
 }

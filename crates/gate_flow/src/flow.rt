@@ -2,13 +2,13 @@
 ghost use Rattle.std.specs.Prelude.{◌≡◌, ◌≢◌, ℕ, ◌+◌, ◌↔◌, true, [], ◌∷◌, length, ◌⊎◌, OnOk, IfOk, IfErr, OnErr, IsOkUnless, MatchOption, None, unwrap_or, option_copied};
 ghost use Rattle.std.specs.IoError.{error_kind};
 ghost use Rattle.gate_core.specs.Events.{Open};
-ghost use Rattle.gate_core.specs.Held.{connection_at, open_refusal};
+ghost use Rattle.gate_core.specs.ConnectionState.{connection_at, open_refusal};
 ghost use Rattle.gate_flow.specs.Faults.{IsCallFault, IsReadFault, IsWriteFault};
 ghost use Rattle.gate_flow.specs.State.{IsSound, opened_flow};
 ghost use Rattle.gate_flow.specs.Led.{TakesBytes, IsLed, IsLedCalmly, IsGivenUp};
 ghost use Rattle.gate_flow.specs.Steps.{IsRead, IsWritten, Advances, AdvancesCalmly, Rests};
 
-use crate::calls::{PORTION, begin, bring_parts, give_up, take_first, waits};
+use crate::calls::{PORTION, begin, feed_parts, give_up, take_first, waits};
 use crate::fault::FlowFault;
 use crate::stretch::Stretch;
 use crate::want::{Step, Want};
@@ -149,7 +149,7 @@ impl Flow {
         ensures faults { IfErr result (IsCallFault (connection_at gateway.old self.old.id)) }
     {
         gate_core::laws::beginnings_have_room();
-        bring_parts(gateway, self.id, &mut self.piece)?;
+        feed_parts(gateway, self.id, &mut self.piece)?;
         if waits(gateway, self.id) {
             let portion = take_first(gateway, self.id, PORTION)?;
             self.portion = Stretch::from_vec(self.alloc, portion);

@@ -1,7 +1,8 @@
 //! A gateway as a loop over sockets sees it.
-ghost use Rattle.std.specs.Prelude.{◌≡◌, ◌≢◌, ◌+◌, [], ◌∷◌, length, OnOk, OnErr, IfOk, IfErr, IsOkUnless, MatchOption, None};
+ghost use Rattle.std.specs.Prelude.{◌≡◌, ◌≢◌, ◌+◌, ◌-◌, ◌^◌, min, [], ◌∷◌, length, OnOk, OnErr, IfOk, IfErr, IsOkUnless, MatchOption, None};
 ghost use Rattle.gate_core.specs.Events.{Open};
-ghost use Rattle.gate_core.specs.Held.{connection_at, open_refusal, OthersSame};
+ghost use Rattle.gate_core.specs.ConnectionState.{connection_at, open_refusal, OthersSame};
+ghost use Rattle.gate_core.specs.Kept.{kept_in};
 ghost use Rattle.gate_flow.specs.Faults.{IsCallFault};
 ghost use Rattle.gate_flow.specs.State.{opened_flow};
 ghost use Rattle.gate_flow.specs.Led.{TakesBytes, IsLed, IsLedCalmly, IsGivenUp};
@@ -29,16 +30,17 @@ impl<S: Store> Model for Lobby<S> {
     ghost use Rattle.std.specs.Coded.{code_by, coded×, coded_ℕ};
     ghost use Rattle.grid.specs.GridState.{GridState, grid_code};
     ghost use Rattle.gate_core.specs.contracts.connection.Connection as held;
+    ghost use Rattle.gate_core.specs.contracts.pages.Page as page;
     ghost use Rattle.gate_core.specs.Settings.{Settings, settings_code};
-    ghost use Rattle.gate_core.specs.Held.{Connections, State};
+    ghost use Rattle.gate_core.specs.ConnectionState.{Connections, State};
     ghost use Rattle.gate_core.specs.declared.tally.Tally.{Tally};
     ghost use Rattle.gate_core.specs.Tallies.{tally_code};
 
     ghost Value = { State };
 
     ghost coded = { code_by (Settings × (Connections × (GridState × Tally)))
-        (coded× settings_code (coded× (map.code coded_ℕ held.the_row.coded)
-        (coded× grid_code tally_code)))
+        (coded× (settings_code page.the_row.coded)
+        (coded× (map.code coded_ℕ held.the_row.coded) (coded× grid_code tally_code)))
         (λ s. (s.settings, (s.connections, (s.grid, s.tally))))
         (λ p. record {
           settings = p.0;
@@ -70,6 +72,14 @@ impl<S: Store> Lobby<S> {
         ensures { result.now ≡ self.now }
     {
         &self.gateway
+    }
+
+    /// How many bytes the gateway keeps of a flow's connection, up to 2^64 - 1: of a request that isn't whole yet, and of what
+    /// waits for it.
+    pub fn kept(&self, flow: &Flow) -> usize
+        ensures { result ≡ min (kept_in (connection_at self.now flow.now.id)) (2 ^ 64 - 1) }
+    {
+        self.gateway.kept(flow.id())
     }
 
     /// Opens a connection under the gateway's own secret. What `Flow::open` says holds of it.

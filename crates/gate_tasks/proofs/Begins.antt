@@ -9,7 +9,7 @@ use Rattle.grid.specs.ImageReading.{image_said}
 use Rattle.chk_file.specs.World.{empty}
 use Rattle.gate_core.specs.Settings.{Settings}
 use Rattle.gate_core.specs.Items.{items}
-use Rattle.gate_core.specs.Held.{State, AreParameters}
+use Rattle.gate_core.specs.ConnectionState.{State, AreParameters}
 use Rattle.gate_core.specs.Came.{Opening, Came, Starts}
 use Rattle.gate_core.specs.declared.fault.GatewayFault.{GatewayFault}
 use Rattle.gate_core.specs.declared.fault.GatewayFault.TheVariants.{BadParameters}
@@ -71,10 +71,10 @@ refused_with grid servers secret fault P a b accepted never refused =
 
 -- ---- `grid`
 
-pub set_is : (grid : Grid) (secret : List ℕ) (servers : ℕ) → secret ≡ grid.secret → servers ≡ grid.servers → (let s : Settings = record { k = grid.k; n = grid.n; secret = secret; servers = servers } in s) ≡ settings_by grid
+pub set_is : (grid : Grid) (secret : List ℕ) (servers : ℕ) → secret ≡ grid.secret → servers ≡ grid.servers → (let s : Settings = record { k = grid.k; n = grid.n; secret = secret; servers = servers; pages = [] } in s) ≡ settings_by grid
 set_is grid secret servers a b =
-    ap (λ q. let s : Settings = record { k = grid.k; n = grid.n; secret = q; servers = servers } in s) a
-    ∙ ap (λ q. let s : Settings = record { k = grid.k; n = grid.n; secret = grid.secret; servers = q } in s) b
+    ap (λ q. let s : Settings = record { k = grid.k; n = grid.n; secret = q; servers = servers; pages = [] } in s) a
+    ∙ ap (λ q. let s : Settings = record { k = grid.k; n = grid.n; secret = grid.secret; servers = q; pages = [] } in s) b
 
 came_first : (grid : Grid) (g : State) → g.grid.stores ≡ replicate grid.servers (fresh grid.room) → Starts empty g → Came (opening_by grid) g []
 unfolding items

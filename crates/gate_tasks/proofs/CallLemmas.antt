@@ -29,8 +29,8 @@ use Rattle.gate_core.specs.Runs.{world_after, said_by, said}
 use Rattle.gate_core.specs.Reach.{only, kept}
 use Rattle.gate_core.specs.Uploaded.{IsProper, IsLeftBy}
 use Rattle.gate_core.specs.Apart.{Apart}
-use Rattle.gate_core.specs.Held.{Held, State, connection_at, waiting, waiting_in, open_refusal, bytes_refusal, take_refusal, stage_refusal}
-use Rattle.gate_core.specs.Lefts.{with_held, with_grid, opened, taken, ended}
+use Rattle.gate_core.specs.ConnectionState.{ConnectionState, State, connection_at, waiting, waiting_in, open_refusal, bytes_refusal, take_refusal, stage_refusal}
+use Rattle.gate_core.specs.AfterCall.{with_held, with_grid, opened, taken, ended}
 use Rattle.gate_core.specs.Came.{Opening, Came, CameAt, IsRoomy, GoesOn, stage_of}
 use Rattle.gate_core.specs.Served.{IsReceived}
 use Rattle.gate_tasks.specs.Replies.{settings_by, is_going, unsaid, unsaid_of_kept, IsApart, first_of, opened_reply, IsTaken, world_by, at_server, IsImageAfter, IsNoImageAfter}
@@ -43,12 +43,12 @@ use Rattle.gate_tasks.specs.declared.reply.Reply.TheVariants.{Done, Refused, Gri
 
 -- ---- `open`
 
-unknown : (s : Settings) (w : World) (id n : ℕ) (held : Option Held) (events : List Event) (P : Type 0) (Q : GatewayFault → Type 0) → ((e : GatewayFault) → Q e → ⊥) → MatchOption (open_refusal held n) P Q → CameAt s w id held events
+unknown : (s : Settings) (w : World) (id n : ℕ) (held : Option ConnectionState) (events : List Event) (P : Type 0) (Q : GatewayFault → Type 0) → ((e : GatewayFault) → Q e → ⊥) → MatchOption (open_refusal held n) P Q → CameAt s w id held events
     → is_known id events ≡ false
 unknown s w id n None events P Q never answer at = at.unknown
 unknown s w id n (Some held) events P Q never answer at = absurd (never Known answer)
 
-short : (n : ℕ) (held : Option Held) (P : Type 0) (Q : GatewayFault → Type 0) → ((e : GatewayFault) → Q e → ⊥) → MatchOption (open_refusal held n) P Q → nat_lt 256 n ≡ false
+short : (n : ℕ) (held : Option ConnectionState) (P : Type 0) (Q : GatewayFault → Type 0) → ((e : GatewayFault) → Q e → ⊥) → MatchOption (open_refusal held n) P Q → nat_lt 256 n ≡ false
 short n None P Q never answer =
     elim (nat_lt 256 n) as (λ b. MatchOption (cond b (Some BadParameters) None) P Q → b ≡ false) [
       | true ↦ λ long. absurd (never BadParameters long)
@@ -74,19 +74,19 @@ not_ended : (b : Bool) (P : Type 0) (Q : GatewayFault → Type 0) → ((e : Gate
 not_ended false P Q never answer = refl
 not_ended true P Q never answer = absurd (never NotOpen answer)
 
-going : (s : Settings) (w : World) (id : ℕ) (held : Option Held) (events : List Event) (P : Type 0) (Q : GatewayFault → Type 0) → ((e : GatewayFault) → Q e → ⊥) → MatchOption (bytes_refusal held) P Q → CameAt s w id held events
+going : (s : Settings) (w : World) (id : ℕ) (held : Option ConnectionState) (events : List Event) (P : Type 0) (Q : GatewayFault → Type 0) → ((e : GatewayFault) → Q e → ⊥) → MatchOption (bytes_refusal held) P Q → CameAt s w id held events
     → is_going id events ≡ true
 going s w id None events P Q never answer at = absurd (never NotOpen answer)
 going s w id (Some held) events P Q never answer at =
     let over = not_ended (has_ended id events) P Q never (subst (λ (t : Stage). MatchOption (stage_refusal t) P Q) at.stage answer) in
     ap (λ k. k && not (has_ended id events)) at.known ∙ ap not over
 
-open_held : (held : Option Held) (P : Type 0) (Q : GatewayFault → Type 0) → ((e : GatewayFault) → Q e → ⊥) → MatchOption (bytes_refusal held) P Q → (h : Held) × (held ≡ Some h)
+open_held : (held : Option ConnectionState) (P : Type 0) (Q : GatewayFault → Type 0) → ((e : GatewayFault) → Q e → ⊥) → MatchOption (bytes_refusal held) P Q → (h : ConnectionState) × (held ≡ Some h)
 open_held None P Q never answer = absurd (never NotOpen answer)
 open_held (Some h) P Q never answer = (h, refl)
 
 pub end_called : (old new : State) (id : ℕ) (P : Type 0) (Q : GatewayFault → Type 0) → ((e : GatewayFault) → Q e → ⊥) → MatchOption (bytes_refusal (connection_at old id)) P Q
-    → ((h : Held) → connection_at old id ≡ Some h → new ≡ with_held old id (ended h)) → GoesOn old new (End id) → IsCalled old new (call.End id) Done
+    → ((h : ConnectionState) → connection_at old id ≡ Some h → new ≡ with_held old id (ended h)) → GoesOn old new (End id) → IsCalled old new (call.End id) Done
 end_called old new id P Q never answer left on =
     let h = open_held (connection_at old id) P Q never answer in
     record {
@@ -96,7 +96,7 @@ end_called old new id P Q never answer left on =
     }
 
 pub bytes_called : (old new : State) (id : ℕ) (piece : List ℕ) (P : Type 0) (Q : GatewayFault → Type 0) → ((e : GatewayFault) → Q e → ⊥) → MatchOption (bytes_refusal (connection_at old id)) P Q
-    → ((h : Held) → connection_at old id ≡ Some h → IsReceived old new id h piece) → ((s : ℕ) → failures_at old.grid s ≡ 0) → ((s : ℕ) → failures_at new.grid s ≡ 0)
+    → ((h : ConnectionState) → connection_at old id ≡ Some h → IsReceived old new id h piece) → ((s : ℕ) → failures_at old.grid s ≡ 0) → ((s : ℕ) → failures_at new.grid s ≡ 0)
     → ((opening : Opening) (events : List Event) → Came opening old events → IsRoomy old.settings opening (events ++ Bytes id piece ∷ []) → NoneFailed old.grid new.grid → Came opening new (events ++ Bytes id piece ∷ []))
     → IsCalled old new (call.Bytes id piece) Done
 bytes_called old new id piece P Q never answer received before after on =
@@ -110,17 +110,17 @@ bytes_called old new id piece P Q never answer received before after on =
 
 -- ---- `take`
 
-known : (s : Settings) (w : World) (id : ℕ) (held : Option Held) (events : List Event) (P : Type 0) (Q : GatewayFault → Type 0) → ((e : GatewayFault) → Q e → ⊥) → MatchOption (take_refusal held) P Q → CameAt s w id held events
+known : (s : Settings) (w : World) (id : ℕ) (held : Option ConnectionState) (events : List Event) (P : Type 0) (Q : GatewayFault → Type 0) → ((e : GatewayFault) → Q e → ⊥) → MatchOption (take_refusal held) P Q → CameAt s w id held events
     → is_known id events ≡ true
 known s w id None events P Q never answer at = absurd (never NotOpen answer)
 known s w id (Some held) events P Q never answer at = at.known
 
-taken_held : (held : Option Held) (P : Type 0) (Q : GatewayFault → Type 0) → ((e : GatewayFault) → Q e → ⊥) → MatchOption (take_refusal held) P Q → (h : Held) × (held ≡ Some h)
+taken_held : (held : Option ConnectionState) (P : Type 0) (Q : GatewayFault → Type 0) → ((e : GatewayFault) → Q e → ⊥) → MatchOption (take_refusal held) P Q → (h : ConnectionState) × (held ≡ Some h)
 taken_held None P Q never answer = absurd (never NotOpen answer)
 taken_held (Some h) P Q never answer = (h, refl)
 
 -- what waits is what the caller was not given yet
-waits : (g : State) (grid : Grid) (opening : Opening) (events : List Event) (id : ℕ) (held : Option Held) (P : Type 0) (Q : GatewayFault → Type 0) → ((e : GatewayFault) → Q e → ⊥) → MatchOption (take_refusal held) P Q → connection_at g id ≡ held
+waits : (g : State) (grid : Grid) (opening : Opening) (events : List Event) (id : ℕ) (held : Option ConnectionState) (P : Type 0) (Q : GatewayFault → Type 0) → ((e : GatewayFault) → Q e → ⊥) → MatchOption (take_refusal held) P Q → connection_at g id ≡ held
     → g.settings ≡ settings_by grid → CameAt g.settings opening.world id held events → unsaid grid opening id events ≡ waiting g id
 waits g grid opening events id None P Q never answer is set at = absurd (never NotOpen answer)
 waits g grid opening events id (Some h) P Q never answer is set at =
@@ -152,7 +152,7 @@ taken_reply g grid opening events id most reply law set sharing came is = record
 }
 
 pub take_called : KeptIsVerified → (old new : State) (id most : ℕ) (given : List ℕ) (P : Type 0) (Q : GatewayFault → Type 0) → ((e : GatewayFault) → Q e → ⊥) → MatchOption (take_refusal (connection_at old id)) P Q → given ≡ take most (waiting old id)
-    → ((h : Held) → connection_at old id ≡ Some h → new ≡ with_held old id (taken most h)) → GoesOn old new (Take id given) → IsCalled old new (call.Take id most) (Given given)
+    → ((h : ConnectionState) → connection_at old id ≡ Some h → new ≡ with_held old id (taken most h)) → GoesOn old new (Take id given) → IsCalled old new (call.Take id most) (Given given)
 take_called law old new id most given P Q never answer is left on =
     let h = taken_held (connection_at old id) P Q never answer in
     record {

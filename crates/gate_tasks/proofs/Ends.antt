@@ -7,7 +7,7 @@ use Rattle.std.proofs.lemmas.Bool.Decides.{nat_tests}
 use Rattle.std.proofs.lemmas.List.{append-nil}
 use Rattle.std.proofs.lemmas.List.Elements.{All-take}
 use Rattle.std.proofs.Math.Seq.{take-append_seam}
-use Rattle.gate_core.specs.Held.{State}
+use Rattle.gate_core.specs.ConnectionState.{State}
 use Rattle.gate_tasks.specs.Command.{command_of}
 use Rattle.gate_tasks.specs.Lines.{LacksLf, Line, lines_of, piece_of, is_within}
 use Rattle.gate_tasks.specs.Reading.{IsTooLong, ReadsLine, LineReads}

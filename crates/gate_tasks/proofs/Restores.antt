@@ -12,7 +12,7 @@ use Rattle.grid.specs.Leaves.{Leaves}
 use Rattle.chk_file.specs.Marks.{shown}
 use Rattle.chk_file.specs.World.{World}
 use Rattle.gate_core.specs.Items.{items}
-use Rattle.gate_core.specs.Held.{State}
+use Rattle.gate_core.specs.ConnectionState.{State}
 use Rattle.gate_core.specs.Came.{Opening, Came, Starts}
 use Rattle.gate_tasks.specs.Stores.{fresh}
 use Rattle.gate_tasks.specs.Replies.{room_of, IsOpenedBy}

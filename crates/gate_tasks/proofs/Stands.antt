@@ -5,7 +5,7 @@ use Rattle.std.specs.Io.{IsEmptyOrEndsWith}
 use Rattle.std.specs.Io.KnownBytes.{Consumes, Appends}
 use Rattle.std.proofs.KnownBytes.{Consumes-nil, Consumes-trans, Appends-nil, Appends-trans}
 use Rattle.std.proofs.lemmas.Bool.Decides.{nat_tests}
-use Rattle.gate_core.specs.Held.{State}
+use Rattle.gate_core.specs.ConnectionState.{State}
 use Rattle.gate_tasks.specs.Command.{command_of}
 use Rattle.gate_tasks.specs.Lines.{Line, lines_of, piece_of, fits, is_within}
 use Rattle.gate_tasks.specs.Reading.{ReadsLine}

@@ -7,7 +7,7 @@ use Rattle.gate_core.specs.Events.{Event}
 use Rattle.gate_core.specs.Items.{Entry, items, items_after, completed}
 use Rattle.gate_core.specs.Runs.{after_entry}
 use Rattle.gate_core.specs.Rooms.{Rooms, room_after, HasRoomForAll}
-use Rattle.gate_core.specs.Held.{State}
+use Rattle.gate_core.specs.ConnectionState.{State}
 use Rattle.gate_core.specs.Came.{Opening, Came}
 use Rattle.gate_tasks.specs.Script.{Step, may_stand}
 use Rattle.gate_tasks.specs.Replies.{CallStep, settings_by, IsOpening, IsCalm, IsScriptReply, event_by, events_of, call_of, calls_in, AreReplies, BeginsWell, IsToldAfter, IsToldFrom, AreTold}

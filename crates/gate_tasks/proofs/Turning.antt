@@ -3,7 +3,7 @@ use Rattle.std.proofs.Common.{◌≡◌, ◌≢◌, ℕ, ◌+◌, ◌≤◌, Lis
 use Rattle.std.proofs.KnownBytes.{Consumes-nil, Consumes-trans}
 use Rattle.std.specs.Prelude.{MatchBool, MatchOption, IsOkUnless, OnOk}
 use Rattle.gate_core.specs.declared.fault.GatewayFault.{GatewayFault}
-use Rattle.gate_core.specs.Held.{State, connection_at}
+use Rattle.gate_core.specs.ConnectionState.{State, connection_at}
 use Rattle.gate_flow.specs.declared.fault.FlowFault.{FlowFault}
 use Rattle.gate_flow.specs.declared.fault.FlowFault.TheVariants.{Refused, ReadFailed, WriteFailed, NoMemory}
 use Rattle.gate_flow.specs.declared.want.Want.{Want}
@@ -12,7 +12,7 @@ use Rattle.gate_flow.specs.State.{FlowState, IsSound, Stands, opened_flow}
 use Rattle.gate_flow.specs.Run.{HasRunCalmly}
 use Rattle.gate_flow.specs.Faults.{IsReadFault, IsWriteFault, IsCallFault}
 use Rattle.gate_flow.specs.Led.{TakesBytes}
-use Rattle.gate_core.specs.Held.{bytes_refusal}
+use Rattle.gate_core.specs.ConnectionState.{bytes_refusal}
 use Rattle.gate_flow.specs.Steps.{Rests, RestsAt, IsRead}
 use Rattle.gate_flow.specs.Served.{StopsAt, IsStopped}
 use Rattle.gate_tasks.specs.Turns.{IsReadWithin, most_at_a_time}

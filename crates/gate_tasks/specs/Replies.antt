@@ -43,7 +43,7 @@ pub record CallStep : Type 0 where
 
 -- what the line `grid` sets a gateway up with
 abbrev pub settings_by : Grid → Settings
-settings_by grid = record { k = grid.k; n = grid.n; secret = grid.secret; servers = grid.servers }
+settings_by grid = record { k = grid.k; n = grid.n; secret = grid.secret; servers = grid.servers; pages = [] }
 
 -- a gateway has these parameters
 abbrev pub are_parameters : Grid → Bool

@@ -5,7 +5,7 @@ use Rattle.std.specs.Io.KnownBytes.{Consumes, Appends, IsAtEnd}
 use Rattle.octets.specs.Sharing.{IsSharing}
 use Rattle.octets.specs.Written.{WritesBeginning}
 use Rattle.gate_core.specs.Events.{Event}
-use Rattle.gate_core.specs.Held.{State}
+use Rattle.gate_core.specs.ConnectionState.{State}
 use Rattle.gate_core.specs.Came.{Opening, Came}
 use Rattle.gate_tasks.specs.Command.{command_of}
 use Rattle.gate_tasks.specs.Lines.{LacksLf}

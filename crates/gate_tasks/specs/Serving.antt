@@ -1,8 +1,8 @@
 -- What a server begins with.
-use Rattle.std.specs.Prelude.{ℕ, List, replicate}
+use Rattle.std.specs.Prelude.{ℕ, List, [], replicate}
 use Rattle.std.specs.FinMap as finite
 use Rattle.grid.specs.Stamps.{never_raised}
-use Rattle.gate_core.specs.Held.{State}
+use Rattle.gate_core.specs.ConnectionState.{State}
 use Rattle.gate_core.specs.Tallies.{nothing_counted}
 use Rattle.gate_tasks.specs.Stores.{fresh}
 
@@ -14,7 +14,7 @@ server_room = 1073741824
 -- called yet, nothing stands, and no reply was made.
 abbrev pub set_up_with : List ℕ → State
 set_up_with secret = record {
-  settings = record { k = 3; n = 10; secret = secret; servers = 5 };
+  settings = record { k = 3; n = 10; secret = secret; servers = 5; pages = [] };
   connections = finite.empty;
   grid = record { stores = replicate 5 (fresh server_room); stamps = never_raised };
   tally = nothing_counted;

@@ -1,7 +1,7 @@
 -- What turns do to a flow, a gateway and their streams.
 use Rattle.std.specs.Prelude.{ℕ, ◌≤◌, List, length, Option}
 use Rattle.std.specs.Io.KnownBytes.{Consumes}
-use Rattle.gate_core.specs.Held.{State}
+use Rattle.gate_core.specs.ConnectionState.{State}
 use Rattle.gate_flow.specs.declared.fault.FlowFault.{FlowFault}
 use Rattle.gate_flow.specs.State.{FlowState}
 use Rattle.gate_flow.specs.Run.{HasRun, HasRunCalmly}

@@ -1,6 +1,6 @@
 //! One connection's turns: its bytes are read, brought to the gateway, and what waits for it is written.
 ghost use Rattle.std.specs.Prelude.{◌≡◌, ◌≢◌, ◌⊎◌, ◌↔◌, ℕ, List, [], Option, OnOk, IfOk, IfErr, MatchBool, None};
-ghost use Rattle.gate_core.specs.Held.{State, connection_at};
+ghost use Rattle.gate_core.specs.ConnectionState.{State, connection_at};
 ghost use Rattle.gate_flow.specs.Steps.{IsRead, IsWritten, Rests};
 ghost use Rattle.gate_flow.specs.Served.{IsServed, IsStopped, StopsAt};
 ghost use Rattle.gate_tasks.specs.Turns.{RunsOn, RunsInto, IsReadWithin, most_read, most_at_a_time};

@@ -3,6 +3,7 @@ ghost use Rattle.std.specs.Prelude.{◌≡◌, ◌<◌, ◌⊎◌, ℕ, List, no
 ghost use Rattle.std.specs.List.{list_any};
 ghost use Rattle.http_edge.specs.Judge.{closes};
 ghost use Rattle.http_edge.specs.Frame.{frame};
+ghost use Rattle.http_edge.specs.Kept.{kept_bytes};
 ghost use Rattle.http_edge.specs.Left.{part_of, closed, is_closed, rest, frame_from, rest_from};
 ghost use Rattle.http_edge.specs.State.{IsSettled, Takes, listed};
 
@@ -80,6 +81,18 @@ impl Conn {
             → result ≡ list_any closes (frame before) }
     {
         !self.is_open()
+    }
+
+    /// How many bytes are kept of what isn't whole yet: of a head block, or of a body. Takes no memory.
+    pub fn kept(&self) -> usize
+        ensures { result ≡ kept_bytes self.now }
+    {
+        match &self.state {
+            State::Head(part) => part.len(),
+            State::Body(_, body) => body.len(),
+            State::Chunks(_, content, _) => content.len(),
+            State::Closed => 0,
+        }
     }
 
     /// Whether items can come; in what is kept none stands complete.

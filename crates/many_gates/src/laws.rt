@@ -17,8 +17,8 @@ ghost use Rattle.gate_core.specs.Runs.{upload_by, after_entry, world_after, told
 ghost use Rattle.gate_core.specs.Reach.{only};
 ghost use Rattle.gate_core.specs.Apart.{Apart};
 ghost use Rattle.gate_core.specs.Uploaded.{IsProper, IsLeftBy};
-ghost use Rattle.gate_core.specs.Held.{Held, State, connection_at};
-ghost use Rattle.gate_core.specs.Lefts.{with_held, opened, taken, ended};
+ghost use Rattle.gate_core.specs.ConnectionState.{ConnectionState, State, connection_at};
+ghost use Rattle.gate_core.specs.AfterCall.{with_held, opened, taken, ended};
 ghost use Rattle.gate_core.specs.Served.{IsReceived};
 ghost use Rattle.gate_core.specs.Came.{Opening, Came, IsRoomy};
 ghost use Rattle.restarts.specs.Mended.{AreCutOff};
@@ -86,7 +86,7 @@ pub fn answers_are_written_ones()
 /// all their calls, in the order in which they were made.
 pub fn gateways_are_one()
     ensures received { (opening : Opening) (all part new : State) (events : List Event) (id : ℕ)
-        (held : Held) (piece : List ℕ) → Came opening all events → IsOneOfThem part all →
+        (held : ConnectionState) (piece : List ℕ) → Came opening all events → IsOneOfThem part all →
         connection_at part id ≡ Some held → held.stage ≡ OpenStage →
         IsReceived part new id held piece →
         IsRoomy all.settings opening (events ++ Bytes id piece ∷ []) →
@@ -99,12 +99,12 @@ pub fn gateways_are_one()
         GoesOnTogether opening all (with_held part id (opened secret)) id events
         (Open id (unwrap_or secret all.settings.secret)) }
     ensures taken { (opening : Opening) (all part : State) (events : List Event) (id max : ℕ)
-        (held : Held) → Came opening all events → IsOneOfThem part all →
+        (held : ConnectionState) → Came opening all events → IsOneOfThem part all →
         connection_at part id ≡ Some held →
         GoesOnTogether opening all (with_held part id (taken max held)) id events
         (Take id (take max held.waiting)) }
     ensures ended { (opening : Opening) (all part : State) (events : List Event) (id : ℕ)
-        (held : Held) → Came opening all events → IsOneOfThem part all →
+        (held : ConnectionState) → Came opening all events → IsOneOfThem part all →
         connection_at part id ≡ Some held →
         GoesOnTogether opening all (with_held part id (ended held)) id events (End id) }
 {

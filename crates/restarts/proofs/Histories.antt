@@ -16,11 +16,11 @@ use Rattle.gate_core.specs.Events.{Event}
 use Rattle.gate_core.specs.Items.{Entry, items, entries_of_items}
 use Rattle.gate_core.specs.Runs.{upload_by, after_entry, world_after}
 use Rattle.gate_core.specs.Uploaded.{IsProper, BringsBytes}
-use Rattle.gate_core.specs.Held.{Held, State, secret_at}
+use Rattle.gate_core.specs.ConnectionState.{ConnectionState, State, secret_at}
 use Rattle.gate_core.specs.Served.{AreBegun, IsReceived}
 use Rattle.gate_core.specs.Came.{Starts, GoesOn}
 use Rattle.restarts.specs.Mended.{AreCutOff}
-use Rattle.restarts.specs.Lives.{Life, IsLived, AreLived, IsHistory, Restarted, items_in, items_of}
+use Rattle.restarts.specs.CrashedRuns.{CrashedRun, IsCrashedRun, AreLived, IsHistory, Restarted, items_in, items_of}
 use Rattle.restarts.specs.LeftIn.{AreLeftIn}
 use Rattle.restarts.proofs.Ends.{PutLaw}
 use Rattle.restarts.proofs.Lives.{same_after}
@@ -31,7 +31,7 @@ use Rattle.restarts.proofs.Runs.{world-append}
 pub begins : (settings : Settings) (w : World) (g : State) → g.settings ≡ under settings g.settings.secret → IsHonest g.grid → Starts w g → IsHistory settings w [] g []
 begins settings w g same honest starts = record { lived = tt; same = same; rooms = room_at g.grid; came = starts honest }
 
-pub called : (settings : Settings) (w : World) (lives : List Life) (old new : State) (events : List Event) (e : Event) → IsHistory settings w lives old events → new.settings ≡ old.settings → GoesOn old new e
+pub called : (settings : Settings) (w : World) (lives : List CrashedRun) (old new : State) (events : List Event) (e : Event) → IsHistory settings w lives old events → new.settings ≡ old.settings → GoesOn old new e
     → IsHistory settings w lives new (events ++ e ∷ [])
 called settings w lives old new events e history kept on = record {
   lived = history.lived;
@@ -40,18 +40,18 @@ called settings w lives old new events e history kept on = record {
   came = on (record { world = world_after settings w (items_of lives); rooms = history.rooms }) events history.came;
 }
 
-items-append : (lives : List Life) (life : Life) → items_of (lives ++ life ∷ []) ≡ items_of lives ++ items_in life
+items-append : (lives : List CrashedRun) (life : CrashedRun) → items_of (lives ++ life ∷ []) ≡ items_of lives ++ items_in life
 items-append [] life = append-nil (items_in life)
 items-append (l ∷ ls) life = ap (λ (r : List Entry). items_in l ++ r) (items-append ls life) ∙ sym (append_assoc (items_in l) (items_of ls) (items_in life))
 
-lived-append : (settings : Settings) (w : World) (lives : List Life) (life : Life) → AreLived settings w lives → IsLived settings (world_after settings w (items_of lives)) life → AreLived settings w (lives ++ life ∷ [])
+lived-append : (settings : Settings) (w : World) (lives : List CrashedRun) (life : CrashedRun) → AreLived settings w lives → IsCrashedRun settings (world_after settings w (items_of lives)) life → AreLived settings w (lives ++ life ∷ [])
 lived-append settings w [] life lived one = (one, tt)
 lived-append settings w (l ∷ ls) life lived one =
-    (lived.0, lived-append settings (world_after settings w (items_in l)) ls life lived.1 (subst (λ (v : World). IsLived settings v life) (world-append settings w (items_in l) (items_of ls)) one))
+    (lived.0, lived-append settings (world_after settings w (items_in l)) ls life lived.1 (subst (λ (v : World). IsCrashedRun settings v life) (world-append settings w (items_in l) (items_of ls)) one))
 
 pub crashed : Resumes
     → ((w : World) (g : State) → g.connections ≡ map.empty → length g.grid.stores ≡ g.settings.servers → stood g.grid ≡ shown w.marks → Starts w g)
-    → (settings : Settings) (w : World) (lives : List Life) (g : State) (events : List Event) (asked : List Entry) (c : Standing) (h : State) → IsHistory settings w lives g events
+    → (settings : Settings) (w : World) (lives : List CrashedRun) (g : State) (events : List Event) (asked : List Entry) (c : Standing) (h : State) → IsHistory settings w lives g events
     → AllByRecursion (λ x. IsProper settings (x ∷ [])) asked → AreCutOff settings (shown (world_after settings (world_after settings w (items_of lives)) (items events)).marks) asked c
     → h.settings ≡ under settings h.settings.secret → h.connections ≡ map.empty → length h.grid.stores ≡ h.settings.servers → IsHonest h.grid → stood h.grid ≡ c
     → Restarted settings w lives g events asked h
@@ -59,7 +59,7 @@ crashed resumes starts settings w lives g events asked c h history proper off sa
     let v : World = world_after settings w (items_of lives) in
     let before : World = world_after settings v (items events) in
     let r : Ended settings before asked c = ended resumes settings before asked (shown before.marks) c refl off in
-    let life : Life = record { events = events; gateway = g; asked = asked; ends = r.ends } in
+    let life : CrashedRun = record { events = events; gateway = g; asked = asked; ends = r.ends } in
     let w' : World = world_after settings w (items_of (lives ++ life ∷ [])) in
     let ends : world_after settings before r.ends ≡ w' =
     sym (world-append settings v (items events) r.ends)
@@ -90,7 +90,7 @@ same_world s own w (x ∷ xs) = ap (λ v. world_after (under s own) v xs) (same_
 
 pub crashed_in_bytes : PutLaw → Resumes
     → ((w : World) (g : State) → g.connections ≡ map.empty → length g.grid.stores ≡ g.settings.servers → stood g.grid ≡ shown w.marks → Starts w g)
-    → (settings : Settings) (w : World) (lives : List Life) (g new : State) (events : List Event) (id : ℕ) (held : Held) (piece : List ℕ) (c : Standing) (h : State) → IsSharing settings.k settings.n
+    → (settings : Settings) (w : World) (lives : List CrashedRun) (g new : State) (events : List Event) (id : ℕ) (held : ConnectionState) (piece : List ℕ) (c : Standing) (h : State) → IsSharing settings.k settings.n
     → IsHistory settings w lives g events → IsReceived g new id held piece → AreLeftIn g.grid new.grid c
     → h.settings ≡ under settings h.settings.secret → h.connections ≡ map.empty → length h.grid.stores ≡ h.settings.servers → IsHonest h.grid → stood h.grid ≡ c
     → Restarted settings w lives g events (entries_of_items id (secret_at g.settings held) (frame_from held.conn piece)) h

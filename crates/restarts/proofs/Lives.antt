@@ -15,9 +15,9 @@ use Rattle.gate_core.specs.Reach.{only, kept_by, kept}
 use Rattle.gate_core.specs.Apart.{Apart}
 use Rattle.gate_core.specs.Uploaded.{IsProper, IsLeftBy, uploads_by, uploads_of}
 use Rattle.gate_core.specs.Rooms.{Rooms}
-use Rattle.gate_core.specs.Held.{State, waiting}
+use Rattle.gate_core.specs.ConnectionState.{State, waiting}
 use Rattle.gate_core.specs.Came.{Opening, Came}
-use Rattle.restarts.specs.Lives.{Life, IsLived, AreLived, IsHistory, items_in, items_of, unheard}
+use Rattle.restarts.specs.CrashedRuns.{CrashedRun, IsCrashedRun, AreLived, IsHistory, items_in, items_of, unheard}
 use Rattle.restarts.specs.Callers.{caller_number, in_run, items_from, all_items, told_over}
 use Rattle.restarts.proofs.Mends.{proper_none, proper_ends}
 use Rattle.restarts.proofs.Runs.{world-append, said-append, proper-append, left-append}
@@ -61,21 +61,21 @@ proper_calls settings w rooms g events sharing same came = record {
   bytes = subst (All (λ (u : Upload). AreBytes u.bytes)) (ap (λ (s : Settings). uploads_of s (items events)) same ∙ same_uploads settings g.settings.secret (items events)) came.bytes;
 }
 
-proper_life : (settings : Settings) (w : World) (life : Life) → IsSharing settings.k settings.n → IsLived settings w life → IsProper settings (items_in life)
+proper_life : (settings : Settings) (w : World) (life : CrashedRun) → IsSharing settings.k settings.n → IsCrashedRun settings w life → IsProper settings (items_in life)
 proper_life settings w life sharing lived =
     proper-append settings (items life.events) life.ends (proper_calls settings w lived.rooms life.gateway life.events sharing lived.same lived.came)
     (proper_ends settings (world_after settings w (items life.events)) life.asked life.ends sharing lived.end lived.proper)
 
-proper_lives : (settings : Settings) (w : World) (lives : List Life) → IsSharing settings.k settings.n → AreLived settings w lives → IsProper settings (items_of lives)
+proper_lives : (settings : Settings) (w : World) (lives : List CrashedRun) → IsSharing settings.k settings.n → AreLived settings w lives → IsProper settings (items_of lives)
 proper_lives settings w [] sharing lived = proper_none settings sharing
 proper_lives settings w (life ∷ lives) sharing lived =
     proper-append settings (items_in life) (items_of lives) (proper_life settings w life sharing lived.0) (proper_lives settings (world_after settings w (items_in life)) lives sharing lived.1)
 
-pub left_by_all : (settings : Settings) (past : List Entry) (w : World) (lives : List Life) → IsLeftBy settings past w → AreLived settings w lives
+pub left_by_all : (settings : Settings) (past : List Entry) (w : World) (lives : List CrashedRun) → IsLeftBy settings past w → AreLived settings w lives
     → IsLeftBy settings (past ++ items_of lives) (world_after settings w (items_of lives))
 left_by_all settings past w lives left lived = left-append settings past (items_of lives) w left (proper_lives settings w lives left.proper.sharing lived)
 
-proper_from : (settings : Settings) → IsSharing settings.k settings.n → (run : ℕ) (w : World) (lives : List Life) (events : List Event) → AreLived settings w lives → IsProper settings (items events)
+proper_from : (settings : Settings) → IsSharing settings.k settings.n → (run : ℕ) (w : World) (lives : List CrashedRun) (events : List Event) → AreLived settings w lives → IsProper settings (items events)
     → IsProper settings (items_from run lives events)
 proper_from settings sharing run w [] events lived calls = proper_in_run settings run (items events) calls
 proper_from settings sharing run w (life ∷ lives) events lived calls =
@@ -104,7 +104,7 @@ module _ (whole : Whole) (settings : Settings) (caller : ℕ) where
       ∙ ap (λ (s : Settings). said_by by_fit s caller w (items events)) same
       ∙ same_said by_fit settings g.settings.secret caller w (items events)
 
-  told_life : (w : World) (life : Life) → IsLived settings w life → handed caller life.events ++ unheard settings caller w life ≡ said_by by_fit settings caller w (items_in life)
+  told_life : (w : World) (life : CrashedRun) → IsCrashedRun settings w life → handed caller life.events ++ unheard settings caller w life ≡ said_by by_fit settings caller w (items_in life)
   told_life w life lived =
       let rest : List ℕ = said_by by_fit settings caller (world_after settings w (items life.events)) life.ends in
       sym (append_assoc (handed caller life.events) (waiting life.gateway caller) rest)
@@ -112,7 +112,7 @@ module _ (whole : Whole) (settings : Settings) (caller : ℕ) where
       ∙ sym (said-append by_fit settings caller w (items life.events) life.ends)
 
   -- those of a run that others came before, over the runs from there on
-  pub told_from : (run base : ℕ) (w : World) (lives : List Life) (g : State) (events : List Event) (rooms : Rooms) → AreLived settings w lives → g.settings ≡ under settings g.settings.secret
+  pub told_from : (run base : ℕ) (w : World) (lives : List CrashedRun) (g : State) (events : List Event) (rooms : Rooms) → AreLived settings w lives → g.settings ≡ under settings g.settings.secret
       → Came (record { world = world_after settings w (items_of lives); rooms = rooms }) g events
       → told_over settings run caller w lives g events ≡ said_by by_fit settings (caller_number (base + run) caller) w (items_from base lives events)
   told_from zero base w [] g events rooms lived same came =
@@ -142,19 +142,19 @@ module _ (whole : Whole) (settings : Settings) (caller : ℕ) where
       ∙ ap (λ (l : List ℕ). l ++ said_by by_fit settings who v (items_from (suc base) lives events)) (sym (none_said by_fit settings base (base + suc run) caller w (items_in life) (λ e. absurd (omega (arith, e)))))
       ∙ sym (said-append by_fit settings who w mine (items_from (suc base) lives events))
 
-  pub told_all : (run : ℕ) (w : World) (lives : List Life) (g : State) (events : List Event) → IsHistory settings w lives g events
+  pub told_all : (run : ℕ) (w : World) (lives : List CrashedRun) (g : State) (events : List Event) → IsHistory settings w lives g events
       → told_over settings run caller w lives g events ≡ said_by by_fit settings (caller_number run caller) w (all_items lives events)
   told_all run w lives g events history =
       told_from run 0 w lives g events history.rooms history.lived history.same history.came
       ∙ ap (λ (r : ℕ). said_by by_fit settings (caller_number r caller) w (all_items lives events)) (zero-add run)
 
-  pub told_verified : LocalAnswers → (run : ℕ) (w : World) (lives : List Life) (g : State) (events : List Event) → IsHistory settings w lives g events
+  pub told_verified : LocalAnswers → (run : ℕ) (w : World) (lives : List CrashedRun) (g : State) (events : List Event) → IsHistory settings w lives g events
       → told_over settings run caller w lives g events ≡ said_by by_fit settings (caller_number run caller) w (kept_by by_fit settings (only (caller_number run caller)) w (all_items lives events))
   told_verified local run w lives g events history =
       let who : ℕ = caller_number run caller in
       told_all run w lives g events history ∙ sym (local settings (only who) who w (all_items lives events) (eq-eqb who who refl))
 
-  module _ (answers : KeptAnswers) (past : List Entry) (w : World) (lives : List Life) (g : State) (events : List Event) (history : IsHistory settings w lives g events) (left : IsLeftBy settings past w) where
+  module _ (answers : KeptAnswers) (past : List Entry) (w : World) (lives : List CrashedRun) (g : State) (events : List Event) (history : IsHistory settings w lives g events) (left : IsLeftBy settings past w) where
     abbrev v : World
     v = world_after settings w (items_of lives)
 

@@ -16,7 +16,7 @@ use Rattle.gate_core.specs.Settings.{Settings}
 use Rattle.gate_core.specs.Items.{Entry}
 use Rattle.gate_core.specs.Runs.{after_entry, world_after, told, said_by}
 use Rattle.gate_core.specs.Uploaded.{IsProper, IsLeftBy, uploads_by, uploads_of}
-use Rattle.gate_core.specs.Held.{State}
+use Rattle.gate_core.specs.ConnectionState.{State}
 use Rattle.gate_core.specs.Came.{Starts}
 use Rattle.restarts.specs.CutOff.{IsCutOff}
 use Rattle.restarts.specs.Resumed.{Resumed}

@@ -12,7 +12,7 @@ use Rattle.gate_core.specs.Answers.{answer}
 use Rattle.gate_core.specs.Settings.{under}
 use Rattle.gate_core.specs.Runs.{after_entry, world_after, told, said_by}
 use Rattle.gate_core.specs.Uploaded.{IsProper, uploads_by, uploads_of}
-use Rattle.restarts.specs.Lives.{Life, items_in}
+use Rattle.restarts.specs.CrashedRuns.{CrashedRun, items_in}
 use Rattle.restarts.specs.Callers.{caller_number, in_run, items_from}
 use Rattle.restarts.proofs.Runs.{said-append}
 
@@ -90,7 +90,7 @@ none_said look settings r s id w (x ∷ xs) apart =
     ∙ none_said look settings r s id (after_entry settings (in_run r x) w) xs apart
 
 -- later runs have no item of an earlier one's caller
-pub none_later : (look : World → Look) (settings : Settings) (r s id : ℕ) (w : World) (lives : List Life) (events : List Event) → s < r → said_by look settings (caller_number s id) w (items_from r lives events) ≡ []
+pub none_later : (look : World → Look) (settings : Settings) (r s id : ℕ) (w : World) (lives : List CrashedRun) (events : List Event) → s < r → said_by look settings (caller_number s id) w (items_from r lives events) ≡ []
 none_later look settings r s id w [] events later = none_said look settings r s id w (items events) (λ e. absurd (omega (arith, later, e)))
 none_later look settings r s id w (life ∷ lives) events later =
     said-append look settings (caller_number s id) w (map (in_run r) (items_in life)) (items_from (suc r) lives events)

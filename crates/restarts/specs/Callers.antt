@@ -6,8 +6,8 @@ use Rattle.gate_core.specs.Settings.{Settings}
 use Rattle.gate_core.specs.Events.{Event, handed}
 use Rattle.gate_core.specs.Items.{Entry, Asked, Lost, Spoiled, items}
 use Rattle.gate_core.specs.Runs.{world_after}
-use Rattle.gate_core.specs.Held.{State, waiting}
-use Rattle.restarts.specs.Lives.{Life, items_in, unheard}
+use Rattle.gate_core.specs.ConnectionState.{State, waiting}
+use Rattle.restarts.specs.CrashedRuns.{CrashedRun, items_in, unheard}
 
 -- A number for the connection `id` of the run before which there were `run` others. No two of them have the same.
 abbrev pub caller_number : ℕ → ℕ → ℕ
@@ -22,17 +22,17 @@ in_run run (Spoiled server key place) = Spoiled server key place
 
 -- the items of runs one after the other, as one run: those that a crash ended, and the calls of the last one; before the first
 -- of them there were `run` others
-abbrev pub items_from : ℕ → List Life → List Event → List Entry
+abbrev pub items_from : ℕ → List CrashedRun → List Event → List Entry
 items_from run [] events = map (in_run run) (items events)
 items_from run (life ∷ lives) events = map (in_run run) (items_in life) ++ items_from (suc run) lives events
 
 -- those of all runs
-abbrev pub all_items : List Life → List Event → List Entry
+abbrev pub all_items : List CrashedRun → List Event → List Entry
 all_items lives events = items_from 0 lives events
 
 -- What a connection of the run with this number was handed, and what it didn't get: at the crash, or what waits for it now
 -- where the run is the last one.
-abbrev pub told_over : Settings → ℕ → ℕ → World → List Life → State → List Event → List ℕ
+abbrev pub told_over : Settings → ℕ → ℕ → World → List CrashedRun → State → List Event → List ℕ
 told_over settings zero id w [] g events = handed id events ++ waiting g id
 told_over settings (suc run) id w [] g events = []
 told_over settings zero id w (life ∷ lives) g events = handed id life.events ++ unheard settings id w life

@@ -5,5 +5,5 @@ pub mod LeftIn
 pub mod Reopened
 pub mod Mended
 pub mod Stores
-pub mod Lives
+pub mod CrashedRuns
 pub mod Callers

@@ -8,7 +8,7 @@ use Rattle.gate_core.specs.Settings.{Settings}
 use Rattle.gate_core.specs.Items.{Entry}
 use Rattle.gate_core.specs.Runs.{world_after}
 use Rattle.gate_core.specs.Uploaded.{IsLeftBy}
-use Rattle.gate_core.specs.Held.{State}
+use Rattle.gate_core.specs.ConnectionState.{State}
 use Rattle.gate_core.specs.Came.{Starts}
 use Rattle.restarts.specs.Resumed.{IsEnd}
 

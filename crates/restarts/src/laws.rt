@@ -22,7 +22,7 @@ ghost use Rattle.gate_core.specs.Runs.{world_after, said_by, said};
 ghost use Rattle.gate_core.specs.Reach.{only, kept_by, kept};
 ghost use Rattle.gate_core.specs.Apart.{Apart};
 ghost use Rattle.gate_core.specs.Uploaded.{IsProper, IsLeftBy};
-ghost use Rattle.gate_core.specs.Held.{Held, State, secret_at, waiting};
+ghost use Rattle.gate_core.specs.ConnectionState.{ConnectionState, State, secret_at, waiting};
 ghost use Rattle.gate_core.specs.Served.{IsReceived};
 ghost use Rattle.gate_core.specs.Stopped.{IsCutShort};
 ghost use Rattle.gate_core.specs.Came.{Starts, GoesOn};
@@ -32,7 +32,7 @@ ghost use Rattle.restarts.specs.Reopened.{Reopened};
 ghost use Rattle.restarts.specs.Mended.{AreCutOff, Mended};
 ghost use Rattle.restarts.specs.Stores.{AreLeft};
 ghost use Rattle.restarts.specs.LeftIn.{AreLeftIn};
-ghost use Rattle.restarts.specs.Lives.{Life, AreLived, IsHistory, Restarted, items_of};
+ghost use Rattle.restarts.specs.CrashedRuns.{CrashedRun, AreLived, IsHistory, Restarted, items_of};
 ghost use Rattle.restarts.specs.Callers.{caller_number, all_items, told_over};
 
 use share_shelf::Shelf;
@@ -105,18 +105,18 @@ pub fn refused_items_are_mended()
 /// room and fail or not, and so of the call as it would have ended.
 pub fn calls_are_cut_off()
     // by `received` of `Gateway::bytes`
-    ensures received { (old new : State) (id : ℕ) (held : Held) (piece : List ℕ) (d : Standing) →
+    ensures received { (old new : State) (id : ℕ) (held : ConnectionState) (piece : List ℕ) (d : Standing) →
         IsHonest old.grid → length old.grid.stores ≡ old.settings.servers →
         IsReceived old new id held piece → AreLeftIn old.grid new.grid d →
         AreCutOff old.settings (stood old.grid) (entries_of_items id
         (secret_at old.settings held) (frame_from held.conn piece)) d }
     // and what these items upload are bytes
-    ensures proper { (old new : State) (id : ℕ) (held : Held) (piece : List ℕ) →
+    ensures proper { (old new : State) (id : ℕ) (held : ConnectionState) (piece : List ℕ) →
         IsSharing old.settings.k old.settings.n → IsReceived old new id held piece →
         AllByRecursion (λ x. IsProper old.settings (x ∷ [])) (entries_of_items id
         (secret_at old.settings held) (frame_from held.conn piece)) }
     // by `cut_short`, where memory runs out: of the items up to the one at which it does
-    ensures cut_short { (old new : State) (id : ℕ) (held : Held) (piece : List ℕ) (d : Standing)
+    ensures cut_short { (old new : State) (id : ℕ) (held : ConnectionState) (piece : List ℕ) (d : Standing)
         (short : IsCutShort old new id held piece) →
         IsHonest old.grid → length old.grid.stores ≡ old.settings.servers →
         AreLeftIn old.grid new.grid d →
@@ -142,13 +142,13 @@ pub fn histories_go_on()
     ensures begins { (settings : Settings) (w : World) (g : State) →
         g.settings ≡ under settings g.settings.secret → IsHonest g.grid →
         Starts w g → IsHistory settings w [] g [] }
-    ensures called { (settings : Settings) (w : World) (lives : List Life) (old new : State)
+    ensures called { (settings : Settings) (w : World) (lives : List CrashedRun) (old new : State)
         (events : List Event) (e : Event) → IsHistory settings w lives old events →
         new.settings ≡ old.settings → GoesOn old new e →
         IsHistory settings w lives new (events ++ e ∷ []) }
     // The run that a crash ended is one more behind it, and a gateway over what the crash left begins the next: each item
     // of the call under way was done, cut off or not begun.
-    ensures crashed { (settings : Settings) (w : World) (lives : List Life) (g : State)
+    ensures crashed { (settings : Settings) (w : World) (lives : List CrashedRun) (g : State)
         (events : List Event) (asked : List Entry) (c : Standing) (h : State) →
         IsHistory settings w lives g events →
         AllByRecursion (λ x. IsProper settings (x ∷ [])) asked →
@@ -159,8 +159,8 @@ pub fn histories_go_on()
         IsHonest h.grid → stood h.grid ≡ c →
         Restarted settings w lives g events asked h }
     // So it is of a crash inside `Gateway::bytes`, at whatever moment of the call each server was left.
-    ensures crashed_in_bytes { (settings : Settings) (w : World) (lives : List Life)
-        (g new : State) (events : List Event) (id : ℕ) (held : Held) (piece : List ℕ)
+    ensures crashed_in_bytes { (settings : Settings) (w : World) (lives : List CrashedRun)
+        (g new : State) (events : List Event) (id : ℕ) (held : ConnectionState) (piece : List ℕ)
         (c : Standing) (h : State) → IsSharing settings.k settings.n →
         IsHistory settings w lives g events → IsReceived g new id held piece →
         AreLeftIn g.grid new.grid c →
@@ -183,22 +183,22 @@ pub fn callers_are_told_over_restarts()
     ensures callers { (run id other_run other_id : ℕ) →
         caller_number run id ≡ caller_number other_run other_id → (run ≡ other_run) × (id ≡ other_id) }
     // all runs together left what one run leaves, and so did each of them
-    ensures left { (settings : Settings) (past : List Entry) (w : World) (lives : List Life) →
+    ensures left { (settings : Settings) (past : List Entry) (w : World) (lives : List CrashedRun) →
         IsLeftBy settings past w → AreLived settings w lives →
         IsLeftBy settings (past ++ items_of lives) (world_after settings w (items_of lives)) }
     // by verification, with nothing dropped and no premise on hashes
-    ensures verified_whole { (settings : Settings) (w : World) (lives : List Life) (g : State)
+    ensures verified_whole { (settings : Settings) (w : World) (lives : List CrashedRun) (g : State)
         (events : List Event) (run id : ℕ) → IsHistory settings w lives g events →
         told_over settings run id w lives g events
         ≡ said_by by_fit settings (caller_number run id) w (all_items lives events) }
     // with the items of others dropped, save uploads under a storage index that the caller met
-    ensures verified { (settings : Settings) (w : World) (lives : List Life) (g : State)
+    ensures verified { (settings : Settings) (w : World) (lives : List CrashedRun) (g : State)
         (events : List Event) (run id : ℕ) → IsHistory settings w lives g events →
         told_over settings run id w lives g events
         ≡ said_by by_fit settings (caller_number run id) w
         (kept_by by_fit settings (only (caller_number run id)) w (all_items lives events)) }
     // by the written answers, where no two of this caller's strings collide
-    ensures apart { (settings : Settings) (past : List Entry) (w : World) (lives : List Life)
+    ensures apart { (settings : Settings) (past : List Entry) (w : World) (lives : List CrashedRun)
         (g : State) (events : List Event) (run id : ℕ) → IsHistory settings w lives g events →
         IsLeftBy settings past w →
         Apart settings (only (caller_number run id)) past w (all_items lives events) →
@@ -206,7 +206,7 @@ pub fn callers_are_told_over_restarts()
         ≡ said settings (caller_number run id) w
         (kept settings (only (caller_number run id)) w (all_items lives events)) }
     // the last run alone: the runs before it are a past like any other
-    ensures last { (settings : Settings) (past : List Entry) (w : World) (lives : List Life)
+    ensures last { (settings : Settings) (past : List Entry) (w : World) (lives : List CrashedRun)
         (g : State) (events : List Event) (caller : ℕ) → IsHistory settings w lives g events →
         IsLeftBy settings past w →
         Apart settings (only caller) (past ++ items_of lives)

@@ -12,7 +12,7 @@ use Rattle.web_ops.specs.declared.reply.Status.TheVariants as status
 use Rattle.web_ops.specs.declared.reply.MediaType.{MediaType}
 use Rattle.web_ops.specs.declared.reply.MediaType.TheVariants.{OctetStream, PlainText, Json}
 use Rattle.web_ops.specs.declared.reply.Field.{Field}
-use Rattle.web_ops.specs.declared.reply.Field.TheVariants.{ContentRange, UnsatisfiedRange, Allow}
+use Rattle.web_ops.specs.declared.reply.Field.TheVariants.{ContentRange, UnsatisfiedRange, Allow, Page}
 use Rattle.web_ops.specs.declared.reply.Reply.{Reply}
 use Rattle.web_ops.specs.declared.failed.Failure.{Failure}
 use Rattle.web_ops.specs.declared.failed.Failure.TheVariants as failure
@@ -41,6 +41,10 @@ file_reply bytes = reply_with status.Ok OctetStream None bytes
 abbrev pub part_reply : ℕ → ℕ → List ℕ → Reply
 part_reply from to bytes =
     reply_with status.PartialContent OctetStream (Some (ContentRange from to (length bytes))) (take (suc (to - from)) (drop from bytes))
+
+-- a page of the gateway's own
+abbrev pub page_reply : MediaType → List ℕ → Reply
+page_reply kind bytes = reply_with status.Ok kind (Some Page) bytes
 
 -- ---- faults: their words and a line feed
 

@@ -2,6 +2,7 @@
 ghost use Rattle.std.specs.Prelude.{◌≡◌, ◌<◌, [], ◌++◌, length, IfOk, OnErr, IsOk, IsTrue, ◌↔◌, MatchOption};
 
 use crate::part::Part;
+use crate::shared::SharedBytes;
 use octets::Bytes;
 use std::alloc::{AllocError, Global};
 use std::marker::Model;
@@ -14,9 +15,12 @@ pub(crate) enum Source {
     Bytes(Bytes),
     /// They are decoded as they are asked for.
     Part(Part),
+    /// They are shared with other replies.
+    Shared(SharedBytes),
 }
 
-/// The bytes of a body that are left: they are at hand, or decoded as they are asked for. Contracts see them as bytes.
+/// The bytes of a body that are left: they are at hand, decoded as they are asked for, or shared with other replies.
+/// Contracts see them as bytes.
 #[derive(Debug, Drop)]
 pub struct Body {
     source: Source,
@@ -50,6 +54,15 @@ impl Body {
         }
     }
 
+    /// Bytes that other replies may have too.
+    pub fn from_shared(bytes: SharedBytes) -> Self
+        ensures { result ≡ bytes }
+    {
+        Body {
+            source: Source::Shared(bytes),
+        }
+    }
+
     /// How many bytes are left.
     pub fn len(&self) -> usize
         ensures { result ≡ length self.now }
@@ -57,6 +70,7 @@ impl Body {
         match &self.source {
             Source::Bytes(bytes) => bytes.len(),
             Source::Part(part) => part.len(),
+            Source::Shared(bytes) => bytes.len(),
         }
     }
 
@@ -67,8 +81,8 @@ impl Body {
         self.len() == 0
     }
 
-    /// The next bytes, of which there is one at least, or none where no byte is left: all where they are at hand, and
-    /// else those of the next segment.
+    /// The next bytes, of which there is one at least, or none where no byte is left: all where they are at hand, those of
+    /// the next segment where they are decoded, and a copy of up to 65,536 of those that are shared.
     ///
     /// # Errors
     /// Only where memory is refused. Then the same bytes are left: the call can be made again.
@@ -82,6 +96,7 @@ impl Body {
         match &mut self.source {
             Source::Bytes(bytes) => Ok(all_of(alloc, bytes)),
             Source::Part(part) => part.next(),
+            Source::Shared(bytes) => bytes.next(alloc),
         }
     }
 }

@@ -7,6 +7,8 @@
 
 /// Parts of files.
 mod part;
+/// Bytes that replies share.
+mod shared;
 /// Bodies of replies.
 mod body;
 /// Replies.
@@ -15,6 +17,8 @@ mod reply;
 mod replies;
 /// Replies to what is no request.
 mod refused;
+/// Replies with pages of the gateway's own.
+mod pages;
 /// Replies to requests that can't be met.
 mod failed;
 /// Carrying out requests.
@@ -29,7 +33,9 @@ mod checking;
 pub mod laws;
 
 pub use body::Body;
+pub use pages::page;
 pub use part::Part;
 pub use performer::perform;
 pub use refused::refusal;
 pub use reply::{Field, Fields, MediaType, Reply, Status};
+pub use shared::SharedBytes;

@@ -25,6 +25,16 @@ pub enum MediaType {
     PlainText,
     /// `application/json`.
     Json,
+    /// `text/html; charset=utf-8`: a page of the gateway's own, as all that follow.
+    Html,
+    /// `text/css; charset=utf-8`.
+    Css,
+    /// `text/javascript; charset=utf-8`.
+    JavaScript,
+    /// `image/svg+xml`.
+    Svg,
+    /// `image/png`.
+    Png,
 }
 
 /// A field that some replies have after their Content-Type.
@@ -37,6 +47,9 @@ pub enum Field {
     UnsatisfiedRange(u64),
     /// Allow (RFC 9110, section 10.2.1): the methods that a resource takes.
     Allow(Resource),
+    /// The fields that bind a browser which shows a page: where its scripts, styles and requests may go, that its type
+    /// isn't guessed, that its address is told to nobody, and that it is asked for anew.
+    Page,
 }
 
 /// The fields of a reply, but for those on how long the body is and whether the connection closes.

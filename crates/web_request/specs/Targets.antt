@@ -1,5 +1,5 @@
 -- The path and the query of a target (RFC 9112, section 3.2; RFC 3986, section 3).
-use Rattle.std.specs.Prelude.{ℕ, Bool, ◌==◌, ◌||◌, List, [], ◌∷◌, take, drop, nat_eq, bytes_eq, codes, if◌then◌else◌, Option, Some, None}
+use Rattle.std.specs.Prelude.{ℕ, Bool, ◌==◌, ◌||◌, List, [], ◌∷◌, take, drop, nat_eq, bytes_eq, codes, if◌then◌else◌, Option, Some, None, option_map}
 use Rattle.std.specs.List.{starts_with, before_first, after_first}
 use Rattle.octets.specs.Case.{eq_ignore_case}
 use Rattle.web_request.specs.declared.request.Resource.{Resource}
@@ -30,6 +30,10 @@ path_of origin = before_first is_question origin
 
 abbrev pub query_text : List ℕ → List ℕ
 query_text origin = after_first is_question origin
+
+-- the path of a target, up to its query, where it has one
+abbrev pub path_in : List ℕ → Option (List ℕ)
+path_in target = option_map path_of (origin_of target)
 
 -- what a path names
 unfoldable pub resource_of : List ℕ → Option Resource

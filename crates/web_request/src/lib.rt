@@ -26,3 +26,4 @@ pub use fault::WebFault;
 pub use head::{Field, Fields, Head};
 pub use interpreter::interpret;
 pub use request::{Request, Resource};
+pub use target::path_in;

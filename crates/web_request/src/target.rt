@@ -2,7 +2,7 @@
 ghost use Rattle.std.specs.Prelude.{◌≡◌, drop, MatchOption};
 ghost use Rattle.std.specs.Option.{option_copied};
 ghost use Rattle.std.specs.List.{before_first, after_first};
-ghost use Rattle.web_request.specs.Targets.{origin_of, after_authority, is_question, is_end_of_authority, resource_of};
+ghost use Rattle.web_request.specs.Targets.{origin_of, after_authority, is_question, is_end_of_authority, path_in, resource_of};
 
 use crate::action::is_same;
 use crate::request::Resource;
@@ -55,6 +55,17 @@ pub fn cut_at_question(origin: &[u8]) -> (&[u8], &[u8])
         Some((path, query)) => (path, query),
         None => (origin, &origin[origin.len()..]),
     }
+}
+
+/// The path of a target, up to its query, `None` where it is neither a path nor a URI with the scheme `http`.
+pub fn path_in(target: &[u8]) -> Option<&[u8]>
+    ensures { option_copied result ≡ path_in target.now }
+{
+    let Some(origin) = origin_of(target) else {
+        return None;
+    };
+    let (path, _) = cut_at_question(origin);
+    Some(path)
 }
 
 /// What a path names.

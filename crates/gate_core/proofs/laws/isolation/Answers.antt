@@ -6,7 +6,7 @@ use Rattle.gate_core.specs.Events.{Event, handed}
 use Rattle.gate_core.specs.Items.{Entry, items}
 use Rattle.gate_core.specs.Runs.{said}
 use Rattle.gate_core.specs.Reach.{only, everyone, kept}
-use Rattle.gate_core.specs.Held.{State, waiting}
+use Rattle.gate_core.specs.ConnectionState.{State, waiting}
 use Rattle.gate_core.specs.Came.{Opening, Came}
 use Rattle.gate_core.specs.Uploaded.{IsProper, IsLeftBy}
 use Rattle.gate_core.specs.Apart.{hashed, Apart}

@@ -7,12 +7,12 @@ use Rattle.gate_core.specs.Events.{Event, handed}
 use Rattle.gate_core.specs.Items.{items}
 use Rattle.gate_core.specs.Runs.{said_by}
 use Rattle.gate_core.specs.Reach.{only}
-use Rattle.gate_core.specs.Held.{Held, waiting_in, connection_at}
+use Rattle.gate_core.specs.ConnectionState.{ConnectionState, waiting_in, connection_at}
 use Rattle.gate_core.specs.Came.{CameAt}
 use Rattle.gate_core.proofs.Local.{by_fit-local, said-kept}
 use Rattle.gate_core.proofs.laws.verified_isolation.Goals as goal
 
-told : (s : Settings) (w : World) (caller : ℕ) (held : Option Held) (events : List Event) → CameAt s w caller held events → handed caller events ++ waiting_in held ≡ said_by by_fit s caller w (items events)
+told : (s : Settings) (w : World) (caller : ℕ) (held : Option ConnectionState) (events : List Event) → CameAt s w caller held events → handed caller events ++ waiting_in held ≡ said_by by_fit s caller w (items events)
 told s w caller None events fresh = append-nil (handed caller events) ∙ fresh.given ∙ sym fresh.out
 told s w caller (Some held) events at = at.out
 

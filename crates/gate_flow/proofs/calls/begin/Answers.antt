@@ -1,8 +1,8 @@
 use Rattle.std.proofs.Common.{ap}
 use Rattle.std.specs.Prelude.{unwrap_or, option_copied}
 use Rattle.gate_core.specs.Events.{Open}
-use Rattle.gate_core.specs.Lefts.{opened}
-use Rattle.gate_core.specs.Held.{is_closed_in, bytes_refusal}
+use Rattle.gate_core.specs.AfterCall.{opened}
+use Rattle.gate_core.specs.ConnectionState.{is_closed_in, bytes_refusal}
 use Rattle.gate_flow.proofs.Leading.{calm_on, opened_led, unopened, waiting_held, held_after}
 use Rattle.gate_flow.proofs.calls.begin.Goals as goal
 

@@ -1,6 +1,6 @@
 use Rattle.std.proofs.Common.{refl, ap}
 use Rattle.gate_core.specs.Events.{End}
-use Rattle.gate_core.specs.Held.{State, connection_at, waiting, bytes_refusal}
+use Rattle.gate_core.specs.ConnectionState.{State, connection_at, waiting, bytes_refusal}
 use Rattle.gate_flow.proofs.Leading.{ended_led, end_waits, end_same, end_over, end_refused, end_still_over, calm_on}
 use Rattle.gate_flow.proofs.calls.bring_end.Goals as goal
 

@@ -1,5 +1,5 @@
 use Rattle.std.proofs.Common.{refl}
-use Rattle.gate_core.specs.Held.{connection_at}
+use Rattle.gate_core.specs.ConnectionState.{connection_at}
 use Rattle.gate_flow.proofs.Leading.{taken_led, take_splits, take_stays, take_refused, call_fault}
 use Rattle.gate_flow.proofs.calls.take_first.Goals as goal
 

@@ -1,6 +1,6 @@
 use Rattle.gate_core.specs.Settings.{under}
 use Rattle.gate_core.specs.Events.{secret_of}
-use Rattle.gate_core.specs.Held.{waiting}
+use Rattle.gate_core.specs.ConnectionState.{waiting}
 use Rattle.gate_flow.proofs.Standing.{said_so, answered_so}
 use Rattle.gate_flow.proofs.laws.what_is_written_was_said.Goals as goal
 

@@ -1,5 +1,5 @@
 use Rattle.std.proofs.Common.{◌≡◌, length, None, subst, ap, ◌∙◌, rules, vec_len}
-use Rattle.gate_core.specs.Held.{State}
+use Rattle.gate_core.specs.ConnectionState.{State}
 use Rattle.gate_tasks.specs.Running.{IsProgress}
 use Rattle.gate_tasks.proofs.Begins.{begin_made, made_with, set_is}
 use Rattle.gate_tasks.proofs.script.begin.Goals as goal

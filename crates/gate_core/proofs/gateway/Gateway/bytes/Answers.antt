@@ -2,7 +2,7 @@ use Rattle.std.proofs.Common.{refl, ap, ◌∙◌}
 use Rattle.gate_core.specs.Forgotten.{with_gone}
 use Rattle.std.proofs.lemmas.Result.{on_ok_weaker}
 use Rattle.gate_core.specs.Settings.{settings_of}
-use Rattle.gate_core.specs.Held.{connection_at}
+use Rattle.gate_core.specs.ConnectionState.{connection_at}
 use Rattle.gate_core.proofs.Maps.{Changed-others}
 use Rattle.gate_core.proofs.Forgetting.{lent, no_entry, unheld_refused}
 use Rattle.gate_core.proofs.Arrivals.{same_state, bytes_refused, received, received_tallied, cut_left, cut_short, received_came, where_open, calm_lent}

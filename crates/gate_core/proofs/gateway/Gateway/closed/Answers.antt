@@ -1,5 +1,5 @@
 use Rattle.std.proofs.Common.{ap, sym, ◌∙◌}
-use Rattle.gate_core.specs.Held.{is_closed_in}
+use Rattle.gate_core.specs.ConnectionState.{is_closed_in}
 use Rattle.gate_core.proofs.Forgetting.{entry_found, no_entry, unheld_closed}
 use Rattle.gate_core.proofs.Arrivals.{closed_came}
 use Rattle.gate_core.proofs.gateway.Gateway.closed.Goals as goal

@@ -1,7 +1,7 @@
 use Rattle.std.proofs.Common.{refl, ap, ◌∙◌}
 use Rattle.gate_core.specs.Forgotten.{with_gone}
 use Rattle.std.proofs.lemmas.Result.{on_ok_weaker}
-use Rattle.gate_core.specs.Lefts.{ended}
+use Rattle.gate_core.specs.AfterCall.{ended}
 use Rattle.gate_core.proofs.Maps.{Changed-others}
 use Rattle.gate_core.proofs.Forgetting.{lent, no_entry, unheld_refused}
 use Rattle.gate_core.proofs.Arrivals.{same_state, left_by, refused, ended_came}

@@ -1,7 +1,7 @@
 use Rattle.std.proofs.Common.{None, Some, refl, sym, ap, length, ◌∙◌}
 use Rattle.std.specs.FinMap as map
 use Rattle.gate_core.specs.declared.fault.GatewayFault.TheVariants.{StillOpen}
-use Rattle.gate_core.specs.Held.{forget_refusal, going_refusal}
+use Rattle.gate_core.specs.ConnectionState.{forget_refusal, going_refusal}
 use Rattle.gate_core.specs.Forgotten.{with_gone, gone}
 use Rattle.gate_core.proofs.Forgetting.{entry_found, no_entry, unheld_answer, unheld_taken, on_ok_if, forgettable, cut_forgotten, ended_forgotten, put_away}
 use Rattle.gate_core.proofs.gateway.Gateway.let_go.Goals as goal

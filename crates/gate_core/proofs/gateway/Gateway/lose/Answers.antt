@@ -2,7 +2,7 @@ use Rattle.std.proofs.Common.{subst}
 use Rattle.grid.specs.GridState.{stood, IsHonest}
 use Rattle.grid.specs.Changes.{without}
 use Rattle.grid.specs.Histories.{TellsOfChange}
-use Rattle.gate_core.specs.Held.{State}
+use Rattle.gate_core.specs.ConnectionState.{State}
 use Rattle.chk_file.proofs.Freshness.{fresh_stays}
 use Rattle.gate_core.specs.Forgotten.{with_gone}
 use Rattle.gate_core.proofs.Arrivals.{lost_came, refused_came}

@@ -2,7 +2,7 @@ use Rattle.std.proofs.Common.{◌≡◌, Result, Ok, Err, IfOk, ap, subst, ◌�
 use Rattle.grid.specs.GridState.{GridState, stood, IsHonest}
 use Rattle.chk_file.specs.World.{World, empty}
 use Rattle.chk_file.specs.Marks.{shown}
-use Rattle.gate_core.specs.Held.{State}
+use Rattle.gate_core.specs.ConnectionState.{State}
 use Rattle.gate_core.specs.Came.{Starts}
 use Rattle.gate_core.specs.declared.fault.GatewayFault.{GatewayFault}
 use Rattle.gate_core.proofs.Empty.{nothing_stood}

@@ -1,6 +1,6 @@
 use Rattle.std.proofs.Common.{length, vec_len, ◌∙◌, ap, sym, Err}
 use Rattle.grid.specs.ImageReading.{image_said}
-use Rattle.gate_core.specs.Held.{State}
+use Rattle.gate_core.specs.ConnectionState.{State}
 use Rattle.gate_core.proofs.Arrivals.{inner_fault, fault_told}
 use Rattle.gate_core.proofs.Isolating.{isolates_first}
 use Rattle.grid.specs.GridState.{states}

@@ -1,5 +1,5 @@
 use Rattle.std.proofs.Common.{length, ◌∙◌, ap, sym}
-use Rattle.gate_core.specs.Held.{State}
+use Rattle.gate_core.specs.ConnectionState.{State}
 use Rattle.gate_core.proofs.Isolating.{isolates_first}
 use Rattle.gate_core.proofs.gateway.Gateway.resume.Goals as goal
 

@@ -1,9 +1,9 @@
 use Rattle.std.proofs.Common.{ap, sym, ◌∙◌, take}
 use Rattle.std.proofs.lemmas.Result.{on_ok_weaker, on_err_weaker, IfOk-weaker}
 use Rattle.std.proofs.Math.Seq.{take-nil}
-use Rattle.gate_core.specs.Held.{waiting_in, take_refusal}
+use Rattle.gate_core.specs.ConnectionState.{waiting_in, take_refusal}
 use Rattle.gate_core.specs.Forgotten.{with_gone}
-use Rattle.gate_core.specs.Lefts.{taken}
+use Rattle.gate_core.specs.AfterCall.{taken}
 use Rattle.gate_core.proofs.Maps.{Changed-others, Changed-same}
 use Rattle.gate_core.proofs.Forgetting.{lent, no_entry, unheld_answer, unheld_waits, unheld_taken, unheld_came, on_ok_if}
 use Rattle.gate_core.proofs.Arrivals.{same_state, left_by, take_refused, taken_came, if_taken}

@@ -1,5 +1,5 @@
 use Rattle.std.proofs.Common.{subst}
-use Rattle.gate_core.specs.Held.{State}
+use Rattle.gate_core.specs.ConnectionState.{State}
 use Rattle.gate_flow.specs.Hosted.{IsForgotten}
 use Rattle.gate_flow.proofs.Forgotten.{forgotten_so}
 use Rattle.gate_flow.proofs.Hosting.{hosted_forget}

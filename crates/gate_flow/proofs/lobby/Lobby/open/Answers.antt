@@ -1,5 +1,5 @@
 use Rattle.std.proofs.Common.{◌+◌, subst}
-use Rattle.gate_core.specs.Held.{State}
+use Rattle.gate_core.specs.ConnectionState.{State}
 use Rattle.gate_flow.specs.Hosted.{IsHosted}
 use Rattle.gate_flow.proofs.Hosting.{hosted_opened}
 use Rattle.gate_flow.proofs.lobby.Lobby.open.Goals as goal

@@ -1,7 +1,7 @@
 use Rattle.std.proofs.Common.{refl}
-use Rattle.gate_core.specs.Held.{connection_at}
+use Rattle.gate_core.specs.ConnectionState.{connection_at}
 use Rattle.gate_flow.proofs.Leading.{bytes_led, bytes_open, refused_led, bytes_refused, call_fault}
-use Rattle.gate_flow.proofs.calls.bring.Goals as goal
+use Rattle.gate_flow.proofs.calls.feed.Goals as goal
 
 pub returns-in-Ok-clause-led : goal.returns-in-Ok-clause-led
 returns-in-Ok-clause-led g c =

@@ -1,6 +1,6 @@
 use Rattle.std.proofs.Common.{◌≡◌, ◌≢◌, [], ◌++◌, length, Some}
 use Rattle.std.specs.Prelude.{unwrap_or}
-use Rattle.gate_core.proofs.output.fill.Given as goal
+use Rattle.gate_core.proofs.output.flush_body.Given as goal
 
 -- the same bytes wait, and no body of which none is left
 abbrev pub invariant-segments : goal.invariant-segments

@@ -1,6 +1,6 @@
 use Rattle.std.proofs.Common.{◌≡◌, ◌≢◌, [], ◌++◌, length, Some}
 use Rattle.std.specs.Prelude.{unwrap_or}
-use Rattle.gate_core.proofs.output.join.Given as goal
+use Rattle.gate_core.proofs.output.make_ready.Given as goal
 
 -- the same bytes wait, and no body of which none is left
 abbrev pub invariant-segments : goal.invariant-segments

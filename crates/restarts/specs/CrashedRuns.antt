@@ -9,29 +9,29 @@ use Rattle.gate_core.specs.Items.{Entry, items}
 use Rattle.gate_core.specs.Runs.{world_after, said_by}
 use Rattle.gate_core.specs.Uploaded.{IsProper}
 use Rattle.gate_core.specs.Rooms.{Rooms}
-use Rattle.gate_core.specs.Held.{State, waiting}
+use Rattle.gate_core.specs.ConnectionState.{State, waiting}
 use Rattle.gate_core.specs.Came.{Came}
 use Rattle.restarts.specs.Mended.{AreEnds}
 
 -- A run that a crash ended: its calls that were answered, what the gateway held after them, the items of the call under way,
 -- and how these ended.
-pub record Life : Type 0 where
+pub record CrashedRun : Type 0 where
   pub events : List Event
   pub gateway : State
   pub asked : List Entry
   pub ends : List Entry
 
 -- its items, as one run that goes on
-abbrev pub items_in : Life → List Entry
+abbrev pub items_in : CrashedRun → List Entry
 items_in life = items life.events ++ life.ends
 
 -- those of several runs, one after the other
-abbrev pub items_of : List Life → List Entry
+abbrev pub items_of : List CrashedRun → List Entry
 items_of [] = []
 items_of (life ∷ lives) = items_in life ++ items_of lives
 
 -- The run began where this stood: with these k, n and servers, under any secret. What the call under way uploads are bytes.
-pub record IsLived (settings : Settings) (w : World) (life : Life) : Type 0 where
+pub record IsCrashedRun (settings : Settings) (w : World) (life : CrashedRun) : Type 0 where
   pub same : life.gateway.settings ≡ under settings life.gateway.settings.secret
   pub rooms : Rooms
   pub came : Came (record { world = w; rooms = rooms }) life.gateway life.events
@@ -39,22 +39,22 @@ pub record IsLived (settings : Settings) (w : World) (life : Life) : Type 0 wher
   pub proper : AllByRecursion (λ x. IsProper settings (x ∷ [])) life.asked
 
 -- each run began where the one before it, and the crash, left off
-abbrev pub AreLived : Settings → World → List Life → Type 0
+abbrev pub AreLived : Settings → World → List CrashedRun → Type 0
 AreLived settings w [] = Unit {0}
-AreLived settings w (life ∷ lives) = IsLived settings w life × AreLived settings (world_after settings w (items_in life)) lives
+AreLived settings w (life ∷ lives) = IsCrashedRun settings w life × AreLived settings (world_after settings w (items_in life)) lives
 
 -- What a caller didn't get at the crash: what waited for it, and the answers of the call under way.
-abbrev pub unheard : Settings → ℕ → World → Life → List ℕ
+abbrev pub unheard : Settings → ℕ → World → CrashedRun → List ℕ
 unheard settings caller w life = waiting life.gateway caller ++ said_by by_fit settings caller (world_after settings w (items life.events)) life.ends
 
 -- After these runs there is a gateway of which these calls were made, and which began where the last of them left off.
-pub record IsHistory (settings : Settings) (w : World) (lives : List Life) (g : State) (events : List Event) : Type 0 where
+pub record IsHistory (settings : Settings) (w : World) (lives : List CrashedRun) (g : State) (events : List Event) : Type 0 where
   pub lived : AreLived settings w lives
   pub same : g.settings ≡ under settings g.settings.secret
   pub rooms : Rooms
   pub came : Came (record { world = world_after settings w (items_of lives); rooms = rooms }) g events
 
 -- a crash in a call that these items were asked for in ended a run, and the next one begins with this gateway
-pub record Restarted (settings : Settings) (w : World) (lives : List Life) (g : State) (events : List Event) (asked : List Entry) (h : State) : Type 0 where
+pub record Restarted (settings : Settings) (w : World) (lives : List CrashedRun) (g : State) (events : List Event) (asked : List Entry) (h : State) : Type 0 where
   pub ends : List Entry
   pub history : IsHistory settings w (lives ++ record { events = events; gateway = g; asked = asked; ends = ends } ∷ []) h []
