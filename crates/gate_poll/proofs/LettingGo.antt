@@ -5,7 +5,7 @@ use Rattle.std.specs.Option.{option_map}
 use Rattle.std.proofs.lemmas.Bool.{cases_eq}
 use Rattle.std.proofs.lemmas.Bool.{cases_lt}
 use Rattle.std.proofs.Math.Nat.{eq-or-lt_of_le}
-use Rattle.gate_core.specs.Held.{Held, State, connection_at}
+use Rattle.gate_core.specs.ConnectionState.{ConnectionState, State, connection_at}
 use Rattle.gate_flow.specs.State.{FlowState}
 use Rattle.gate_flow.specs.Hosted.{IsHosted}
 use Rattle.gate_poll.specs.declared.peer.Peer.{Peer}
@@ -85,6 +85,6 @@ pub over_so : (forgot : Type 0) (id : ℕ) (p : Option Peer) (g h : State) → H
 over_so forgot id p g h (inl gone) = inr gone
 over_so forgot id p g h (inr stays) = inl stays.1
 
-pub is_over : (forgot : Type 0) (id : ℕ) (old new : Option Held) → (new ≡ old) ⊎ (forgot × IsLetGo id new) → IsOverAt old new id
+pub is_over : (forgot : Type 0) (id : ℕ) (old new : Option ConnectionState) → (new ≡ old) ⊎ (forgot × IsLetGo id new) → IsOverAt old new id
 is_over forgot id old new (inl same) = inl same
 is_over forgot id old new (inr gone) = inr gone.1

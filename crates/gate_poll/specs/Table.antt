@@ -3,7 +3,7 @@ use Rattle.std.specs.Prelude.{◌≡◌, ◌≢◌, ℕ, ◌≤◌, ◌⊎◌, �
 use Rattle.std.specs.Ordering.{nat_cmp}
 use Rattle.std.specs.Map.{lookup}
 use Rattle.std.specs.BTreeMap.{is_at}
-use Rattle.gate_core.specs.Held.{Held, State, connection_at}
+use Rattle.gate_core.specs.ConnectionState.{ConnectionState, State, connection_at}
 use Rattle.gate_flow.specs.Led.{IsGivenUp}
 use Rattle.gate_flow.specs.Hosted.{IsForgotten, IsHosted, IsOwnId}
 use Rattle.gate_turns.specs.declared.seat.Seat.{Seat}
@@ -87,7 +87,7 @@ abbrev pub Serves : Table → Table → State → State → Type 0
 Serves old new g h = ArePeersServed old.ids.next new.ids.next new.peers.entries new.turns g h
 
 -- A connection was closed and then forgotten, and this is held of it since.
-pub record IsLetGo (id : ℕ) (held : Option Held) : Type 0 where
+pub record IsLetGo (id : ℕ) (held : Option ConnectionState) : Type 0 where
   pub before : State
   pub closed : State
   pub after : State
@@ -108,5 +108,5 @@ abbrev pub LetsGo : (ℕ → Type 0) → (ℕ → Type 0) → Table → Table �
 LetsGo was now old new g h = AreLetGo was now old.peers.entries new.peers.entries g h
 
 -- a connection is as it was before serving, or it was let go
-abbrev pub IsOverAt : Option Held → Option Held → ℕ → Type 0
+abbrev pub IsOverAt : Option ConnectionState → Option ConnectionState → ℕ → Type 0
 IsOverAt old new id = (new ≡ old) ⊎ IsLetGo id new

@@ -105,7 +105,7 @@ enum Goes {
 
 /// A control connection.
 #[derive(Drop)]
-struct Caller {
+struct ControlConnection {
     alloc: Global,
     stream: TcpStream,
     /// The address that it came to.
@@ -131,20 +131,20 @@ struct Told {
 
 /// The control connections by their ids.
 #[derive(Drop)]
-pub struct Desk {
+pub struct ControlTable {
     alloc: Global,
-    callers: BTreeMap<u64, Caller>,
+    callers: BTreeMap<u64, ControlConnection>,
     scratch: Vec<u8>,
     /// Whether a request asked that serving stop.
     pub stops: bool,
 }
 
-impl Caller {
+impl ControlConnection {
     /// One that was just accepted. `None` where the system doesn't say to which address it came, or memory is refused.
-    fn new(alloc: Global, stream: TcpStream, now: Instant) -> Option<Caller> {
+    fn new(alloc: Global, stream: TcpStream, now: Instant) -> Option<ControlConnection> {
         let address = stream.local_addr().ok()?;
         let here = Here::of(alloc, address.ip().to_canonical(), address.port()).ok()?;
-        Some(Caller {
+        Some(ControlConnection {
             alloc,
             stream,
             here,
@@ -314,10 +314,10 @@ fn after(error: &Error) -> Goes {
     }
 }
 
-impl Desk {
+impl ControlTable {
     /// No control connections.
-    pub fn new(alloc: Global) -> Result<Desk, AllocError> {
-        Ok(Desk {
+    pub fn new(alloc: Global) -> Result<ControlTable, AllocError> {
+        Ok(ControlTable {
             alloc,
             callers: BTreeMap::new(alloc),
             scratch: vec![in alloc; 0u8; SCRATCH]?,
@@ -328,7 +328,7 @@ impl Desk {
     /// Takes a socket in, under an id that is above those of the others. Where as many are open as may be, the one that
     /// was opened first makes room: so one that sends no request keeps no other out. Without memory it is dropped.
     pub fn take_in(&mut self, id: u64, stream: TcpStream, now: Instant) {
-        let Some(caller) = Caller::new(self.alloc, stream, now) else {
+        let Some(caller) = ControlConnection::new(self.alloc, stream, now) else {
             return;
         };
         if self.callers.len() >= MOST {

@@ -23,6 +23,10 @@ pub struct Counts {
     pub refused: u64,
     /// How often no socket could be accepted, since handles or the system's memory ran out.
     pub starved: u64,
+    /// Bytes that are kept of all connections: of requests that aren't whole yet, and of replies that wait.
+    pub kept: u64,
+    /// Connections that wait until less is kept.
+    pub waiting: u64,
     /// Bytes that were read.
     pub bytes_in: u64,
     /// Bytes that were written.
@@ -43,6 +47,8 @@ impl Counts {
           stopped = 0;
           refused = 0;
           starved = 0;
+          kept = 0;
+          waiting = 0;
           bytes_in = 0;
           bytes_out = 0;
           seconds = 0;
@@ -57,6 +63,8 @@ impl Counts {
             stopped: 0,
             refused: 0,
             starved: 0,
+            kept: 0,
+            waiting: 0,
             bytes_in: 0,
             bytes_out: 0,
             seconds: 0,
@@ -79,6 +87,14 @@ impl Counts {
         } }
     {
         self.bytes_out = self.bytes_out.saturating_add(count as u64);
+    }
+
+    /// So many bytes are kept of all connections, and so many of these wait until less is.
+    pub fn keeps(&mut self, bytes: u64, waiting: usize)
+        ensures { self.new ≡ record self.old { kept = bytes; waiting = waiting } }
+    {
+        self.kept = bytes;
+        self.waiting = waiting as u64;
     }
 
     /// Connections have been served for so long.

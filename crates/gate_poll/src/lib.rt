@@ -18,6 +18,8 @@ mod pace;
 mod journal;
 /// Sockets of connections, and the doors through which they come.
 mod sockets;
+/// How much memory connections may take.
+mod memory;
 /// What turns are had with.
 mod tools;
 /// One connection with its socket.

@@ -1,9 +1,13 @@
 //! What is allowed to connections.
-ghost use Rattle.std.specs.Prelude.{◌≡◌, ◌+◌, ◌<◌, ◌↔◌, IsTrue, None};
+ghost use Rattle.std.specs.Prelude.{◌≡◌, ◌+◌, ◌<◌, ◌↔◌, min, IsTrue, None};
+ghost use Rattle.std.specs.Duration.{as_nanos};
 ghost use Rattle.http_edge.specs.Frame.{most_head_bytes};
 ghost use Rattle.http_edge.specs.Judge.{most_body_bytes};
 
 use std::time::Duration;
+
+/// How many bytes a second are expected of a long request while the memory for these is used up.
+const RATE_WHILE_FULL: u64 = 65_536;
 
 /// What is allowed to connections.
 #[derive(Clone, Copy, Debug)]
@@ -16,6 +20,9 @@ pub struct Limits {
     pub grace: Duration,
     /// How many bytes a second are expected of it while it sends a request, or takes a reply.
     pub rate: u64,
+    /// How many bytes may be kept of all connections, of requests that aren't whole yet and of replies that wait, before
+    /// those that send long requests have to wait.
+    pub memory: u64,
     /// For how long what a peer still sends is read, after all was said to it.
     pub linger: Duration,
     /// How many bytes of that are read.
@@ -28,7 +35,7 @@ pub struct Limits {
 
 impl Limits {
     /// So many connections, each of which may be silent for so long; else 10 seconds for a head, 1,024 bytes a second,
-    /// 2 seconds after the last reply and as many bytes as the longest body and head have, and 10 seconds after a stop.
+    /// 268,435,456 bytes of requests and replies, 2 seconds after the last reply and as many bytes as the longest body and head have, and 10 seconds after a stop.
     pub fn new(most: usize, idle: Duration) -> Limits
         ensures most { result.most ≡ most }
         ensures idle { result.idle ≡ idle }
@@ -40,6 +47,7 @@ impl Limits {
             idle,
             grace: Duration::from_secs(10),
             rate: 1024,
+            memory: 268_435_456,
             linger: Duration::from_secs(2),
             rest: 16_793_600,
             stopping: Duration::from_secs(10),
@@ -47,10 +55,35 @@ impl Limits {
         }
     }
 
+    /// The same for one that sends a long request while the memory for these is used up: 65,536 bytes a second are expected
+    /// of it, and that it isn't silent for longer than two seconds.
+    pub fn while_full(&self) -> Limits
+        ensures rate { result.rate ≡ 65536 }
+        ensures idle { as_nanos result.idle ≡ min (as_nanos self.now.idle) 2_000_000_000 }
+        ensures grace { as_nanos result.grace ≡ min (as_nanos self.now.grace) 2_000_000_000 }
+    {
+        let mut limits = *self;
+        limits.rate = RATE_WHILE_FULL;
+        limits.idle = shorter(self.idle);
+        limits.grace = shorter(self.grace);
+        limits
+    }
+
     /// Whether one more connection may be opened beside so many.
     pub fn has_room(&self, count: usize) -> bool
         ensures { IsTrue result ↔ (count < self.now.most) }
     {
         count < self.most
+    }
+}
+
+/// This time, or two seconds where it is longer.
+fn shorter(time: Duration) -> Duration
+    ensures { as_nanos result ≡ min (as_nanos time) 2_000_000_000 }
+{
+    if time.as_nanos() < 2_000_000_000 {
+        time
+    } else {
+        Duration::from_secs(2)
     }
 }

@@ -1,9 +1,11 @@
 //! One connection with its socket.
-ghost use Rattle.std.specs.Prelude.{◌≡◌, ◌≢◌, ◌<◌, Some, None, false, true};
+ghost use Rattle.std.specs.Prelude.{◌≡◌, ◌≢◌, ◌<◌, ◌-◌, ◌^◌, min, Some, None, false, true};
+ghost use Rattle.gate_core.specs.ConnectionState.{connection_at};
+ghost use Rattle.gate_core.specs.Kept.{kept_in};
 ghost use Rattle.gate_flow.specs.declared.want.Want.TheVariants as want;
 ghost use Rattle.gate_turns.specs.declared.seat.Side.TheVariants as side;
 
-use crate::limits::Limits;
+use crate::memory::LONG;
 use crate::pace::{Pace, Way};
 use crate::tools::Tools;
 use gate_flow::{Flow, FlowFault, Lobby, Step, Want};
@@ -79,6 +81,8 @@ pub struct Peer {
     lingers: bool,
     /// How many bytes were dropped.
     dropped: u64,
+    /// How many bytes the gateway kept of it when it was last called.
+    kept: usize,
 }
 
 impl Outcome {
@@ -149,16 +153,35 @@ impl Peer {
             pace: Pace::new(now),
             lingers: false,
             dropped: 0,
+            kept: 0,
         }
     }
 
-    /// Whether its time is over.
-    pub fn is_late(&self, now: Instant, limits: &Limits) -> bool {
+    /// Whether its time is over. It isn't while it waits for memory, and while memory is used up more bytes a second are
+    /// expected of a long request.
+    pub fn is_late(&self, now: Instant, tools: &Tools) -> bool {
+        let limits = &tools.limits;
         if self.lingers {
             self.pace.is_over(now, limits.linger)
+        } else if tools.memory.waits(self.flow.id()) {
+            false
+        } else if tools.memory.is_full() && self.sends_long() {
+            self.pace.is_late(now, &limits.while_full())
         } else {
             self.pace.is_late(now, limits)
         }
+    }
+
+    /// Whether it sends a request of which much is kept.
+    fn sends_long(&self) -> bool {
+        self.flow.want() == Want::Read && self.kept >= LONG
+    }
+
+    /// How many bytes the gateway kept of it when it was last called.
+    pub fn kept(&self) -> usize
+        ensures { result ≡ self.now.kept }
+    {
+        self.kept
     }
 
     /// Whether all was said to it, and it is only waited until it ends its side.
@@ -267,7 +290,7 @@ impl Peer {
         match self.flow.want() {
             Want::Read => self.read(rt, lobby, tools, moment, seat.readable),
             Want::Write => self.write(rt, lobby, tools, moment, seat.writable),
-            Want::Advance => self.advance(rt, lobby, Want::Advance, moment),
+            Want::Advance => self.advance(rt, lobby, tools, Want::Advance, moment),
             Want::Nothing => Stepped::ends(self.close(moment.now)),
         }
     }
@@ -288,11 +311,14 @@ impl Peer {
         if !readable {
             return Stepped::ends(End::Blocked(Side::Read));
         }
+        if !tools.memory.admits(self.flow.id(), self.kept) {
+            return Stepped::ends(End::Blocked(Side::Read));
+        }
         match self.flow.read_from(&mut &self.stream) {
             Ok(Step::Went(count)) => {
                 self.pace.moves(moment.now, count, &tools.limits);
                 tools.counts.reads(count);
-                self.advance(rt, lobby, Want::Read, moment)
+                self.advance(rt, lobby, tools, Want::Read, moment)
             }
             Ok(Step::Interrupted) => Stepped::goes_on(),
             Ok(Step::Blocked) => Stepped::ends(End::Blocked(Side::Read)),
@@ -320,7 +346,7 @@ impl Peer {
             Ok(Step::Went(count)) => {
                 self.pace.moves(moment.now, count, &tools.limits);
                 tools.counts.writes(count);
-                self.advance(rt, lobby, Want::Write, moment)
+                self.advance(rt, lobby, tools, Want::Write, moment)
             }
             Ok(Step::Interrupted) => Stepped::goes_on(),
             Ok(Step::Blocked) => {
@@ -336,6 +362,7 @@ impl Peer {
         &mut self,
         rt: &R,
         lobby: &mut Lobby<S>,
+        tools: &mut Tools,
         before: Want,
         moment: &mut Moment,
     ) -> Stepped
@@ -350,12 +377,33 @@ impl Peer {
         }
         let long = moment.passes(rt);
         let want = self.flow.want();
+        self.counts(self.kept_by(lobby), tools);
         self.turns(before, want, moment.now);
         Stepped {
             end: if long { Some(End::Again) } else { None },
             long,
             replied: want != Want::Read,
             fault: None,
+        }
+    }
+
+    /// How many bytes the gateway keeps of it.
+    fn kept_by<S: Store>(&self, lobby: &Lobby<S>) -> usize
+        ensures { result ≡ min (kept_in (connection_at lobby.now self.now.flow.id)) (2 ^ 64 - 1) }
+    {
+        lobby.kept(&self.flow)
+    }
+
+    /// So many bytes are kept of it now. Once it sends no request it waits for no memory.
+    fn counts(&mut self, kept: usize, tools: &mut Tools)
+        ensures flow { self.new.flow ≡ self.old.flow }
+        ensures lingers { self.new.lingers ≡ self.old.lingers }
+        ensures kept { self.new.kept ≡ kept }
+    {
+        tools.memory.changes(self.kept, kept);
+        self.kept = kept;
+        if self.flow.want() != Want::Read || kept < LONG {
+            tools.memory.lets_go(self.flow.id());
         }
     }
 

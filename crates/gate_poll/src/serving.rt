@@ -1,6 +1,6 @@
 //! The loop.
 ghost use Rattle.std.specs.Prelude.{◌≡◌, ◌≤◌, ◌<◌, ◌-◌, ◌^◌, ◌↔◌, ◌⊎◌, ℕ, IfOk, IsTrue, IsSomeAnd};
-ghost use Rattle.gate_core.specs.Held.{connection_at};
+ghost use Rattle.gate_core.specs.ConnectionState.{connection_at};
 ghost use Rattle.gate_flow.specs.Hosted.{IsHosted};
 ghost use Rattle.mio.specs.Event.{event_token};
 ghost use Rattle.gate_turns.specs.Door.{MayAccept};
@@ -8,7 +8,7 @@ ghost use Rattle.gate_turns.specs.Lanes.{turns_due};
 ghost use Rattle.gate_poll.specs.Events.{IsInformed, IsKnocked, wakes_reader, wakes_writer};
 ghost use Rattle.gate_poll.specs.Table.{IsTableKept, Serves, LetsGo, IsLetGo, IsOverAt};
 
-use crate::control::{Control, Desk};
+use crate::control::{Control, ControlTable};
 use crate::counts::Counts;
 use crate::fault::ServeFault;
 use crate::forget::{Forget, Forgetter};
@@ -46,7 +46,7 @@ const TICK_MILLIS: u64 = 500;
 
 /// The loop's state besides the connections.
 #[derive(Drop)]
-struct Gate {
+struct EventLoop {
     poll: Poll,
     /// `None` once serving is to stop.
     entrance: Option<Entrance>,
@@ -93,8 +93,8 @@ fn serve_all<S: Store, F: Forget, R: Net + Clock + CpuClock + AllocGlobal + Log,
     gate_flow::laws::gateways_are_hosted();
     let mut events = Events::with_capacity(rt.alloc(), EVENTS)?;
     let mut table = Table::new(rt.alloc(), limits, Instant::now(rt)?)?;
-    let mut desk = Desk::new(rt.alloc())?;
-    let mut gate = Gate::open(rt, listener, control)?;
+    let mut desk = ControlTable::new(rt.alloc())?;
+    let mut gate = EventLoop::open(rt, listener, control)?;
     let ended = gate.serve(
         rt,
         &mut events,
@@ -112,8 +112,8 @@ fn serve_all<S: Store, F: Forget, R: Net + Clock + CpuClock + AllocGlobal + Log,
     }
 }
 
-/// Marks what was reported ready.
-fn mark(events: &Events, gate: &mut Gate, table: &mut Table, desk: &mut Desk)
+/// Marks what was reported ready, and those that waited for memory of which there is some now.
+fn mark(events: &Events, gate: &mut EventLoop, table: &mut Table, desk: &mut ControlTable)
     requires { IsTableKept table.old }
     ensures kept { IsTableKept table.new }
     ensures ids { table.new.ids ≡ table.old.ids }
@@ -123,10 +123,11 @@ fn mark(events: &Events, gate: &mut Gate, table: &mut Table, desk: &mut Desk)
     for event in events {
         mark_one(event, gate, table, desk);
     }
+    table.resume();
 }
 
 /// Marks one that was reported ready: a listener by its token, or a connection.
-fn mark_one(event: &Event, gate: &mut Gate, table: &mut Table, desk: &mut Desk)
+fn mark_one(event: &Event, gate: &mut EventLoop, table: &mut Table, desk: &mut ControlTable)
     requires { IsTableKept table.old }
     ensures kept { IsTableKept table.new }
     ensures ids { table.new.ids ≡ table.old.ids }
@@ -148,7 +149,7 @@ fn mark_one(event: &Event, gate: &mut Gate, table: &mut Table, desk: &mut Desk)
 }
 
 /// Tells a connection what an event says of its socket.
-fn report(event: &Event, table: &mut Table, desk: &mut Desk)
+fn report(event: &Event, table: &mut Table, desk: &mut ControlTable)
     requires { IsTableKept table.old }
     ensures kept { IsTableKept table.new }
     ensures ids { table.new.ids ≡ table.old.ids }
@@ -183,20 +184,20 @@ fn may_accept(entrance: &Option<Entrance>, now: Instant, room: bool) -> bool
     }
 }
 
-impl Gate {
+impl EventLoop {
     /// Begins to listen for connections.
     fn open<R: Net + Clock + AllocGlobal>(
         rt: &R,
         listener: TcpListener,
         control: Option<TcpListener>,
-    ) -> Result<Gate, ServeFault> {
+    ) -> Result<EventLoop, ServeFault> {
         let poll = Poll::new(rt)?;
         let entrance = Entrance::open(&poll, listener, LISTENER)?;
         let control = match control {
             Some(listener) => Some(Entrance::open(&poll, listener, CONTROL)?),
             None => None,
         };
-        Ok(Gate {
+        Ok(EventLoop {
             poll,
             entrance: Some(entrance),
             control,
@@ -212,7 +213,7 @@ impl Gate {
         rt: &R,
         events: &mut Events,
         table: &mut Table,
-        desk: &mut Desk,
+        desk: &mut ControlTable,
         limits: &Limits,
         lobby: &mut Lobby<S>,
         forgets: &mut F,
@@ -240,7 +241,7 @@ impl Gate {
         rt: &R,
         events: &mut Events,
         table: &mut Table,
-        desk: &mut Desk,
+        desk: &mut ControlTable,
         limits: &Limits,
         lobby: &mut Lobby<S>,
         forgets: &mut F,
@@ -269,6 +270,7 @@ impl Gate {
     /// How long it may be waited for sockets: not at all while a turn is to come, or a connection may be accepted.
     fn time_to_wait(&self, table: &Table, now: Instant) -> Duration {
         if table.has_turns()
+            || table.may_resume()
             || may_accept(&self.entrance, now, table.has_room())
             || may_accept(&self.control, now, true)
         {
@@ -305,7 +307,7 @@ impl Gate {
     }
 
     /// Accepts the control connections that wait, as many as may be open.
-    fn accept_control(&mut self, table: &mut Table, desk: &mut Desk, now: Instant)
+    fn accept_control(&mut self, table: &mut Table, desk: &mut ControlTable, now: Instant)
         requires { IsTableKept table.old }
         ensures kept { IsTableKept table.new }
         ensures next { table.old.ids.next ≤ table.new.ids.next }
@@ -327,7 +329,7 @@ impl Gate {
         &mut self,
         rt: &R,
         table: &mut Table,
-        desk: &mut Desk,
+        desk: &mut ControlTable,
         lobby: &mut Lobby<S>,
         forgets: &mut F,
         now: Instant,
@@ -354,7 +356,7 @@ impl Gate {
         &mut self,
         rt: &R,
         table: &mut Table,
-        desk: &Desk,
+        desk: &ControlTable,
         limits: &Limits,
         lobby: &mut Lobby<S>,
         forgets: &mut F,
@@ -428,7 +430,7 @@ fn accept_call(
     entrance: &mut Entrance,
     poll: &Poll,
     table: &mut Table,
-    desk: &mut Desk,
+    desk: &mut ControlTable,
     now: Instant,
 ) -> bool
     requires { IsTableKept table.old }

@@ -1,12 +1,12 @@
 //! The connections by their ids.
 ghost use Rattle.std.specs.Prelude.{◌≡◌, ◌≢◌, ◌+◌, ◌<◌, ◌≤◌, ◌↔◌, ℕ, IsTrue, Some, None, true, false, IfOk, IfSome, IfNone, length, []};
-ghost use Rattle.std.specs.Option.{option_map};
+ghost use Rattle.std.specs.Option.{option_map, option_map_or};
 ghost use Rattle.gate_flow.specs.Hosted.{IsHosted, IsOwnId};
 ghost use Rattle.gate_turns.specs.Seat.{new_seat};
 ghost use Rattle.gate_turns.specs.Lanes.{turns_due};
 ghost use Rattle.gate_turns.specs.Turns.{seat_at, HasCome, OthersStay};
 ghost use Rattle.gate_poll.specs.Peers.{owes};
-ghost use Rattle.gate_core.specs.Held.{connection_at};
+ghost use Rattle.gate_core.specs.ConnectionState.{connection_at};
 ghost use Rattle.gate_poll.specs.Table.{peer_in, IsLetGo, OthersKept, IsOwnPeer, AreOwnPeers, IsTurnOf, AreKeptBut, IsSocketCalled};
 
 use crate::forget::Forget;
@@ -151,6 +151,28 @@ impl Table {
         self.turns.report(id, readable, writable);
     }
 
+    /// Those that wait for memory have a turn to come, as many as there is memory for.
+    pub fn resume(&mut self)
+        requires { IsTableKept self.old }
+        ensures kept { IsTableKept self.new }
+        ensures ids { self.new.ids ≡ self.old.ids }
+        ensures peers { self.new.peers ≡ self.old.peers }
+        ensures due { turns_due self.new.turns.lanes ≡ turns_due self.old.turns.lanes }
+    {
+        self.tools.counts_kept();
+        'waiting: for _ in 0..self.tools.memory.len() {
+            let Some(id) = self.tools.memory.next() else {
+                return;
+            };
+            self.is_ready(id, true, false);
+        }
+    }
+
+    /// Whether one that waits for memory may go on.
+    pub fn may_resume(&self) -> bool {
+        self.tools.memory.may_resume()
+    }
+
     /// A round of turns, as `Turns` gives them.
     pub fn round<S: Store, F: Forget, R: Clock + CpuClock + Log>(
         &mut self,
@@ -223,6 +245,8 @@ impl Table {
         ensures turns { self.new.turns ≡ self.old.turns }
     {
         gate_flow::laws::gateways_are_hosted();
+        self.tools.memory.changes(kept_of(&self.peers, id), 0);
+        self.tools.memory.lets_go(id);
         let flow = take_out(&mut self.peers, id);
         give_up_some(lobby, forgets, id, flow);
         self.tools.counts.closes(self.turns.len());
@@ -244,7 +268,7 @@ impl Table {
     {
         gate_flow::laws::gateways_are_hosted();
         self.tools.passes(rt, now);
-        find_late(&self.peers, &self.tools.limits, now, &mut self.cut);
+        find_late(&self.peers, &self.tools, now, &mut self.cut);
         'late: for _ in 0..self.cut.len() {
             let Some(id) = self.cut.pop() else {
                 return;
@@ -356,10 +380,10 @@ fn shorten(turns: &mut Turns, long: bool)
 }
 
 /// Finds those whose time is over, at most 1,024 of them.
-fn find_late(peers: &BTreeMap<u64, Peer>, limits: &Limits, now: Instant, late: &mut Vec<u64>) {
+fn find_late(peers: &BTreeMap<u64, Peer>, tools: &Tools, now: Instant, late: &mut Vec<u64>) {
     late.clear();
     for (id, peer) in peers.iter() {
-        if late.len() < CUT && peer.is_late(now, limits) {
+        if late.len() < CUT && peer.is_late(now, tools) {
             let _ = late.push(*id);
         }
     }
@@ -412,6 +436,16 @@ fn add(peers: &mut BTreeMap<u64, Peer>, turns: &mut Turns, id: u64, peer: Peer) 
     match peers.remove(&id) {
         Some(peer) => Some(peer.into_flow()),
         None => None,
+    }
+}
+
+/// How many bytes are kept of a connection, and none where there is no such connection.
+fn kept_of(peers: &BTreeMap<u64, Peer>, id: u64) -> usize
+    ensures { result ≡ option_map_or (λ peer. peer.kept) (peer_in peers.now.entries id) 0 }
+{
+    match peers.get(&id) {
+        Some(peer) => peer.kept(),
+        None => 0,
     }
 }
 

@@ -2,6 +2,7 @@
 use crate::counts::Counts;
 use crate::journal::Journal;
 use crate::limits::Limits;
+use crate::memory::Memory;
 use crate::peer::Outcome;
 use gate_turns::End;
 use log::{Log, warn};
@@ -18,6 +19,7 @@ pub struct Tools {
     pub limits: Limits,
     pub counts: Counts,
     pub journal: Journal,
+    pub memory: Memory,
     pub scratch: Vec<u8>,
     /// Since when connections are served.
     began: Instant,
@@ -30,9 +32,15 @@ impl Tools {
             limits: *limits,
             counts: Counts::new(),
             journal: Journal::new(now),
+            memory: Memory::new(alloc, limits.memory),
             scratch: vec![in alloc; 0u8; SCRATCH]?,
             began: now,
         })
+    }
+
+    /// Counts what is kept of connections now.
+    pub fn counts_kept(&mut self) {
+        self.counts.keeps(self.memory.kept(), self.memory.len());
     }
 
     /// Tells how many lines were left out, and counts for how long connections have been served.

@@ -18,7 +18,7 @@ use std::alloc::{AllocError, Global};
 
 /// Answers `GET /status`, `GET /metrics` and `POST /stop`.
 #[derive(Clone, Copy, Debug, PartialEq, Eq)]
-pub struct Board;
+pub struct StatusControl;
 
 /// What a control request asks for.
 #[derive(Clone, Copy, Debug, PartialEq, Eq)]
@@ -38,7 +38,7 @@ pub enum Method {
     Post,
 }
 
-impl<S: Store> Control<S> for Board {
+impl<S: Store> Control<S> for StatusControl {
     fn answer(
         &mut self,
         alloc: Global,

@@ -44,9 +44,10 @@ fn number(name: &'static str, value: u64) -> Named {
 }
 
 /// What happened to connections.
-pub fn connection_figures(counts: &Counts) -> [Named; 8] {
+pub fn connection_figures(counts: &Counts) -> [Named; 9] {
     [
         number("open", counts.open),
+        number("waiting", counts.waiting),
         number("opened", counts.opened),
         number("over", counts.over),
         number("failed", counts.failed),

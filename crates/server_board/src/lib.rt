@@ -13,6 +13,6 @@ mod board;
 /// The program's version, which `wozhinnam --version` prints too.
 pub const VERSION: &str = "0.1.0";
 
-pub use board::{Asked, Board, Method, asked_by};
+pub use board::{Asked, Method, StatusControl, asked_by};
 pub use metrics::metrics_text;
 pub use status::status_text;

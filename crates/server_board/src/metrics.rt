@@ -121,10 +121,20 @@ fn put_line(text: &mut String, line: &String) -> Result<(), AllocError> {
 }
 
 /// The figures of the loop.
-fn figures_of(counts: &Counts) -> [Figure; 11] {
+fn figures_of(counts: &Counts) -> [Figure; 13] {
     [
         gauge("uptime_seconds", "Seconds since connections are served.").shows(counts.seconds),
         gauge("connections", "Connections that are open.").shows(counts.open),
+        gauge(
+            "connections_waiting",
+            "Connections that wait with a long request until less is kept.",
+        )
+        .shows(counts.waiting),
+        gauge(
+            "kept_bytes",
+            "Bytes of requests that aren't whole yet and of replies that wait.",
+        )
+        .shows(counts.kept),
         counter("connections_opened_total", "Connections that were opened.").shows(counts.opened),
         counter(
             "connections_over_total",

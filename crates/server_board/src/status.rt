@@ -9,7 +9,7 @@ use std::alloc::{AllocError, Global};
 /// An object's members, by their names.
 type Members = Map<String, Value>;
 
-/// The version and the figures as JSON: the time so far, connections, bytes, replies of each status, and each store.
+/// The version and the figures as JSON: the time so far, connections, bytes that are kept, received and sent, replies of each status, and each store.
 /// `Err` only where memory is refused.
 pub fn status_text(
     alloc: Global,
@@ -20,6 +20,7 @@ pub fn status_text(
     let mut members = Map::new(alloc);
     put(alloc, &mut members, "version", version_json(alloc)?)?;
     put_number(alloc, &mut members, "uptime_seconds", counts.seconds)?;
+    put_number(alloc, &mut members, "kept", counts.kept)?;
     put_number(alloc, &mut members, "received", counts.bytes_in)?;
     put_number(alloc, &mut members, "sent", counts.bytes_out)?;
     put_parts(alloc, &mut members, counts, tally)?;

@@ -539,6 +539,8 @@ fn counts() -> Counts {
         stopped: 6,
         refused: 7,
         starved: 8,
+        kept: 25,
+        waiting: 26,
         bytes_in: 9,
         bytes_out: 10,
         seconds: 24,
@@ -572,7 +574,7 @@ fn the_status_is_json(rt: HostRuntime) -> Result<(), Fail> {
     let text = status_text(rt.alloc(), &counts(), &tally(), STORES.as_slice())?;
     assert!(rt;
         text.as_str()
-            == "{\"connections\":{\"accept_paused\":8,\"failed\":4,\"late\":5,\"open\":1,\"opened\":2,\"over\":3,\"refused\":7,\"stopped\":6},\"received\":9,\"replies\":{\"200\":14,\"206\":15,\"400\":16,\"404\":17,\"405\":18,\"410\":19,\"413\":20,\"416\":21,\"501\":22,\"503\":23},\"sent\":10,\"stores\":[{\"failures\":13,\"held\":12,\"room\":11}],\"uptime_seconds\":24,\"version\":\"0.1.0\"}"
+            == "{\"connections\":{\"accept_paused\":8,\"failed\":4,\"late\":5,\"open\":1,\"opened\":2,\"over\":3,\"refused\":7,\"stopped\":6,\"waiting\":26},\"kept\":25,\"received\":9,\"replies\":{\"200\":14,\"206\":15,\"400\":16,\"404\":17,\"405\":18,\"410\":19,\"413\":20,\"416\":21,\"501\":22,\"503\":23},\"sent\":10,\"stores\":[{\"failures\":13,\"held\":12,\"room\":11}],\"uptime_seconds\":24,\"version\":\"0.1.0\"}"
     );
     Ok(())
 }
@@ -585,6 +587,8 @@ fn metrics_have_a_line_each(rt: HostRuntime) -> Result<(), Fail> {
         "# TYPE wozhinnam_uptime_seconds gauge\nwozhinnam_uptime_seconds 24\n",
         "# HELP wozhinnam_connections Connections that are open.\n",
         "# TYPE wozhinnam_connections gauge\nwozhinnam_connections 1\n",
+        "# TYPE wozhinnam_connections_waiting gauge\nwozhinnam_connections_waiting 26\n",
+        "# TYPE wozhinnam_kept_bytes gauge\nwozhinnam_kept_bytes 25\n",
         "# TYPE wozhinnam_connections_late_total counter\nwozhinnam_connections_late_total 5\n",
         "wozhinnam_sent_bytes_total 10\n",
         "# TYPE wozhinnam_replies_total counter\nwozhinnam_replies_total{status=\"200\"} 14\n",

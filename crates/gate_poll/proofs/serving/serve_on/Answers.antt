@@ -1,5 +1,5 @@
 use Rattle.std.proofs.Common.{inl, inr, ◌≡◌, ◌⊎◌, Option}
-use Rattle.gate_core.specs.Held.{Held}
+use Rattle.gate_core.specs.ConnectionState.{ConnectionState}
 use Rattle.gate_poll.specs.Table.{IsLetGo, IsOverAt}
 use Rattle.gate_poll.proofs.LettingGo.{is_over}
 use Rattle.gate_poll.proofs.serving.serve_on.Goals as goal

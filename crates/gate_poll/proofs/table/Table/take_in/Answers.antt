@@ -5,7 +5,7 @@ use Rattle.gate_turns.specs.Lanes.{turns_due}
 use Rattle.gate_turns.specs.Turns.{TurnsState, seat_at}
 use Rattle.gate_turns.specs.declared.seat.Place.TheVariants.{Queued}
 use Rattle.gate_turns.specs.declared.seat.Lane.TheVariants.{Fresh}
-use Rattle.gate_core.specs.Held.{connection_at}
+use Rattle.gate_core.specs.ConnectionState.{connection_at}
 use Rattle.gate_poll.specs.Table.{peer_in, IsLetGo}
 use Rattle.gate_poll.proofs.Hosts.{serves_still, of_own, own_then, and_then}
 use Rattle.gate_poll.proofs.Keeping.{kept_more, kept_with, ids_rise, given_own, ungiven, new_owes, seat_new, neither, due_after}

@@ -1,5 +1,5 @@
 use Rattle.std.proofs.Common.{◌≡◌}
-use Rattle.gate_poll.proofs.control.Caller.hear.Given as goal
+use Rattle.gate_poll.proofs.control.ControlConnection.hear.Given as goal
 
 abbrev pub invariant-loop-item : goal.invariant-loop-item
 invariant-loop-item g l =

@@ -4,7 +4,7 @@ use Rattle.gate_poll.specs.declared.peer.Peer.{Peer}
 use Rattle.gate_poll.specs.Table.{AreLetGo}
 use Rattle.gate_poll.specs.declared.ids.Ids.{Ids}
 use Rattle.gate_poll.proofs.LettingGo.{gone_then}
-use Rattle.gate_poll.proofs.serving.Gate.round.Goals as goal
+use Rattle.gate_poll.proofs.serving.EventLoop.round.Goals as goal
 
 pub returns-clause-served : goal.returns-clause-served
 returns-clause-served g c =

@@ -1,7 +1,7 @@
 use Rattle.std.proofs.Common.{◌≤◌, refl, arith}
 use Rattle.gate_poll.proofs.Hosts.{serves_still}
 use Rattle.gate_poll.proofs.LettingGo.{none_gone}
-use Rattle.gate_poll.proofs.serving.Gate.is_over.Goals as goal
+use Rattle.gate_poll.proofs.serving.EventLoop.is_over.Goals as goal
 
 pub returns-then-is_asked-clause-served : goal.returns-then-is_asked-clause-served
 returns-then-is_asked-clause-served g c = serves_still c.args.table.now.ids.next c.args.table.now.ids.next c.args.table.now.peers.entries c.args.table.now.turns c.gateways_are_hosted.ensures.none c.gateways_are_hosted.ensures.wider c.args.lobby.now c.requires (omega arith)

@@ -1,7 +1,7 @@
 use Rattle.std.proofs.Common.{◌≡◌, ◌≤◌, ◌∙◌, refl, arith}
 use Rattle.gate_poll.proofs.Hosts.{serves_still}
 use Rattle.gate_poll.proofs.LettingGo.{none_gone, gone_then}
-use Rattle.gate_poll.proofs.serving.Gate.accept_some.Goals as goal
+use Rattle.gate_poll.proofs.serving.EventLoop.accept_some.Goals as goal
 
 pub returns-in_default-clause-served : goal.returns-in_default-clause-served
 returns-in_default-clause-served g c = serves_still c.args.table.now.ids.next c.args.table.now.ids.next c.args.table.now.peers.entries c.args.table.now.turns c.gateways_are_hosted.ensures.none c.gateways_are_hosted.ensures.wider c.args.lobby.now c.requires (omega arith)

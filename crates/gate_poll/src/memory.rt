@@ -1,0 +1,133 @@
+//! How much memory connections may take.
+ghost use Rattle.std.specs.Prelude.{◌≡◌, ◌≢◌, ◌<◌, ◌≤◌, ◌+◌, ◌-◌, ◌^◌, ◌↔◌, ◌⊎◌, min, IsTrue, IsFalse, IfSome, Some, None};
+
+use std::alloc::Global;
+use std::collections::BTreeSet;
+
+/// From how many kept bytes on a request is long.
+pub const LONG: usize = 16_384;
+
+/// What is kept of all connections, of their requests that aren't whole yet and of their replies that wait, and who waits
+/// until there is less of it. Where the budget is used up, those that send long requests are read no further, but for one:
+/// it goes on until its request is whole, so that somebody always does. Shorter requests never wait.
+#[derive(Drop)]
+pub struct Memory {
+    /// How many bytes may be kept.
+    most: u64,
+    /// How many are.
+    kept: u64,
+    /// The one that goes on although the budget is used up.
+    first: Option<u64>,
+    /// Those that wait, of whom the one that came first goes on first.
+    waiting: BTreeSet<u64>,
+}
+
+impl Memory {
+    /// Nothing is kept yet, and so many bytes may be. Takes no memory.
+    pub fn new(alloc: Global, most: u64) -> Memory
+        ensures most { result.most ≡ most }
+        ensures kept { result.kept ≡ 0 }
+        ensures first { result.first ≡ None }
+    {
+        Memory {
+            most,
+            kept: 0,
+            first: None,
+            waiting: BTreeSet::new(alloc),
+        }
+    }
+
+    /// Whether the budget is used up.
+    pub fn is_full(&self) -> bool
+        ensures { IsTrue result ↔ (self.now.most ≤ self.now.kept) }
+    {
+        self.most <= self.kept
+    }
+
+    /// Whether a connection waits until less is kept.
+    pub fn waits(&self, id: u64) -> bool {
+        self.waiting.contains(&id)
+    }
+
+    /// So many bytes are kept of a connection, where it was so many before.
+    pub fn changes(&mut self, before: usize, now: usize)
+        ensures kept { self.new.kept ≡ min (self.old.kept - before + now) (2 ^ 64 - 1) }
+        ensures most { self.new.most ≡ self.old.most }
+        ensures first { self.new.first ≡ self.old.first }
+    {
+        self.kept = self
+            .kept
+            .saturating_sub(before as u64)
+            .saturating_add(now as u64);
+    }
+
+    /// A connection sends no request any more: its request is whole, or it is gone.
+    pub fn lets_go(&mut self, id: u64)
+        ensures kept { self.new.kept ≡ self.old.kept }
+        ensures most { self.new.most ≡ self.old.most }
+        ensures first { self.new.first ≢ Some id }
+        ensures others { self.old.first ≢ Some id → self.new.first ≡ self.old.first }
+    {
+        if self.first == Some(id) {
+            self.first = None;
+        }
+        self.waiting.remove(&id);
+    }
+
+    /// Whether a connection of which so many bytes are kept may be read from. Else it waits until it is called by
+    /// [`Memory::next`]. Where memory for its place among those that wait is refused it may.
+    pub fn admits(&mut self, id: u64, kept: usize) -> bool
+        ensures short { kept < 16384 → IsTrue result }
+        ensures room { self.old.kept < self.old.most → IsTrue result }
+        ensures one { IsFalse result → (self.old.first ≢ None) × (self.old.first ≢ Some id) }
+        ensures kept { self.new.kept ≡ self.old.kept }
+        ensures most { self.new.most ≡ self.old.most }
+    {
+        if kept < LONG || !self.is_full() {
+            return true;
+        }
+        match self.first {
+            None => {
+                self.first = Some(id);
+                true
+            }
+            Some(first) if first == id => true,
+            Some(_) => self.waiting.insert(id).is_err(),
+        }
+    }
+
+    /// The next one that waits and may be read from now, if there is one.
+    pub fn next(&mut self) -> Option<u64>
+        ensures one { self.old.most ≤ self.old.kept → self.old.first ≢ None → result ≡ None }
+        ensures first { self.old.most ≤ self.old.kept →
+            IfSome result (λ id. self.new.first ≡ Some id) }
+        ensures kept { self.new.kept ≡ self.old.kept }
+        ensures most { self.new.most ≡ self.old.most }
+    {
+        if !self.is_full() {
+            return self.waiting.pop_first();
+        }
+        if self.first.is_some() {
+            return None;
+        }
+        self.first = self.waiting.pop_first();
+        self.first
+    }
+
+    /// Whether one that waits may be read from now.
+    pub fn may_resume(&self) -> bool {
+        !self.waiting.is_empty() && (!self.is_full() || self.first.is_none())
+    }
+
+    /// How many bytes are kept.
+    pub fn kept(&self) -> u64
+        ensures { result ≡ self.now.kept }
+    {
+        self.kept
+    }
+
+    /// How many wait.
+    pub fn len(&self) -> usize {
+        self.waiting.len()
+    }
+}
