@@ -1,14 +1,19 @@
 -- A change that a store's shelf is told, from the call that asks for it to what comes of it.
-use Rattle.std.proofs.Common.{◌≡◌, ◌≤◌, ℕ, List, Option, Some, None, refl, sym, ap, subst, ◌∙◌, arith, inl, inr}
-use Rattle.std.specs.Prelude.{IsTrue}
+use Rattle.std.proofs.Common.{◌≡◌, ◌≤◌, ℕ, Bool, true, is_some, List, Option, Some, None, Result, Ok, Err, refl, sym, ap, subst, ◌∙◌, arith, inl, inr}
+use Rattle.std.specs.Prelude.{IsTrue, OnOk}
 use Rattle.std.specs.FinMap.{get}
 use Rattle.share_store.specs.Shares.{Shares, ShareKey}
+use Rattle.share_store.specs.declared.fault.StoreFault.{StoreFault}
 use Rattle.share_shelf.specs.Left.{Keeps, IsEither, LeavesOnly, IsQuiet, IsChanged, MayBeChanged}
 use Rattle.share_shelf.specs.declared.shelf.Shelf.{Ghosts}
+use Rattle.shelf_store.specs.Changed.{PutsBack, CarriesOut}
 use Rattle.shelf_store.specs.Doubt.{InDoubt, in_doubt, as_before}
 use Rattle.shelf_store.specs.Known.{known}
+use Rattle.shelf_store.specs.Looks.{ReadsOnly}
 use Rattle.shelf_store.specs.Sizes.{sizes_of}
+use Rattle.shelf_store.specs.Standing.{standing, IsHonest}
 use Rattle.shelf_store.specs.Step.{IsInStep, Crashes}
+use Rattle.shelf_store.specs.declared.doubt.Doubt.{Doubt}
 use Rattle.shelf_store.specs.declared.shelf_store.ShelfStore.{ShelfStore}
 use Rattle.shelf_store.proofs.Steps.{IsSameBut, put_back, put_back_twice, quiet_keeps, quiet_same, leaves_nothing, leaves_quiet, leaves_more, leaves_both}
 
@@ -24,12 +29,6 @@ module _ {X : Type 0} (g : Ghosts X) where
       }
 
 module _ {X : Type 0} {g : Ghosts X} where
-  abbrev pub standing : ShelfStore X g → Shares
-  standing store = as_before (in_doubt store.doubt) (g.shares store.shelf)
-
-  abbrev pub IsHonest : ShelfStore X g → Type 0
-  IsHonest store = IsTrue (g.honest store.shelf)
-
   -- what a crash may leave in a call that began at this store, has this shelf by now and is to make these shares
   abbrev pub CrashesTo : ShelfStore X g → X → Shares → Type 0
   CrashesTo self shelf after = Crashes g.moment g.left_since g.honest g.shares (in_doubt self.doubt) self.shelf shelf (standing self) after
@@ -73,28 +72,41 @@ module _ {X : Type 0} {g : Ghosts X} where
   crash_none self {after} = crash_in self refl (λ h. leaves_nothing g.moment g.left_since self.shelf self.shelf (IsEither (standing self) after) (quiet_same g.moment g.left_since self.shelf))
 
   -- where the change in doubt was settled, and no more
-  pub crash_left : (self : ShelfStore X g) {shelf : X} {after : Shares} → g.honest shelf ≡ g.honest self.shelf → (IsHonest self → LeavesOnly g.moment g.left_since self.shelf shelf (λ c. c ≡ standing self)) → CrashesTo self shelf after
-  crash_left self {shelf} {after} same_honest left = crash_in self same_honest (λ h. leaves_more g.moment g.left_since self.shelf shelf (λ c. c ≡ standing self) (IsEither (standing self) after) (left h) (λ c is. inl is))
+  pub crash_left : (self : ShelfStore X g) {mid : ShelfStore X g} {after : Shares} → PutsBack self mid → CrashesTo self mid.shelf after
+  crash_left self {mid} {after} back = crash_in self back.honest (λ h. leaves_more g.moment g.left_since self.shelf mid.shelf (λ c. c ≡ standing self) (IsEither (standing self) after) (back.crash h) (λ c is. inl is))
 
   -- and a share was read
-  pub crash_read : (self set : ShelfStore X g) {shelf : X} {after : Shares} → g.honest set.shelf ≡ g.honest self.shelf → (IsHonest self → LeavesOnly g.moment g.left_since self.shelf set.shelf (λ c. c ≡ standing self))
-      → g.honest shelf ≡ g.honest set.shelf → IsQuiet g.moment g.left_since set.shelf shelf → CrashesTo self shelf after
-  crash_read self set {shelf} set_honest left same_honest quiet = crash_left self (same_honest ∙ set_honest) (λ h. leaves_quiet g.moment g.left_since self.shelf set.shelf shelf (λ c. c ≡ standing self) (left h) quiet)
+  pub crash_read : (self : ShelfStore X g) {set mid : ShelfStore X g} {after : Shares} → PutsBack self set → ReadsOnly set mid → CrashesTo self mid.shelf after
+  crash_read self {set} {mid} {after} back reads = crash_in self (reads.read.honest ∙ back.honest) (λ h.
+      let left = leaves_quiet g.moment g.left_since self.shelf set.shelf mid.shelf (λ c. c ≡ standing self) (back.crash h) reads.read.quiet in
+      leaves_more g.moment g.left_since self.shelf mid.shelf (λ c. c ≡ standing self) (IsEither (standing self) after) left (λ c is. inl is))
+
+  pub read_stands : {self set mid : ShelfStore X g} → PutsBack self set → ReadsOnly set mid → IsHonest self → standing mid ≡ standing self
+  read_stands back reads h = reads.stands (subst IsTrue (sym back.honest) h) ∙ back.stands h
 
   -- where it is counted that the shelf failed
   pub crash_counted : (self : ShelfStore X g) {old new : X} {after : Shares} → new ≡ old → CrashesTo self old after → CrashesTo self new after
   crash_counted self {old} {new} {after} same crashes = subst (λ (s : X). CrashesTo self s after) (sym same) crashes
 
-  -- ---- a look at a share, once no change is in doubt
+  -- ---- once no change is in doubt
 
-  pub looked : {self : ShelfStore X g} (set mid : ShelfStore X g) → IsSettled self set → mid.doubt ≡ set.doubt → g.honest mid.shelf ≡ g.honest set.shelf → (IsHonest set → standing mid ≡ standing set) → IsQuiet g.moment g.left_since set.shelf mid.shelf
-      → IsSettled self mid
-  looked {self} set mid settled same_doubt same_honest same quiet = record {
-    up = ap in_doubt same_doubt ∙ settled.up;
-    same_honest = same_honest ∙ settled.same_honest;
-    same = λ h. same (subst IsTrue (sym settled.same_honest) h) ∙ settled.same h;
-    left = λ h. leaves_quiet g.moment g.left_since self.shelf set.shelf mid.shelf (λ c. c ≡ standing self) (settled.left h) quiet;
+  pub settled : {self set : ShelfStore X g} → in_doubt set.doubt ≡ None → PutsBack self set → IsSettled self set
+  settled up back = record { up = up; same_honest = back.honest; same = back.stands; left = back.crash }
+
+  -- and a share was read
+  pub looked : {self set mid : ShelfStore X g} → in_doubt set.doubt ≡ None → PutsBack self set → ReadsOnly set mid → IsSettled self mid
+  looked {self} {set} {mid} up back reads = record {
+    up = ap in_doubt reads.doubt ∙ up;
+    same_honest = reads.read.honest ∙ back.honest;
+    same = read_stands back reads;
+    left = λ h. leaves_quiet g.moment g.left_since self.shelf set.shelf mid.shelf (λ c. c ≡ standing self) (back.crash h) reads.read.quiet;
   }
+
+  -- a change that is refused
+  pub refused : {self new : ShelfStore X g} {asked : Shares → Bool} {change : Shares → Shares} (r : Result Bool StoreFault) → OnOk r ⊥
+      → (IsHonest self → standing new ≡ standing self) → CrashesTo self new.shelf (change (standing self)) → CarriesOut asked change r self new
+  refused (Ok b) not stands crash = absurd not
+  refused (Err x) not stands crash = record { answer = λ h. tt; shares = λ h. tt; err = stands; crash = crash }
 
   -- ---- what came of the change
 
@@ -213,3 +225,15 @@ module _ {X : Type 0} {g : Ghosts X} where
 
     pub back_keeps : IsHonest self → ((c : Shares) → g.left_since new (g.moment new) c → IsChanged g.moment g.left_since self.shelf change c) → Keeps g.moment g.left_since new (standing self)
     back_keeps h done c left = let each : IsChanged g.moment g.left_since self.shelf change c = done c left in each.2 ∙ told.back each.0 ∙ self.in_step.left h each.0 each.1
+
+  -- so it was put back, or tried
+  pub told_back : {self new : ShelfStore X g} {change : Shares → Shares} → IsToldBack self new.shelf change → new.doubt ≡ self.doubt → new.index ≡ self.index
+      → g.failures self.shelf ≤ g.failures new.shelf → is_some (in_doubt self.doubt) ≡ true → PutsBack self new
+  told_back {self} {new} told doubt index rises some = record {
+    crash = back_leaves told;
+    stands = λ h. ap (λ (d : Option Doubt). as_before (in_doubt d) (g.shares new.shelf)) doubt ∙ back_stands told h;
+    honest = told.same_honest;
+    rises_below = rises;
+    failed_in_doubt = λ more. ap (λ (d : Option Doubt). is_some (in_doubt d)) doubt ∙ some;
+    index = index;
+  }

@@ -1,4 +1,5 @@
 pub mod Doubts
+pub mod Forgetting
 pub mod Opens
 pub mod Sizes
 pub mod Steps

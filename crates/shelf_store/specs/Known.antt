@@ -1,5 +1,5 @@
 -- What an index knows of shares.
-use Rattle.std.proofs.Common.{◌≡◌, ◌⊎◌, ◌∙◌}
+use Rattle.std.proofs.Common.{◌≡◌, ◌⊎◌, ◌+◌, ◌∙◌}
 use Rattle.std.specs.FinMap.{remove}
 use Rattle.share_store.specs.Shares.{Shares, ShareKey, bytes_of}
 use Rattle.share_store.specs.Stored.{shares_in}
@@ -11,6 +11,10 @@ use Rattle.shelf_store.specs.declared.index.Index.{Index}
 -- the shares that stand, each byte of them 0
 abbrev pub known : Index → Shares
 known index = shares_in blank index.lengths.indexes
+
+-- the room and what is held are as much, taken together
+abbrev pub IsAsRoomy : Index → Index → Type 0
+IsAsRoomy old new = new.room + new.held ≡ old.room + old.held
 
 -- The index is as it was, or without this share.
 abbrev pub ForgetsOnly : ShareKey → Index → Index → Type 0

@@ -1,8 +1,7 @@
 //! Which shares stand, how long each is, and how much room is left.
-ghost use Rattle.std.specs.Prelude.{◌≡◌, ◌<◌, ◌+◌, ◌^◌, All, None, Some, IfOk, OnOk, OnErr, IsErrOf, length, is_some};
+ghost use Rattle.std.specs.Prelude.{◌≡◌, ◌<◌, ◌+◌, ◌^◌, All, None, OnOk, OnErr, IsErrOf, length};
 ghost use Rattle.std.specs.Option.{option_map};
 ghost use Rattle.std.specs.FinMap as map;
-ghost use Rattle.share_store.specs.Numbers.{numbers_of};
 ghost use Rattle.share_store.specs.Shares.{bytes_of};
 ghost use Rattle.share_store.specs.Stored.{blank, shares_in};
 
@@ -21,9 +20,11 @@ pub(crate) struct Index {
 }
 
 impl Index {
+    ghost use Rattle.shelf_store.specs.Known.{known, IsAsRoomy};
+
     /// No shares, and room for `room` bytes. It takes memory from `alloc` as shares come.
     pub(crate) fn new(alloc: Global, room: u64) -> Self
-        ensures lengths { shares_in blank result.lengths.indexes ≡ map.empty }
+        ensures lengths { known result ≡ map.empty }
         ensures room { result.room + result.held ≡ room }
     {
         Index {
@@ -35,22 +36,20 @@ impl Index {
 
     /// The length of the share that stands there.
     pub(crate) fn get(&self, index: &[u8; 16], number: u16) -> Option<u64>
-        ensures { option_map blank result
-            ≡ map.get (shares_in blank self.now.lengths.indexes) (index.now, number) }
+        ensures { option_map blank result ≡ map.get (known self.now) (index.now, number) }
     {
         self.lengths.get(index, number).copied()
     }
 
     /// Puts the length of a share where none stands. Refused with `Full` where it is more than the room.
     pub(crate) fn put(&mut self, index: [u8; 16], number: u16, size: u64) -> Result<(), StoreFault>
-        requires none { map.get (shares_in blank self.old.lengths.indexes) (index, number) ≡ None }
+        requires none { map.get (known self.old) (index, number) ≡ None }
         requires some { 0 < size }
-        ensures ok { OnOk result (shares_in blank self.new.lengths.indexes ≡ map.insert
-            (shares_in blank self.old.lengths.indexes) (index, number) (blank size)) }
-        ensures err { OnErr result (shares_in blank self.new.lengths.indexes
-            ≡ shares_in blank self.old.lengths.indexes) }
+        ensures ok { OnOk result (known self.new
+            ≡ map.insert (known self.old) (index, number) (blank size)) }
+        ensures err { OnErr result (known self.new ≡ known self.old) }
         ensures err_room { OnErr result (self.new.room ≡ self.old.room) }
-        ensures room { self.new.room + self.new.held ≡ self.old.room + self.old.held }
+        ensures room { IsAsRoomy self.old self.new }
         ensures full { IsErrOf result StoreFault.Full → self.old.room < size }
         ensures not_down { IsErrOf result StoreFault.Down → ⊥ }
     {
@@ -65,9 +64,8 @@ impl Index {
 
     /// Takes a share away; its bytes are room again. Takes no memory, and is never refused.
     pub(crate) fn remove(&mut self, index: &[u8; 16], number: u16)
-        ensures shares { shares_in blank self.new.lengths.indexes
-            ≡ map.remove (shares_in blank self.old.lengths.indexes) (index.now, number) }
-        ensures room { self.new.room + self.new.held ≡ self.old.room + self.old.held }
+        ensures shares { known self.new ≡ map.remove (known self.old) (index.now, number) }
+        ensures room { IsAsRoomy self.old self.new }
     {
         match self.lengths.remove(index, number) {
             None => {}

@@ -1,17 +1,17 @@
 //! Stores opened over shelves that hold shares.
-ghost use Rattle.std.specs.Prelude.{◌≡◌, ◌<◌, ◌≤◌, ◌+◌, ◌↔◌, ℕ, [], List, Some, None, IsTrue, IfOk, IfErr, IfSome, IfNone, OnOk, MatchResult, IsErrOf, length};
+ghost use Rattle.std.specs.Prelude.{◌≡◌, ◌<◌, ◌+◌, ℕ, [], List, Some, None, IsTrue, IfOk, IfErr, IfSome, IfNone, OnOk, IsErrOf, length};
 ghost use Rattle.std.specs.Option.{option_map};
 ghost use Rattle.std.specs.FinMap as map;
 ghost use Rattle.std.specs.Rc.{rc_slice_items};
 ghost use Rattle.share_store.specs.Put.{put_once};
 ghost use Rattle.share_store.specs.Shares.{Shares, ShareKey, bytes_of};
-ghost use Rattle.share_shelf.specs.Left.{Keeps, IsQuiet};
-ghost use Rattle.shelf_store.specs.Doubt.{in_doubt};
-ghost use Rattle.shelf_store.specs.Known.{known};
-ghost use Rattle.shelf_store.specs.Sizes.{sizes_of};
 ghost use Rattle.share_store.specs.Stored.{blank};
+ghost use Rattle.share_shelf.specs.Left.{Keeps};
 ghost use Rattle.share_shelf.specs.declared.open_fault.OpenFault.TheVariants.{Shelf as ShelfRefused, Store as StoreRefused};
 ghost use Rattle.share_shelf.specs.declared.fault.ShelfFault.{ShelfFault};
+ghost use Rattle.shelf_store.specs.Known.{known, IsAsRoomy};
+ghost use Rattle.shelf_store.specs.Opened.{OfKept, ReadsFor, IsShelfOpened, IsOpenRefused};
+ghost use Rattle.shelf_store.specs.Sizes.{sizes_of};
 
 use crate::ShelfStore;
 use crate::index::Index;
@@ -28,7 +28,7 @@ fn take_given(
     number: u16,
     given: &Option<RcSlice<u8>>,
 ) -> Result<(), OpenFault>
-    ensures room { taken.new.room + taken.new.held ≡ taken.old.room + taken.old.held }
+    ensures room { IsAsRoomy taken.old taken.new }
     ensures nothing { IfNone given.now ((result ≡ Ok tt) × (taken.new ≡ taken.old)) }
     ensures taken { IfSome given.now (λ bytes. OnOk result (known taken.new
         ≡ put_once (known taken.old) (index, number) (blank (length (rc_slice_items bytes))))) }
@@ -61,25 +61,16 @@ fn take_in<H: Shelf>(
     index: [u8; 16],
     number: u16,
 ) -> Result<(), OpenFault>
-    ensures honest { H.honest shelf.new ≡ H.honest shelf.old }
-    ensures quiet { IsQuiet H.moment H.left_since shelf.old shelf.new }
-    ensures room { taken.new.room + taken.new.held ≡ taken.old.room + taken.old.held }
-    ensures taken { IsTrue (H.honest shelf.old) →
-        (m : Shares) → Keeps H.moment H.left_since shelf.old m →
-        (bytes : List ℕ) → map.get m (index, number) ≡ Some bytes →
-        OnOk result (known taken.new
-        ≡ put_once (known taken.old) (index, number) (blank (length bytes))) }
-    ensures not_down { IsErrOf result (StoreRefused StoreFault.Down) → ⊥ }
-    ensures empty { IsErrOf result OpenFault.Empty → IsTrue (H.honest shelf.old) →
-        (m : Shares) → Keeps H.moment H.left_since shelf.old m →
-        map.get m (index, number) ≡ Some [] }
-    ensures full { IsErrOf result (StoreRefused StoreFault.Full) → IsTrue (H.honest shelf.old) →
-        (m : Shares) → Keeps H.moment H.left_since shelf.old m →
-        (bytes : List ℕ) → map.get m (index, number) ≡ Some bytes →
-        (map.get (known taken.old) (index, number) ≡ None) × (taken.old.room < length bytes) }
-    ensures failed { (result ≡ Err (ShelfRefused ShelfFault.Failed))
-        ↔ (H.failures shelf.old < H.failures shelf.new) }
-    ensures rises { H.failures shelf.old ≤ H.failures shelf.new }
+    ensures read { ReadsFor H.Shelf result shelf.old shelf.new }
+    ensures room { IsAsRoomy taken.old taken.new }
+    ensures taken { OfKept H.Shelf shelf.old (λ m. (bytes : List ℕ) →
+        map.get m (index, number) ≡ Some bytes → OnOk result (known taken.new
+        ≡ put_once (known taken.old) (index, number) (blank (length bytes)))) }
+    ensures empty { IsErrOf result OpenFault.Empty →
+        OfKept H.Shelf shelf.old (λ m. map.get m (index, number) ≡ Some []) }
+    ensures full { IsErrOf result (StoreRefused StoreFault.Full) →
+        OfKept H.Shelf shelf.old (λ m. (bytes : List ℕ) → map.get m (index, number) ≡ Some bytes →
+        (map.get (known taken.old) (index, number) ≡ None) × (taken.old.room < length bytes)) }
 {
     let given = shelf.read(index, number)?;
     take_given(taken, index, number, &given)
@@ -87,21 +78,14 @@ fn take_in<H: Shelf>(
 
 /// The lengths of all shares of a shelf that it lists and gives, with room for so many bytes, these among them.
 fn take_all<H: Shelf>(alloc: Global, shelf: &mut H, room: u64) -> Result<Index, OpenFault>
-    ensures honest { H.honest shelf.new ≡ H.honest shelf.old }
-    ensures quiet { IsQuiet H.moment H.left_since shelf.old shelf.new }
+    ensures read { ReadsFor H.Shelf result shelf.old shelf.new }
     ensures room { IfOk result (λ taken. taken.room + taken.held ≡ room) }
-    ensures sizes { IsTrue (H.honest shelf.old) →
-        (m : Shares) → Keeps H.moment H.left_since shelf.old m →
-        IfOk result (λ taken. sizes_of (known taken) ≡ sizes_of m) }
-    ensures not_down { IsErrOf result (StoreRefused StoreFault.Down) → ⊥ }
-    ensures empty { IsErrOf result OpenFault.Empty → IsTrue (H.honest shelf.old) →
-        (m : Shares) → Keeps H.moment H.left_since shelf.old m →
-        (key : ShareKey) × (map.get m key ≡ Some []) }
-    ensures full { IsErrOf result (StoreRefused StoreFault.Full) → IsTrue (H.honest shelf.old) →
-        (m : Shares) → Keeps H.moment H.left_since shelf.old m → room < bytes_of m }
-    ensures failed { (result ≡ Err (ShelfRefused ShelfFault.Failed))
-        ↔ (H.failures shelf.old < H.failures shelf.new) }
-    ensures rises { H.failures shelf.old ≤ H.failures shelf.new }
+    ensures sizes { OfKept H.Shelf shelf.old (λ m.
+        IfOk result (λ taken. sizes_of (known taken) ≡ sizes_of m)) }
+    ensures empty { IsErrOf result OpenFault.Empty →
+        OfKept H.Shelf shelf.old (λ m. (key : ShareKey) × (map.get m key ≡ Some [])) }
+    ensures full { IsErrOf result (StoreRefused StoreFault.Full) →
+        OfKept H.Shelf shelf.old (λ m. room < bytes_of m) }
 {
     let mut taken = Index::new(alloc, room);
     let names = shelf.list(alloc)?;
@@ -122,28 +106,9 @@ impl<H: Shelf + Drop> ShelfStore<H> {
     pub fn open(alloc: Global, shelf: H, room: u64) -> Result<ShelfStore<H>, (OpenFault, H)>
         // After a restart, what is read is what a crash left.
         requires { IsTrue (H.honest shelf) → (m : Shares) × Keeps H.moment H.left_since shelf m }
-        ensures up { IfOk result (λ store. in_doubt store.doubt ≡ None) }
-        ensures none_failed { IfOk result (λ store. store.failures ≡ 0) }
-        ensures room { IfOk result (λ store. store.index.room + store.index.held ≡ room) }
-        ensures quiet { MatchResult result
-            (λ store. IsQuiet H.moment H.left_since shelf store.shelf)
-            (λ refused. IsQuiet H.moment H.left_since shelf refused.1) }
-        ensures same_honest { MatchResult result (λ store. H.honest store.shelf ≡ H.honest shelf)
-            (λ refused. H.honest refused.1 ≡ H.honest shelf) }
-        ensures shares { IsTrue (H.honest shelf) →
-            (m : Shares) → Keeps H.moment H.left_since shelf m →
-            IfOk result (λ store. ⟦<ShelfStore<H> as Store>⟧.shares store ≡ m) }
-        ensures not_down { IfErr result (λ refused.
-            refused.0 ≡ StoreRefused StoreFault.Down → ⊥) }
-        ensures failed { IfErr result (λ refused. (refused.0 ≡ ShelfRefused ShelfFault.Failed)
-            ↔ (H.failures shelf < H.failures refused.1)) }
-        ensures empty { IfErr result (λ refused. refused.0 ≡ OpenFault.Empty →
-            IsTrue (H.honest shelf) →
-            (m : Shares) → Keeps H.moment H.left_since shelf m →
-            (key : ShareKey) × (map.get m key ≡ Some [])) }
-        ensures full { IfErr result (λ refused. refused.0 ≡ StoreRefused StoreFault.Full →
-            IsTrue (H.honest shelf) →
-            (m : Shares) → Keeps H.moment H.left_since shelf m → room < bytes_of m) }
+        ensures opened { IfOk result (IsShelfOpened H.Shelf room shelf) }
+        ensures refused { IfErr result (λ refused.
+            IsOpenRefused H.Shelf room shelf refused.1 refused.0) }
     {
         let mut shelf = shelf;
         match take_all(alloc, &mut shelf, room) {

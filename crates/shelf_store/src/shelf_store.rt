@@ -1,5 +1,5 @@
 //! A store whose bytes are on a shelf.
-ghost use Rattle.std.specs.Prelude.{◌≡◌, ◌<◌, ◌≤◌, ◌+◌, ◌-◌, ◌^◌, ◌==◌, ◌↔◌, [], All, None, Some, true, false, not, length, is_some, IsTrue, IsSome, IfOk, IsOkAnd, IfSome, IfNone, OnOk, OnErr, IsErrOf, if◌then◌else◌, slice_get};
+ghost use Rattle.std.specs.Prelude.{◌≡◌, ◌<◌, ◌≤◌, ◌+◌, ◌↔◌, [], None, Some, true, false, not, length, is_some, IsTrue, IfOk, IsOkAnd, IfSome, OnOk, OnErr, IsErrOf, slice_get};
 ghost use Rattle.std.specs.Option.{ForSome, option_map};
 ghost use Rattle.std.specs.FinMap as map;
 ghost use Rattle.std.specs.Rc.{rc_slice_items};
@@ -7,14 +7,13 @@ ghost use Rattle.share_store.specs.MapLaws.{held_fits};
 ghost use Rattle.share_store.specs.Looked.{Looked};
 ghost use Rattle.share_store.specs.Numbers.{numbers_of};
 ghost use Rattle.share_store.specs.Put.{put_once};
-ghost use Rattle.share_store.specs.Stored.{entry_of};
+ghost use Rattle.share_store.specs.Stored.{blank, entry_of};
 ghost use Rattle.share_store.specs.Toggle.{has_byte, with_toggle};
-ghost use Rattle.share_shelf.specs.Left.{Keeps, IsQuiet, LeavesOnly};
+ghost use Rattle.share_shelf.specs.Left.{Keeps};
 ghost use Rattle.shelf_store.specs.Doubt.{in_doubt, as_before};
-ghost use Rattle.shelf_store.specs.Known.{known, held_as, ForgetsOnly};
-ghost use Rattle.share_store.specs.Stored.{blank};
+ghost use Rattle.shelf_store.specs.Known.{known, held_as, IsAsRoomy};
 ghost use Rattle.shelf_store.specs.SizeLaws.{some_as};
-ghost use Rattle.shelf_store.specs.Step.{IsInStep, IsInStep-prop, Crashes};
+ghost use Rattle.shelf_store.specs.Step.{IsInStep, IsInStep-prop};
 
 use crate::doubt::Doubt;
 use crate::index::Index;
@@ -43,6 +42,10 @@ pub struct ShelfStore<H: Shelf> {
 }
 
 impl<H: Shelf> ShelfStore<H> {
+    ghost use Rattle.shelf_store.specs.Standing.{standing, IsHonest};
+    ghost use Rattle.shelf_store.specs.Looks.{CountsOnly, ReadsOnly, CountsNone, Forgets, GivesStored, LooksAt};
+    ghost use Rattle.shelf_store.specs.Changed.{PutsBack, TellsCause, CarriesOut, Settles};
+
     /// The shelf that has the bytes. On an honest one a crash leaves what stands in the store, but for the share of the
     /// change in which it failed, if it failed in one.
     pub fn shelf(&self) -> &H
@@ -58,11 +61,8 @@ impl<H: Shelf> ShelfStore<H> {
     fn count(&mut self) -> Result<(), AllocError>
         ensures counted { OnOk result (self.new.failures ≡ self.old.failures + 1) }
         ensures same { OnErr result (self.new.failures ≡ self.old.failures) }
-        ensures counts { self.new.failures ≡ (if self.old.failures == 2 ^ 64 - 1
-            then self.old.failures else self.old.failures + 1) }
+        ensures counts { CountsOnly self.old self.new }
         ensures index { self.new.index ≡ self.old.index }
-        ensures shelf { self.new.shelf ≡ self.old.shelf }
-        ensures doubt { self.new.doubt ≡ self.old.doubt }
     {
         if self.failures == u64::MAX {
             return Err(AllocError);
@@ -74,15 +74,9 @@ impl<H: Shelf> ShelfStore<H> {
     /// Counts a call that is refused because the shelf failed, and says why.
     fn refuse(&mut self) -> StoreFault
         ensures down { (result ≡ StoreFault.Down) ↔ (self.old.failures < self.new.failures) }
-        ensures rises { self.old.failures ≤ self.new.failures }
-        ensures counts { self.new.failures ≡ (if self.old.failures == 2 ^ 64 - 1
-            then self.old.failures else self.old.failures + 1) }
         ensures not_full { result ≡ StoreFault.Full → ⊥ }
+        ensures counts { CountsOnly self.old self.new }
         ensures index { self.new.index ≡ self.old.index }
-        ensures shelf { self.new.shelf ≡ self.old.shelf }
-        ensures doubt { self.new.doubt ≡ self.old.doubt }
-        ensures stands { ⟦<ShelfStore<H> as Store>⟧.shares self.new
-            ≡ ⟦<ShelfStore<H> as Store>⟧.shares self.old }
     {
         match self.count() {
             Ok(()) => StoreFault::Down,
@@ -93,23 +87,14 @@ impl<H: Shelf> ShelfStore<H> {
     /// The bytes of a share as they stood before the change in doubt: from memory where it was of this share, and else
     /// by one read of the shelf. `None` where the shelf gave no bytes, as an honest one never does of a share.
     fn stood(&mut self, index: [u8; 16], number: u16) -> Result<Option<RcSlice<u8>>, ShelfFault>
-        ensures given { IsTrue (H.honest self.old.shelf) →
-            IfOk result (λ bytes. option_map rc_slice_items bytes ≡ map.get
-            (as_before (in_doubt self.old.doubt) (H.shares self.old.shelf)) (index, number)) }
+        ensures given { IsHonest self.old → IfOk result (λ bytes.
+            option_map rc_slice_items bytes ≡ map.get (standing self.old) (index, number)) }
         ensures some { IfOk result (λ bytes.
             ForSome bytes (λ b. 0 < length (rc_slice_items b))) }
-        ensures quiet { IsQuiet H.moment H.left_since self.old.shelf self.new.shelf }
-        ensures honest { H.honest self.new.shelf ≡ H.honest self.old.shelf }
-        ensures same_shares { IsTrue (H.honest self.old.shelf) →
-            H.shares self.new.shelf ≡ H.shares self.old.shelf }
-        ensures rises { H.failures self.old.shelf ≤ H.failures self.new.shelf }
         ensures failed { IsErrOf result ShelfFault.Failed ↔
             (H.failures self.old.shelf < H.failures self.new.shelf) }
-        ensures stands { IsTrue (H.honest self.old.shelf) →
-            ⟦<ShelfStore<H> as Store>⟧.shares self.new
-            ≡ ⟦<ShelfStore<H> as Store>⟧.shares self.old }
+        ensures reads { ReadsOnly self.old self.new }
         ensures index { self.new.index ≡ self.old.index }
-        ensures doubt { self.new.doubt ≡ self.old.doubt }
         ensures failures { self.new.failures ≡ self.old.failures }
     {
         if let Some(doubt) = &self.doubt {
@@ -129,15 +114,13 @@ impl<H: Shelf> ShelfStore<H> {
     /// Takes a share out of the index that the shelf doesn't give, so that it can be put again, and counts that as a
     /// failure. An honest shelf gives each.
     fn forget(&mut self, index: &[u8; 16], number: u16) -> Result<(), AllocError>
-        requires { IsTrue (H.honest self.old.shelf) → ⊥ }
+        requires { IsHonest self.old → ⊥ }
         ensures gone { known self.new.index
             ≡ map.remove (known self.old.index) (index.now, number) }
-        ensures room { self.new.index.room + self.new.index.held
-            ≡ self.old.index.room + self.old.index.held }
+        ensures room { IsAsRoomy self.old.index self.new.index }
         ensures counted { OnOk result (self.new.failures ≡ self.old.failures + 1) }
         ensures same { OnErr result (self.new.failures ≡ self.old.failures) }
-        ensures shelf { self.new.shelf ≡ self.old.shelf }
-        ensures doubt { self.new.doubt ≡ self.old.doubt }
+        ensures counts { CountsOnly self.old self.new }
     {
         self.index.remove(index, number);
         self.count()
@@ -152,43 +135,15 @@ impl<H: Shelf> ShelfStore<H> {
         size: u64,
     ) -> Result<Option<RcSlice<u8>>, AllocError>
         requires { map.get (known self.old.index) (index, number) ≡ Some (blank size) }
-        ensures given { IsTrue (H.honest self.old.shelf) → self.new.failures ≡ self.old.failures →
-            IfOk result (λ bytes. option_map rc_slice_items bytes ≡ map.get
-            (as_before (in_doubt self.old.doubt) (H.shares self.old.shelf)) (index, number)) }
+        ensures given { IsHonest self.old → self.new.failures ≡ self.old.failures →
+            GivesStored (index, number) result self.old }
         ensures sized { IfOk result (λ bytes.
             IfSome bytes (λ b. length (rc_slice_items b) ≡ size)) }
         ensures failed { (result ≡ Ok None) ↔ (self.old.failures < self.new.failures) }
         ensures rises { self.old.failures ≤ self.new.failures }
-        ensures counts { H.failures self.old.shelf < H.failures self.new.shelf →
-            IfOk result (λ bytes. bytes ≡ None)
-            × (self.new.failures ≡ (if self.old.failures == 2 ^ 64 - 1 then self.old.failures
-            else self.old.failures + 1)) }
-        ensures counts_only { IsTrue (H.honest self.old.shelf) →
-            H.failures self.new.shelf ≡ H.failures self.old.shelf →
-            self.new.failures ≡ self.old.failures }
-        ensures rises_below { H.failures self.old.shelf ≤ H.failures self.new.shelf }
-        ensures quiet { IsQuiet H.moment H.left_since self.old.shelf self.new.shelf }
-        ensures honest { H.honest self.new.shelf ≡ H.honest self.old.shelf }
-        ensures same_shares { IsTrue (H.honest self.old.shelf) →
-            H.shares self.new.shelf ≡ H.shares self.old.shelf }
-        ensures stands { IsTrue (H.honest self.old.shelf) →
-            ⟦<ShelfStore<H> as Store>⟧.shares self.new
-            ≡ ⟦<ShelfStore<H> as Store>⟧.shares self.old }
-        ensures doubt { self.new.doubt ≡ self.old.doubt }
-
-        // What the shelf gave not leaves the index, and nothing else does.
-        ensures forgets { H.failures self.new.shelf ≡ H.failures self.old.shelf →
-            IfOk result (λ bytes. IfNone bytes
-            (map.get (known self.new.index) (index, number) ≡ None)) }
-        ensures forgets_only { ForgetsOnly (index, number) self.old.index self.new.index }
-        ensures kept_honest { IsTrue (H.honest self.old.shelf) →
-            self.new.index ≡ self.old.index }
-        ensures kept_failed { H.failures self.old.shelf < H.failures self.new.shelf →
-            self.new.index ≡ self.old.index }
-        ensures kept_given { IfOk result (λ bytes. IfSome bytes (λ b.
-            self.new.index ≡ self.old.index)) }
-        ensures room { self.new.index.room + self.new.index.held
-            ≡ self.old.index.room + self.old.index.held }
+        ensures failing { CountsNone result self.old self.new }
+        ensures reads { ReadsOnly self.old self.new }
+        ensures index { Forgets (index, number) result self.old self.new }
     {
         match self.stood(index, number) {
             Ok(Some(bytes)) => {
@@ -219,37 +174,9 @@ impl<H: Shelf> ShelfStore<H> {
         ensures looked { Looked ⟦<ShelfStore<H> as Store>⟧.honest ⟦<ShelfStore<H> as Store>⟧.shares
             ⟦<ShelfStore<H> as Store>⟧.room ⟦<ShelfStore<H> as Store>⟧.failures self.old self.new }
         ensures failed { self.old.failures < self.new.failures → result ≡ Ok None }
-        ensures found { IsTrue (H.honest self.old.shelf) → self.new.failures ≡ self.old.failures →
-            IfOk result (λ bytes. option_map rc_slice_items bytes
-            ≡ map.get (⟦<ShelfStore<H> as Store>⟧.shares self.old) (index, number)) }
-        ensures sized { IfOk result (λ bytes. IfSome bytes (λ b.
-            map.get (known self.old.index) (index, number)
-            ≡ Some (blank (length (rc_slice_items b))))) }
-        ensures counts { H.failures self.old.shelf < H.failures self.new.shelf →
-            IfOk result (λ bytes. bytes ≡ None)
-            × (self.new.failures ≡ (if self.old.failures == 2 ^ 64 - 1 then self.old.failures
-            else self.old.failures + 1)) }
-        ensures counts_only { IsTrue (H.honest self.old.shelf) →
-            H.failures self.new.shelf ≡ H.failures self.old.shelf →
-            self.new.failures ≡ self.old.failures }
-        ensures absent { map.get (known self.old.index) (index, number) ≡ None →
-            (result ≡ Ok None) × (self.new ≡ self.old) }
-        ensures quiet { IsQuiet H.moment H.left_since self.old.shelf self.new.shelf }
-        ensures doubt { self.new.doubt ≡ self.old.doubt }
-
-        // What the shelf gave not leaves the index, and nothing else does.
-        ensures forgets { H.failures self.new.shelf ≡ H.failures self.old.shelf →
-            IfOk result (λ bytes. IfNone bytes
-            (map.get (known self.new.index) (index, number) ≡ None)) }
-        ensures forgets_only { ForgetsOnly (index, number) self.old.index self.new.index }
-        ensures kept_honest { IsTrue (H.honest self.old.shelf) →
-            self.new.index ≡ self.old.index }
-        ensures kept_failed { H.failures self.old.shelf < H.failures self.new.shelf →
-            self.new.index ≡ self.old.index }
-        ensures kept_given { IfOk result (λ bytes. IfSome bytes (λ b.
-            self.new.index ≡ self.old.index)) }
-        ensures room { self.new.index.room + self.new.index.held
-            ≡ self.old.index.room + self.old.index.held }
+        ensures found { IsHonest self.old → self.new.failures ≡ self.old.failures →
+            GivesStored (index, number) result self.old }
+        ensures looks { LooksAt (index, number) result self.old self.new }
     {
         match self.index.get(&index, number) {
             None => Ok(None),
@@ -259,22 +186,11 @@ impl<H: Shelf> ShelfStore<H> {
 
     /// Puts on the shelf what stood there before the change in doubt. Without one the shelf isn't asked.
     fn put_back(&mut self) -> Result<(), ShelfFault>
-        ensures done { IsTrue (H.honest self.old.shelf) →
-            OnOk result (Keeps H.moment H.left_since self.new.shelf
-            (⟦<ShelfStore<H> as Store>⟧.shares self.old)) }
-        ensures crash { IsTrue (H.honest self.old.shelf) →
-            LeavesOnly H.moment H.left_since self.old.shelf self.new.shelf
-            (λ c. c ≡ ⟦<ShelfStore<H> as Store>⟧.shares self.old) }
-        ensures stands { IsTrue (H.honest self.old.shelf) →
-            ⟦<ShelfStore<H> as Store>⟧.shares self.new
-            ≡ ⟦<ShelfStore<H> as Store>⟧.shares self.old }
-        ensures honest { H.honest self.new.shelf ≡ H.honest self.old.shelf }
-        ensures rises { H.failures self.old.shelf ≤ H.failures self.new.shelf }
+        ensures done { IsHonest self.old → OnOk result
+            (Keeps H.moment H.left_since self.new.shelf (standing self.old)) }
         ensures failed { IsErrOf result ShelfFault.Failed ↔
             (H.failures self.old.shelf < H.failures self.new.shelf) }
-        ensures failed_in_doubt { H.failures self.old.shelf < H.failures self.new.shelf →
-            is_some (in_doubt self.old.doubt) ≡ true }
-        ensures index { self.new.index ≡ self.old.index }
+        ensures back { PutsBack self.old self.new }
         ensures doubt { self.new.doubt ≡ self.old.doubt }
         ensures failures { self.new.failures ≡ self.old.failures }
     {
@@ -296,25 +212,11 @@ impl<H: Shelf> ShelfStore<H> {
     fn settle(&mut self) -> Result<(), StoreFault>
         ensures up { OnOk result (in_doubt self.new.doubt ≡ None) }
         ensures err { OnErr result (self.new.doubt ≡ self.old.doubt) }
-        ensures crash { IsTrue (H.honest self.old.shelf) →
-            LeavesOnly H.moment H.left_since self.old.shelf self.new.shelf
-            (λ c. c ≡ ⟦<ShelfStore<H> as Store>⟧.shares self.old) }
-        ensures stands { IsTrue (H.honest self.old.shelf) →
-            ⟦<ShelfStore<H> as Store>⟧.shares self.new
-            ≡ ⟦<ShelfStore<H> as Store>⟧.shares self.old }
-        ensures honest { H.honest self.new.shelf ≡ H.honest self.old.shelf }
-        ensures rises { self.old.failures ≤ self.new.failures }
-        ensures down { IsErrOf result StoreFault.Down ↔ (self.old.failures < self.new.failures) }
+        ensures back { PutsBack self.old self.new }
+        ensures failing { TellsCause result self.old self.new }
         ensures not_full { IsErrOf result StoreFault.Full → ⊥ }
-        ensures rises_below { H.failures self.old.shelf ≤ H.failures self.new.shelf }
-        ensures failed_in_doubt { H.failures self.old.shelf < H.failures self.new.shelf →
-            is_some (in_doubt self.new.doubt) ≡ true }
-        ensures counts { H.failures self.old.shelf < H.failures self.new.shelf →
-            (OnOk result ⊥) × (self.new.failures ≡ (if self.old.failures == 2 ^ 64 - 1
-            then self.old.failures else self.old.failures + 1)) }
         ensures counts_only { H.failures self.new.shelf ≡ H.failures self.old.shelf →
             self.new.failures ≡ self.old.failures }
-        ensures index { self.new.index ≡ self.old.index }
     {
         match self.put_back() {
             Ok(()) => {
@@ -339,44 +241,20 @@ impl<H: Shelf> ShelfStore<H> {
         bytes: RcSlice<u8>,
     ) -> Result<bool, StoreFault>
         requires { 0 < length (rc_slice_items bytes) }
-        ensures rises { self.old.failures ≤ self.new.failures }
-        ensures down { IsErrOf result StoreFault.Down ↔ (self.old.failures < self.new.failures) }
         ensures full { IsErrOf result StoreFault.Full →
             (self.old.index.room < length (rc_slice_items bytes))
             × (self.new.index.room ≡ self.old.index.room) }
-        ensures full_only { IsErrOf result StoreFault.Full → IsTrue (H.honest self.old.shelf) →
-            map.get (⟦<ShelfStore<H> as Store>⟧.shares self.old) (index, number) ≡ None }
-        ensures put { IsTrue (H.honest self.old.shelf) →
-            IfOk result (λ put. put
-            ≡ not (map.contains_key (⟦<ShelfStore<H> as Store>⟧.shares self.old) (index, number))) }
-        ensures shares { IsTrue (H.honest self.old.shelf) →
-            OnOk result (⟦<ShelfStore<H> as Store>⟧.shares self.new
-            ≡ put_once (⟦<ShelfStore<H> as Store>⟧.shares self.old) (index, number)
-            (rc_slice_items bytes)) }
-        ensures err { IsTrue (H.honest self.old.shelf) →
-            OnErr result (⟦<ShelfStore<H> as Store>⟧.shares self.new
-            ≡ ⟦<ShelfStore<H> as Store>⟧.shares self.old) }
-        ensures room { self.new.index.room + self.new.index.held
-            ≡ self.old.index.room + self.old.index.held }
-        ensures crash { Crashes H.moment H.left_since H.honest H.shares
-            (in_doubt self.old.doubt) self.old.shelf self.new.shelf
-            (⟦<ShelfStore<H> as Store>⟧.shares self.old)
-            (put_once (⟦<ShelfStore<H> as Store>⟧.shares self.old) (index, number)
-            (rc_slice_items bytes)) }
-        ensures comes_up { map.get (known self.old.index) (index, number) ≡ None →
-            H.failures self.new.shelf ≡ H.failures self.old.shelf →
-            (IsErrOf result StoreFault.NoMemory → ⊥) → in_doubt self.new.doubt ≡ None }
-        ensures stays_in_doubt { H.failures self.new.shelf ≡ H.failures self.old.shelf →
-            is_some (in_doubt self.new.doubt) ≡ true → self.new.doubt ≡ self.old.doubt }
+        ensures full_only { IsErrOf result StoreFault.Full → IsHonest self.old →
+            map.get (standing self.old) (index, number) ≡ None }
+        ensures done { CarriesOut (λ m. not (map.contains_key m (index, number)))
+            (λ m. put_once m (index, number) (rc_slice_items bytes)) result self.old self.new }
+        ensures settles { Settles (λ m. not (map.contains_key m (index, number)))
+            result self.old self.new }
+        ensures failing { TellsCause result self.old self.new }
         ensures goes_in_doubt { H.failures self.old.shelf < H.failures self.new.shelf →
             is_some (in_doubt self.new.doubt) ≡ true }
         ensures down_only { H.failures self.new.shelf ≡ H.failures self.old.shelf →
             IsErrOf result StoreFault.Down → ⊥ }
-        ensures counts { H.failures self.old.shelf < H.failures self.new.shelf →
-            (OnOk result ⊥) × (self.new.failures ≡ (if self.old.failures == 2 ^ 64 - 1
-            then self.old.failures else self.old.failures + 1)) }
-        ensures there { is_some (map.get (known self.old.index) (index, number)) ≡ true →
-            (result ≡ Ok false) × (self.new ≡ self.old) }
     {
         if self.index.get(&index, number).is_some() {
             return Ok(false);
@@ -409,36 +287,14 @@ impl<H: Shelf> ShelfStore<H> {
     /// Refused with `Down` where the shelf failed, after which a change is in doubt unless it failed in the read, and with
     /// `NoMemory` where there was no memory or a failure could not be counted.
     pub fn give_up(&mut self, index: [u8; 16], number: u16) -> Result<bool, StoreFault>
-        ensures rises { self.old.failures ≤ self.new.failures }
-        ensures down { IsErrOf result StoreFault.Down ↔ (self.old.failures < self.new.failures) }
         ensures not_full { IsErrOf result StoreFault.Full → ⊥ }
-        ensures lost { IsTrue (H.honest self.old.shelf) →
-            IfOk result (λ lost. lost
-            ≡ map.contains_key (⟦<ShelfStore<H> as Store>⟧.shares self.old) (index, number)) }
-        ensures shares { IsTrue (H.honest self.old.shelf) →
-            OnOk result (⟦<ShelfStore<H> as Store>⟧.shares self.new
-            ≡ map.remove (⟦<ShelfStore<H> as Store>⟧.shares self.old) (index, number)) }
-        ensures err { IsTrue (H.honest self.old.shelf) →
-            OnErr result (⟦<ShelfStore<H> as Store>⟧.shares self.new
-            ≡ ⟦<ShelfStore<H> as Store>⟧.shares self.old) }
-        ensures room { self.new.index.room + self.new.index.held
-            ≡ self.old.index.room + self.old.index.held }
-        ensures crash { Crashes H.moment H.left_since H.honest H.shares
-            (in_doubt self.old.doubt) self.old.shelf self.new.shelf
-            (⟦<ShelfStore<H> as Store>⟧.shares self.old)
-            (map.remove (⟦<ShelfStore<H> as Store>⟧.shares self.old) (index, number)) }
-        ensures comes_up { is_some (map.get (known self.old.index) (index, number)) ≡ true →
-            H.failures self.new.shelf ≡ H.failures self.old.shelf →
-            (IsErrOf result StoreFault.NoMemory → ⊥) → in_doubt self.new.doubt ≡ None }
-        ensures stays_in_doubt { H.failures self.new.shelf ≡ H.failures self.old.shelf →
-            is_some (in_doubt self.new.doubt) ≡ true → self.new.doubt ≡ self.old.doubt }
+        ensures done { CarriesOut (λ m. map.contains_key m (index, number))
+            (λ m. map.remove m (index, number)) result self.old self.new }
+        ensures settles { Settles (λ m. map.contains_key m (index, number))
+            result self.old self.new }
+        ensures failing { TellsCause result self.old self.new }
         ensures down_only { H.failures self.new.shelf ≡ H.failures self.old.shelf →
             IsErrOf result StoreFault.Down → ⊥ }
-        ensures counts { H.failures self.old.shelf < H.failures self.new.shelf →
-            (OnOk result ⊥) × (self.new.failures ≡ (if self.old.failures == 2 ^ 64 - 1
-            then self.old.failures else self.old.failures + 1)) }
-        ensures absent { map.get (known self.old.index) (index, number) ≡ None →
-            (result ≡ Ok false) × (self.new ≡ self.old) }
     {
         if self.index.get(&index, number).is_none() {
             return Ok(false);
@@ -472,37 +328,15 @@ impl<H: Shelf> ShelfStore<H> {
     ///
     /// Refused as a loss is, and with `Down` also where the shelf gave not as many bytes as the index has.
     pub fn alter(&mut self, index: [u8; 16], number: u16, place: u64) -> Result<bool, StoreFault>
-        ensures rises { self.old.failures ≤ self.new.failures }
-        ensures down { IsErrOf result StoreFault.Down ↔ (self.old.failures < self.new.failures) }
         ensures not_full { IsErrOf result StoreFault.Full → ⊥ }
-        ensures toggled { IsTrue (H.honest self.old.shelf) →
-            IfOk result (λ toggled. toggled
-            ≡ has_byte (⟦<ShelfStore<H> as Store>⟧.shares self.old) (index, number) place) }
-        ensures shares { IsTrue (H.honest self.old.shelf) →
-            OnOk result (⟦<ShelfStore<H> as Store>⟧.shares self.new
-            ≡ with_toggle (⟦<ShelfStore<H> as Store>⟧.shares self.old) (index, number) place) }
-        ensures err { IsTrue (H.honest self.old.shelf) →
-            OnErr result (⟦<ShelfStore<H> as Store>⟧.shares self.new
-            ≡ ⟦<ShelfStore<H> as Store>⟧.shares self.old) }
-        ensures room { self.new.index.room + self.new.index.held
-            ≡ self.old.index.room + self.old.index.held }
-        ensures crash { Crashes H.moment H.left_since H.honest H.shares
-            (in_doubt self.old.doubt) self.old.shelf self.new.shelf
-            (⟦<ShelfStore<H> as Store>⟧.shares self.old)
-            (with_toggle (⟦<ShelfStore<H> as Store>⟧.shares self.old) (index, number) place) }
-        ensures comes_up { has_byte (known self.old.index) (index, number) place ≡ true →
-            H.failures self.new.shelf ≡ H.failures self.old.shelf →
-            (IsErrOf result StoreFault.NoMemory → ⊥) → in_doubt self.new.doubt ≡ None }
-        ensures stays_in_doubt { H.failures self.new.shelf ≡ H.failures self.old.shelf →
-            is_some (in_doubt self.new.doubt) ≡ true → self.new.doubt ≡ self.old.doubt }
-        ensures down_only { IsTrue (H.honest self.old.shelf) →
+        ensures done { CarriesOut (λ m. has_byte m (index, number) place)
+            (λ m. with_toggle m (index, number) place) result self.old self.new }
+        ensures settles { Settles (λ m. has_byte m (index, number) place)
+            result self.old self.new }
+        ensures failing { TellsCause result self.old self.new }
+        ensures down_only { IsHonest self.old →
             H.failures self.new.shelf ≡ H.failures self.old.shelf →
             IsErrOf result StoreFault.Down → ⊥ }
-        ensures counts { H.failures self.old.shelf < H.failures self.new.shelf →
-            (OnOk result ⊥) × (self.new.failures ≡ (if self.old.failures == 2 ^ 64 - 1
-            then self.old.failures else self.old.failures + 1)) }
-        ensures absent { has_byte (known self.old.index) (index, number) place ≡ false →
-            (result ≡ Ok false) × (self.new ≡ self.old) }
     {
         toggle_laws();
         let Some(size) = self.index.get(&index, number) else {
@@ -532,6 +366,8 @@ impl<H: Shelf> ShelfStore<H> {
 }
 
 impl<H: Shelf> Store for ShelfStore<H> {
+    ghost use Rattle.shelf_store.specs.Looks.{CountsNone, LooksAt};
+
     ghost honest = { λ store. H.honest store.shelf };
 
     ghost shares = { λ store. as_before (in_doubt store.doubt) (H.shares store.shelf) };
@@ -581,28 +417,7 @@ impl<H: Shelf> Store for ShelfStore<H> {
         ensures found { IsTrue (H.honest self.old.shelf) → self.new.failures ≡ self.old.failures →
             IfOk result (λ bytes. option_map rc_slice_items bytes
             ≡ map.get (⟦<ShelfStore<H> as Store>⟧.shares self.old) (index, number)) }
-        ensures sized { IfOk result (λ bytes. IfSome bytes (λ b.
-            map.get (known self.old.index) (index, number)
-            ≡ Some (blank (length (rc_slice_items b))))) }
-        ensures absent { map.get (known self.old.index) (index, number) ≡ None →
-            (result ≡ Ok None) × (self.new ≡ self.old) }
-        ensures counts { H.failures self.old.shelf < H.failures self.new.shelf →
-            IfOk result (λ bytes. bytes ≡ None)
-            × (self.new.failures ≡ (if self.old.failures == 2 ^ 64 - 1 then self.old.failures
-            else self.old.failures + 1)) }
-        ensures counts_only { IsTrue (H.honest self.old.shelf) →
-            H.failures self.new.shelf ≡ H.failures self.old.shelf →
-            self.new.failures ≡ self.old.failures }
-        ensures forgets { H.failures self.new.shelf ≡ H.failures self.old.shelf →
-            IfOk result (λ bytes. IfNone bytes
-            (map.get (known self.new.index) (index, number) ≡ None)) }
-        ensures forgets_only { ForgetsOnly (index, number) self.old.index self.new.index }
-        ensures kept_honest { IsTrue (H.honest self.old.shelf) →
-            self.new.index ≡ self.old.index }
-        ensures kept_failed { H.failures self.old.shelf < H.failures self.new.shelf →
-            self.new.index ≡ self.old.index }
-        ensures kept_given { IfOk result (λ bytes. IfSome bytes (λ b.
-            self.new.index ≡ self.old.index)) }
+        ensures looks { LooksAt (index, number) result self.old self.new }
     {
         self.look(index, number)
     }
@@ -618,13 +433,7 @@ impl<H: Shelf> Store for ShelfStore<H> {
         ensures known { IfOk result (λ share. IfSome share (λ s.
             option_map (λ e. e.0) (slice_get (map.entries (known self.old.index)) at)
             ≡ Some (s.index, s.number))) }
-        ensures counts { H.failures self.old.shelf < H.failures self.new.shelf →
-            IfOk result (λ share. share ≡ None)
-            × (self.new.failures ≡ (if self.old.failures == 2 ^ 64 - 1 then self.old.failures
-            else self.old.failures + 1)) }
-        ensures counts_only { IsTrue (H.honest self.old.shelf) →
-            H.failures self.new.shelf ≡ H.failures self.old.shelf →
-            self.new.failures ≡ self.old.failures }
+        ensures failing { CountsNone result self.old self.new }
     {
         let Some(name) = self.index.lengths.nth(at) else {
             return Ok(None);

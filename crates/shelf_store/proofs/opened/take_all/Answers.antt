@@ -4,13 +4,12 @@ use Rattle.std.specs.Prelude.{IsTrue, IsErrAnd}
 use Rattle.std.proofs.lemmas.Option.{slice_get-get_or}
 use Rattle.std.specs.FinMap.{entries}
 use Rattle.share_store.specs.Shares.{ShareKey}
-use Rattle.share_shelf.specs.Left.{Keeps, IsQuiet}
+use Rattle.share_shelf.specs.Left.{IsQuiet}
 use Rattle.share_store.specs.declared.fault.StoreFault.TheVariants.{Full}
 use Rattle.share_shelf.specs.declared.open_fault.OpenFault.TheVariants.{Empty, Shelf as ShelfRefused, Store as StoreRefused}
 use Rattle.share_shelf.specs.declared.fault.ShelfFault.TheVariants.{Failed}
 use Rattle.shelf_store.specs.Known.{known}
 use Rattle.share_store.specs.Stored.{blank}
-use Rattle.shelf_store.specs.Sizes.{sizes_of}
 use Rattle.shelf_store.proofs.Steps.{quiet_trans, quiet_keeps, calm}
 use Rattle.shelf_store.proofs.Opens.{begun_none, next_taken, all_taken, too_many}
 use Rattle.shelf_store.proofs.opened.take_all.Goals as goal
@@ -49,11 +48,11 @@ loop-name-init g c = record {
 pub loop-name-preserved : goal.loop-name-preserved
 loop-name-preserved g c =
     let inv = c.loop-name.invariant in
-    let quiet : IsQuiet g.H.Shelf.moment g.H.Shelf.left_since c.args.shelf.now c.take_in.new.shelf = quiet_trans g.H.Shelf.moment g.H.Shelf.left_since c.args.shelf.now c.loop-name.shelf c.take_in.new.shelf inv.quiet c.take_in.ensures.quiet in
+    let quiet : IsQuiet g.H.Shelf.moment g.H.Shelf.left_since c.args.shelf.now c.take_in.new.shelf = quiet_trans g.H.Shelf.moment g.H.Shelf.left_since c.args.shelf.now c.loop-name.shelf c.take_in.new.shelf inv.quiet c.take_in.ensures.read.read.quiet in
     record {
       quiet = quiet;
-      same_honest = c.take_in.ensures.honest ∙ inv.same_honest;
-      rises = calm c.take_in.result c.in_ok-take_in.field-0 (ShelfRefused Failed) _ _ c.in_ok-take_in.was c.take_in.ensures.failed.1 c.take_in.ensures.rises ∙ inv.rises;
+      same_honest = c.take_in.ensures.read.read.honest ∙ inv.same_honest;
+      rises = calm c.take_in.result c.in_ok-take_in.field-0 (ShelfRefused Failed) _ _ c.in_ok-take_in.was c.take_in.ensures.read.failed.1 c.take_in.ensures.read.read.rises ∙ inv.rises;
       same_room = c.take_in.ensures.room ∙ inv.same_room;
       begun = λ h m keeps.
           let taken = c.in_ok-take_in.ensures.taken (subst IsTrue (sym inv.same_honest) h) m (quiet_keeps g.H.Shelf.moment g.H.Shelf.left_since c.args.shelf.now c.loop-name.shelf m inv.quiet keeps) in

@@ -4,10 +4,13 @@ use Rattle.std.specs.Option.{option_map}
 use Rattle.std.specs.FinMap.{get, insert}
 use Rattle.std.specs.Rc.{rc_slice_items}
 use Rattle.share_store.specs.Shares.{Shares}
+use Rattle.share_store.specs.declared.fault.StoreFault.TheVariants.{NoMemory, Down}
 use Rattle.share_store.specs.Stored.{blank}
 use Rattle.share_store.specs.Toggle.{toggled, has_byte, with_toggle}
 use Rattle.shelf_store.specs.Known.{known}
-use Rattle.shelf_store.proofs.Changes.{standing, IsHonest, CrashesTo, IsTold, crash_none, crash_left, crash_read, crash_counted, looked, crash_told, failed_step, failed_stands, done_step, done_stands, quiet_step, quiet_stands}
+use Rattle.shelf_store.specs.Standing.{standing, IsHonest}
+use Rattle.shelf_store.proofs.Changes.{CrashesTo, IsTold, crash_none, crash_left, crash_read, crash_counted, read_stands, looked, refused, crash_told, failed_step, failed_stands, done_step, done_stands, quiet_step, quiet_stands}
+use Rattle.shelf_store.proofs.Forgetting.{err_not}
 use Rattle.shelf_store.proofs.Sizes.{changed_as}
 use Rattle.shelf_store.proofs.Steps.{same_but_put, toggles_as, no_failure, byte_there, no_byte, none_no_byte, toggles_none}
 use Rattle.shelf_store.proofs.shelf_store.ShelfStore.alter.Given.{Over}
@@ -24,7 +27,7 @@ past_end g c h = no_byte (known c.args.self.now.index) _ _ c.args.place c.in-Som
 
 -- what a crash may leave once the share was read, and no more
 read : (g : Over) → (c : After-whole g) → CrashesTo c.args.self.now c.whole.new.self.shelf (with_toggle (standing c.args.self.now) (c.args.index, c.args.number) c.args.place)
-read g c = crash_read c.args.self.now c.settle.new.self c.settle.ensures.honest c.settle.ensures.crash c.whole.ensures.honest c.whole.ensures.quiet
+read g c = crash_read c.args.self.now c.settle.ensures.back c.whole.ensures.reads
 
 -- what was read has this byte
 within : (g : Over) → (c : In-Some-2 g) → c.args.place < length (rc_slice_items c.in-Some-2.before)
@@ -44,10 +47,9 @@ told g c lt =
     let calm : c.whole.new.self.failures ≡ c.settle.new.self.failures =
     no_failure c.whole.result c.in-Some-2.before c.settle.new.self.failures c.whole.new.self.failures (c.in_ok-before.was ∙ ap Ok c.in-Some-2.is) c.whole.ensures.failed.1 c.whole.ensures.rises in
     let found : IsHonest c.args.self.now → get (standing c.args.self.now) (c.args.index, c.args.number) ≡ Some (rc_slice_items c.in-Some-2.before) =
-    λ h. ap (λ (m : Shares). get m (c.args.index, c.args.number)) (sym (c.settle.ensures.stands h)) ∙ sym (c.in_ok-before.ensures.given (subst IsTrue (sym c.settle.ensures.honest) h) calm) ∙ ap (option_map rc_slice_items) c.in-Some-2.is in
+    λ h. ap (λ (m : Shares). get m (c.args.index, c.args.number)) (sym (c.settle.ensures.back.stands h)) ∙ sym (c.in_ok-before.ensures.given (subst IsTrue (sym c.settle.ensures.back.honest) h) calm) ∙ ap (option_map rc_slice_items) c.in-Some-2.is in
     record {
-      settled = looked c.settle.new.self c.whole.new.self (record { up = c.in_ok-settle.ensures.up; same_honest = c.settle.ensures.honest; same = c.settle.ensures.stands; left = c.settle.ensures.crash })
-          c.whole.ensures.doubt c.whole.ensures.honest c.whole.ensures.stands c.whole.ensures.quiet;
+      settled = looked c.in_ok-settle.ensures.up c.settle.ensures.back c.whole.ensures.reads;
       found = found;
       only_there = λ m. same_but_put (c.args.index, c.args.number) m (rc_slice_items c.in_ok-changed.changed);
       makes = λ h. toggles_as _ _ c.args.place (rc_slice_items c.in-Some-2.before) (rc_slice_items c.in_ok-changed.changed) (found h) lt (c.in_ok-changed.ensures ∙ ap (λ l. toggled l c.args.place) c.as_slice.ensures.value);
@@ -58,38 +60,38 @@ told g c lt =
       keeps = g.met.H.Shelf.keeps;
     }
 
-pub returns-in_default-clause-toggled : goal.returns-in_default-clause-toggled
-returns-in_default-clause-toggled g c h = sym (none g c h)
+pub returns-in_default-clause-done : goal.returns-in_default-clause-done
+returns-in_default-clause-done g c = record {
+  answer = λ h. sym (none g c h);
+  shares = λ h. sym (toggles_none _ _ c.args.place (none g c h));
+  err = λ h. tt;
+  crash = crash_none c.args.self.now;
+}
 
-pub returns-in_default-clause-shares : goal.returns-in_default-clause-shares
-returns-in_default-clause-shares g c h = sym (toggles_none _ _ c.args.place (none g c h))
+pub returns-then-place-size-clause-done : goal.returns-then-place-size-clause-done
+returns-then-place-size-clause-done g c = record {
+  answer = λ h. sym (past_end g c h);
+  shares = λ h. sym (toggles_none _ _ c.args.place (past_end g c h));
+  err = λ h. tt;
+  crash = crash_none c.args.self.now;
+}
 
-pub returns-in_default-clause-crash : goal.returns-in_default-clause-crash
-returns-in_default-clause-crash g c = crash_none c.args.self.now
-
-pub returns-then-place-size-clause-toggled : goal.returns-then-place-size-clause-toggled
-returns-then-place-size-clause-toggled g c h = sym (past_end g c h)
-
-pub returns-then-place-size-clause-shares : goal.returns-then-place-size-clause-shares
-returns-then-place-size-clause-shares g c h = sym (toggles_none _ _ c.args.place (past_end g c h))
-
-pub returns-then-place-size-clause-crash : goal.returns-then-place-size-clause-crash
-returns-then-place-size-clause-crash g c = crash_none c.args.self.now
-
-pub returns-in_err-settle-clause-crash : goal.returns-in_err-settle-clause-crash
-returns-in_err-settle-clause-crash g c = crash_left c.args.self.now c.settle.ensures.honest c.settle.ensures.crash
+pub returns-in_err-settle-clause-done : goal.returns-in_err-settle-clause-done
+returns-in_err-settle-clause-done g c = refused c.from_residual.result (err_not _ c.from_residual.result c.from_residual.ensures.1) c.settle.ensures.back.stands (crash_left c.args.self.now c.settle.ensures.back)
 
 pub whole-requires : goal.whole-requires
-whole-requires g c = ap (λ i. get (known i) (c.args.index, c.args.number)) c.settle.ensures.index ∙ sym c.get.ensures ∙ ap (option_map blank) c.in-Some.is
+whole-requires g c = ap (λ i. get (known i) (c.args.index, c.args.number)) c.settle.ensures.back.index ∙ sym c.get.ensures ∙ ap (option_map blank) c.in-Some.is
 
-pub returns-in_err-before-clause-crash : goal.returns-in_err-before-clause-crash
-returns-in_err-before-clause-crash g c = read g (goal.at.returns-in_err-before-clause-crash g c).After-whole
+pub returns-in_err-before-clause-done : goal.returns-in_err-before-clause-done
+returns-in_err-before-clause-done g c =
+    refused c.from_residual-in_err-before.result (err_not _ c.from_residual-in_err-before.result c.from_residual-in_err-before.ensures.1) (read_stands c.settle.ensures.back c.whole.ensures.reads) (read g (goal.at.returns-in_err-before-clause-done g c).After-whole)
 
-pub returns-in_default-2-clause-crash : goal.returns-in_default-2-clause-crash
-returns-in_default-2-clause-crash g c = read g (goal.at.returns-in_default-2-clause-crash g c).After-whole
+pub returns-in_default-2-clause-done : goal.returns-in_default-2-clause-done
+returns-in_default-2-clause-done g c = refused (Err Down) tt (read_stands c.settle.ensures.back c.whole.ensures.reads) (read g (goal.at.returns-in_default-2-clause-done g c).After-whole)
 
-pub returns-in_err-changed-clause-crash : goal.returns-in_err-changed-clause-crash
-returns-in_err-changed-clause-crash g c = read g (goal.at.returns-in_err-changed-clause-crash g c).After-whole
+pub returns-in_err-changed-clause-done : goal.returns-in_err-changed-clause-done
+returns-in_err-changed-clause-done g c =
+    refused c.from_residual-in_err-changed.result (err_not _ c.from_residual-in_err-changed.result c.from_residual-in_err-changed.ensures.1) (read_stands c.settle.ensures.back c.whole.ensures.reads) (read g (goal.at.returns-in_err-changed-clause-done g c).After-whole)
 
 pub with_bit_changed-requires : goal.with_bit_changed-requires
 with_bit_changed-requires g c = omega (arith, within g (goal.at.with_bit_changed-requires g c).In-Some-2, ap length c.as_slice.ensures.value)
@@ -97,16 +99,16 @@ with_bit_changed-requires g c = omega (arith, within g (goal.at.with_bit_changed
 pub put-requires : goal.put-requires
 put-requires g c = let at = goal.at.put-requires g c in omega (arith, within g at.In-Some-2, as_long g at.In_ok-changed)
 
-pub returns-in-Ok-clause-toggled : goal.returns-in-Ok-clause-toggled
-returns-in-Ok-clause-toggled g c h =
-    let at = goal.at.returns-in-Ok-clause-toggled g c in
-    sym (byte_there _ _ c.args.place (rc_slice_items c.in-Some-2.before) ((told g at.After-put (within g at.In-Some-2)).found h) (within g at.In-Some-2))
-
-pub returns-in-Ok-clause-shares : goal.returns-in-Ok-clause-shares
-returns-in-Ok-clause-shares g c = let at = goal.at.returns-in-Ok-clause-shares g c in done_stands (told g at.After-put (within g at.In-Some-2)) c.in-Ok.ensures.done
-
-pub returns-in-Ok-clause-crash : goal.returns-in-Ok-clause-crash
-returns-in-Ok-clause-crash g c = let at = goal.at.returns-in-Ok-clause-crash g c in crash_told (told g at.After-put (within g at.In-Some-2))
+pub returns-in-Ok-clause-done : goal.returns-in-Ok-clause-done
+returns-in-Ok-clause-done g c =
+    let at = goal.at.returns-in-Ok-clause-done g c in
+    let was_told = told g at.After-put (within g at.In-Some-2) in
+    record {
+      answer = λ h. sym (byte_there _ _ c.args.place (rc_slice_items c.in-Some-2.before) (was_told.found h) (within g at.In-Some-2));
+      shares = done_stands was_told c.in-Ok.ensures.done;
+      err = λ h. tt;
+      crash = crash_told was_told;
+    }
 
 pub invariant_of-self : goal.invariant_of-self
 invariant_of-self g c =
@@ -116,24 +118,22 @@ invariant_of-self g c =
           (λ m found is. is ∙ sym (changed_as m (c.args.index, c.args.number) (rc_slice_items c.in-Some-2.before) (rc_slice_items c.in_ok-changed.changed) found (as_long g at.In_ok-changed)));
     }
 
-pub returns-in-Err-NoMemory-clause-err : goal.returns-in-Err-NoMemory-clause-err
-returns-in-Err-NoMemory-clause-err g c =
-    let at = goal.at.returns-in-Err-NoMemory-clause-err g c in
-    quiet_stands (told g at.After-put (within g at.In-Some-2)) (c.in-Err-NoMemory.ensures.no_memory (ap Err c.in-Err-NoMemory.field-0-is))
-
-pub returns-in-Err-NoMemory-clause-crash : goal.returns-in-Err-NoMemory-clause-crash
-returns-in-Err-NoMemory-clause-crash g c = let at = goal.at.returns-in-Err-NoMemory-clause-crash g c in crash_told (told g at.After-put (within g at.In-Some-2))
+pub returns-in-Err-NoMemory-clause-done : goal.returns-in-Err-NoMemory-clause-done
+returns-in-Err-NoMemory-clause-done g c =
+    let at = goal.at.returns-in-Err-NoMemory-clause-done g c in
+    let was_told = told g at.After-put (within g at.In-Some-2) in
+    refused (Err NoMemory) tt (quiet_stands was_told (c.in-Err-NoMemory.ensures.no_memory (ap Err c.in-Err-NoMemory.field-0-is))) (crash_told was_told)
 
 pub invariant_of-self-in-Err-NoMemory : goal.invariant_of-self-in-Err-NoMemory
 invariant_of-self-in-Err-NoMemory g c =
     let at = goal.at.invariant_of-self-in-Err-NoMemory g c in
     record { in_step = quiet_step (told g at.After-put (within g at.In-Some-2)) (c.in-Err-NoMemory.ensures.no_memory (ap Err c.in-Err-NoMemory.field-0-is)) refl }
 
-pub returns-in-Err-Failed-clause-err : goal.returns-in-Err-Failed-clause-err
-returns-in-Err-Failed-clause-err g c h = let at = goal.at.returns-in-Err-Failed-clause-err g c in c.refuse.ensures.stands ∙ failed_stands (told g at.After-put (within g at.In-Some-2)) h
-
-pub returns-in-Err-Failed-clause-crash : goal.returns-in-Err-Failed-clause-crash
-returns-in-Err-Failed-clause-crash g c = let at = goal.at.returns-in-Err-Failed-clause-crash g c in crash_counted c.args.self.now c.refuse.ensures.shelf (crash_told (told g at.After-put (within g at.In-Some-2)))
+pub returns-in-Err-Failed-clause-done : goal.returns-in-Err-Failed-clause-done
+returns-in-Err-Failed-clause-done g c =
+    let at = goal.at.returns-in-Err-Failed-clause-done g c in
+    let was_told = told g at.After-put (within g at.In-Some-2) in
+    refused (Err c.refuse.result) tt (λ h. c.refuse.ensures.counts.stands ∙ failed_stands was_told h) (crash_counted c.args.self.now c.refuse.ensures.counts.shelf (crash_told was_told))
 
 pub invariant_of-self-in-Err-Failed : goal.invariant_of-self-in-Err-Failed
 invariant_of-self-in-Err-Failed g c = let at = goal.at.invariant_of-self-in-Err-Failed g c in record { in_step = failed_step (told g at.After-put (within g at.In-Some-2)) refl }

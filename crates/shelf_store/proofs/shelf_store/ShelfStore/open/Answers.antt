@@ -1,4 +1,4 @@
-use Rattle.std.proofs.Common.{◌≡◌, subst, sym, ap, ◌∙◌}
+use Rattle.std.proofs.Common.{refl, subst, sym, ap, ◌∙◌}
 use Rattle.std.specs.Prelude.{IsTrue}
 use Rattle.share_shelf.specs.Left.{Keeps}
 use Rattle.shelf_store.specs.Sizes.{sizes_of}
@@ -8,9 +8,9 @@ use Rattle.shelf_store.proofs.shelf_store.ShelfStore.open.Goals as goal
 pub invariant_of-result : goal.invariant_of-result
 invariant_of-result g c =
     let shelf = c.take_all.new.shelf in
-    let was : IsTrue (g.H.Shelf.honest shelf) → IsTrue (g.H.Shelf.honest c.args.shelf) = λ h. subst IsTrue c.take_all.ensures.honest h in
+    let was : IsTrue (g.H.Shelf.honest shelf) → IsTrue (g.H.Shelf.honest c.args.shelf) = λ h. subst IsTrue c.take_all.ensures.read.read.honest h in
     let keeps : (h : IsTrue (g.H.Shelf.honest shelf)) → Keeps g.H.Shelf.moment g.H.Shelf.left_since shelf (c.requires (was h)).0 =
-    λ h. quiet_keeps g.H.Shelf.moment g.H.Shelf.left_since c.args.shelf shelf (c.requires (was h)).0 c.take_all.ensures.quiet (c.requires (was h)).1 in
+    λ h. quiet_keeps g.H.Shelf.moment g.H.Shelf.left_since c.args.shelf shelf (c.requires (was h)).0 c.take_all.ensures.read.read.quiet (c.requires (was h)).1 in
     record {
       in_step = record {
         sizes = λ h.
@@ -20,6 +20,14 @@ invariant_of-result g c =
       };
     }
 
-pub returns-in-Ok-clause-shares : goal.returns-in-Ok-clause-shares
-returns-in-Ok-clause-shares g c h m keeps =
-    sym (g.met.H.Shelf.keeps c.take_all.new.shelf m (subst IsTrue (sym c.take_all.ensures.honest) h) (quiet_keeps g.H.Shelf.moment g.H.Shelf.left_since c.args.shelf c.take_all.new.shelf m c.take_all.ensures.quiet keeps))
+pub returns-in-Ok-clause-opened : goal.returns-in-Ok-clause-opened
+returns-in-Ok-clause-opened g c =
+    let read = c.take_all.ensures.read.read in
+    record {
+      up = refl;
+      none_failed = refl;
+      room = c.in-Ok.ensures.room;
+      read = read;
+      shares = λ h m keeps.
+          sym (g.met.H.Shelf.keeps c.take_all.new.shelf m (subst IsTrue (sym read.honest) h) (quiet_keeps g.H.Shelf.moment g.H.Shelf.left_since c.args.shelf c.take_all.new.shelf m read.quiet keeps));
+    }

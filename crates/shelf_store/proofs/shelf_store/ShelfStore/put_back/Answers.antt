@@ -1,9 +1,10 @@
-use Rattle.std.proofs.Common.{None, Some, sym, ap, ◌∙◌}
+use Rattle.std.proofs.Common.{None, Some, is_some, refl, sym, ap, ◌∙◌}
 use Rattle.std.specs.Option.{option_map}
 use Rattle.std.specs.FinMap.{insert, remove}
 use Rattle.std.specs.Rc.{rc_slice_items}
 use Rattle.share_store.specs.Shares.{Shares}
-use Rattle.shelf_store.proofs.Changes.{IsToldBack, back_step, back_stands, back_leaves, back_keeps}
+use Rattle.shelf_store.specs.Doubt.{in_doubt}
+use Rattle.shelf_store.proofs.Changes.{IsToldBack, back_step, back_keeps, told_back}
 use Rattle.shelf_store.proofs.Doubts.{key_of, changes_back, done_as}
 use Rattle.shelf_store.proofs.shelf_store.ShelfStore.put_back.Given.{Over}
 use Rattle.shelf_store.proofs.shelf_store.ShelfStore.put_back.Goals as goal
@@ -32,11 +33,9 @@ put g c = record {
 pub invariant_of-self : goal.invariant_of-self
 invariant_of-self g c = record { in_step = back_step (taken g (goal.at.invariant_of-self g c).After-remove) }
 
-pub returns-in-None-clause-stands : goal.returns-in-None-clause-stands
-returns-in-None-clause-stands g c = back_stands (taken g (goal.at.returns-in-None-clause-stands g c).After-remove)
-
-pub returns-in-None-clause-crash : goal.returns-in-None-clause-crash
-returns-in-None-clause-crash g c = back_leaves (taken g (goal.at.returns-in-None-clause-crash g c).After-remove)
+pub returns-in-None-clause-back : goal.returns-in-None-clause-back
+returns-in-None-clause-back g c =
+    told_back (taken g (goal.at.returns-in-None-clause-back g c).After-remove) refl refl c.remove.ensures.rises (ap (λ d. is_some (in_doubt d)) c.in-Some.is)
 
 pub returns-in-None-clause-done : goal.returns-in-None-clause-done
 returns-in-None-clause-done g c h = done_as c.remove.result _ _ (back_keeps (taken g (goal.at.returns-in-None-clause-done g c).After-remove) h) (c.remove.ensures.done_each h)
@@ -44,11 +43,9 @@ returns-in-None-clause-done g c h = done_as c.remove.result _ _ (back_keeps (tak
 pub invariant_of-self-in-Some-2 : goal.invariant_of-self-in-Some-2
 invariant_of-self-in-Some-2 g c = record { in_step = back_step (put g (goal.at.invariant_of-self-in-Some-2 g c).After-put) }
 
-pub returns-in-Some-2-clause-stands : goal.returns-in-Some-2-clause-stands
-returns-in-Some-2-clause-stands g c = back_stands (put g (goal.at.returns-in-Some-2-clause-stands g c).After-put)
-
-pub returns-in-Some-2-clause-crash : goal.returns-in-Some-2-clause-crash
-returns-in-Some-2-clause-crash g c = back_leaves (put g (goal.at.returns-in-Some-2-clause-crash g c).After-put)
+pub returns-in-Some-2-clause-back : goal.returns-in-Some-2-clause-back
+returns-in-Some-2-clause-back g c =
+    told_back (put g (goal.at.returns-in-Some-2-clause-back g c).After-put) refl refl c.put.ensures.rises (ap (λ d. is_some (in_doubt d)) c.in-Some.is)
 
 pub returns-in-Some-2-clause-done : goal.returns-in-Some-2-clause-done
 returns-in-Some-2-clause-done g c h = done_as c.put.result _ _ (back_keeps (put g (goal.at.returns-in-Some-2-clause-done g c).After-put) h) (c.put.ensures.done_each h)

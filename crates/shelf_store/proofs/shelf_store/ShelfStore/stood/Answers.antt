@@ -7,8 +7,8 @@ use Rattle.share_store.proofs.Stands.{found_from_all}
 use Rattle.share_store.specs.Shares.{Shares, ShareKey}
 use Rattle.shelf_store.specs.Known.{known}
 use Rattle.shelf_store.specs.SizeLaws.{some_as}
+use Rattle.shelf_store.specs.Standing.{standing, IsHonest}
 use Rattle.shelf_store.specs.declared.doubt.Doubt.{Doubt}
-use Rattle.shelf_store.proofs.Changes.{standing, IsHonest}
 use Rattle.shelf_store.proofs.Doubts.{key_of, same_key, at_known, elsewhere, other_key}
 use Rattle.shelf_store.proofs.shelf_store.ShelfStore.stood.Given.{Over}
 use Rattle.shelf_store.proofs.shelf_store.ShelfStore.stood.Goals as goal

@@ -1,4 +1,4 @@
-use Rattle.std.proofs.Common.{◌≡◌, ◌∙◌, ℕ, Option, None, Some, length, sym, ap, subst}
+use Rattle.std.proofs.Common.{◌≡◌, ◌∙◌, ℕ, Option, None, Some, Ok, length, refl, sym, ap, subst}
 use Rattle.std.specs.Prelude.{IsTrue}
 use Rattle.std.proofs.lemmas.List.{length-replicate}
 use Rattle.std.specs.Option.{option_map}
@@ -9,8 +9,8 @@ use Rattle.share_store.specs.Stored.{blank}
 use Rattle.shelf_store.specs.Known.{known}
 use Rattle.shelf_store.specs.Sizes.{sizes_of}
 use Rattle.shelf_store.specs.SizeLaws.{as_long}
-use Rattle.shelf_store.proofs.Changes.{standing, IsHonest}
-use Rattle.shelf_store.proofs.Steps.{at_doubt}
+use Rattle.shelf_store.specs.Standing.{standing, IsHonest}
+use Rattle.shelf_store.proofs.Forgetting.{none_counted, forgotten, err_none, ok_no_err}
 use Rattle.shelf_store.proofs.shelf_store.ShelfStore.whole.Given.{Over}
 use Rattle.shelf_store.proofs.shelf_store.ShelfStore.whole.Goals as goal
 use Rattle.shelf_store.proofs.shelf_store.ShelfStore.whole.Goals.{Else-len-size, In-Ok-None}
@@ -39,33 +39,29 @@ none g c h =
     cc
 
 pub forget-requires : goal.forget-requires
-forget-requires g c h = other g (goal.at.forget-requires g c).Else-len-size (subst IsTrue c.stood.ensures.honest h)
+forget-requires g c h = other g (goal.at.forget-requires g c).Else-len-size (subst IsTrue c.stood.ensures.reads.read.honest h)
 
 pub forget-requires-in-Ok-None : goal.forget-requires-in-Ok-None
-forget-requires-in-Ok-None g c h = none g (goal.at.forget-requires-in-Ok-None g c).In-Ok-None (subst IsTrue c.stood.ensures.honest h)
+forget-requires-in-Ok-None g c h = none g (goal.at.forget-requires-in-Ok-None g c).In-Ok-None (subst IsTrue c.stood.ensures.reads.read.honest h)
 
-pub returns-in_err-forget-in-Ok-Some-clause-kept_honest : goal.returns-in_err-forget-in-Ok-Some-clause-kept_honest
-returns-in_err-forget-in-Ok-Some-clause-kept_honest g c h = absurd (other g (goal.at.returns-in_err-forget-in-Ok-Some-clause-kept_honest g c).Else-len-size h)
+pub returns-in_err-forget-in-Ok-Some-clause-index : goal.returns-in_err-forget-in-Ok-Some-clause-index
+returns-in_err-forget-in-Ok-Some-clause-index g c =
+    forgotten c.from_residual.result c.forget.ensures.counts (other g (goal.at.returns-in_err-forget-in-Ok-Some-clause-index g c).Else-len-size) (λ more. ok_no_err (c.in-Ok-Some.ensures.failed.1 more)) (err_none _ _ c.from_residual.result c.from_residual.ensures.1) c.stood.ensures.index c.forget.ensures.gone c.forget.ensures.room
 
-pub returns-in_ok-forget-in-Ok-Some-clause-counts_only : goal.returns-in_ok-forget-in-Ok-Some-clause-counts_only
-returns-in_ok-forget-in-Ok-Some-clause-counts_only g c h = absurd (other g (goal.at.returns-in_ok-forget-in-Ok-Some-clause-counts_only g c).Else-len-size h)
+pub returns-in_ok-forget-in-Ok-Some-clause-failing : goal.returns-in_ok-forget-in-Ok-Some-clause-failing
+returns-in_ok-forget-in-Ok-Some-clause-failing g c = none_counted (Ok None) c.forget.ensures.counts (other g (goal.at.returns-in_ok-forget-in-Ok-Some-clause-failing g c).Else-len-size) (λ more. ok_no_err (c.in-Ok-Some.ensures.failed.1 more))
 
-pub returns-in_ok-forget-in-Ok-Some-clause-kept_honest : goal.returns-in_ok-forget-in-Ok-Some-clause-kept_honest
-returns-in_ok-forget-in-Ok-Some-clause-kept_honest g c h = absurd (other g (goal.at.returns-in_ok-forget-in-Ok-Some-clause-kept_honest g c).Else-len-size h)
+pub returns-in_ok-forget-in-Ok-Some-clause-index : goal.returns-in_ok-forget-in-Ok-Some-clause-index
+returns-in_ok-forget-in-Ok-Some-clause-index g c =
+    forgotten (Ok None) c.forget.ensures.counts (other g (goal.at.returns-in_ok-forget-in-Ok-Some-clause-index g c).Else-len-size) (λ more. ok_no_err (c.in-Ok-Some.ensures.failed.1 more)) refl c.stood.ensures.index c.forget.ensures.gone c.forget.ensures.room
 
-pub returns-in_ok-forget-in-Ok-Some-clause-forgets : goal.returns-in_ok-forget-in-Ok-Some-clause-forgets
-returns-in_ok-forget-in-Ok-Some-clause-forgets g c same =
-    ap (λ (m : Shares). get m (c.args.index, c.args.number)) c.forget.ensures.gone ∙ at_doubt (c.args.index, c.args.number) None (known c.stood.new.self.index)
+pub returns-in_err-forget-in-Ok-None-clause-index : goal.returns-in_err-forget-in-Ok-None-clause-index
+returns-in_err-forget-in-Ok-None-clause-index g c =
+    forgotten c.from_residual-in_err-forget-in-Ok-None.result c.forget-in-Ok-None.ensures.counts (none g (goal.at.returns-in_err-forget-in-Ok-None-clause-index g c).In-Ok-None) (λ more. ok_no_err (c.in-Ok-None.ensures.failed.1 more)) (err_none _ _ c.from_residual-in_err-forget-in-Ok-None.result c.from_residual-in_err-forget-in-Ok-None.ensures.1) c.stood.ensures.index c.forget-in-Ok-None.ensures.gone c.forget-in-Ok-None.ensures.room
 
-pub returns-in_err-forget-in-Ok-None-clause-kept_honest : goal.returns-in_err-forget-in-Ok-None-clause-kept_honest
-returns-in_err-forget-in-Ok-None-clause-kept_honest g c h = absurd (none g (goal.at.returns-in_err-forget-in-Ok-None-clause-kept_honest g c).In-Ok-None h)
+pub returns-in_ok-forget-in-Ok-None-clause-failing : goal.returns-in_ok-forget-in-Ok-None-clause-failing
+returns-in_ok-forget-in-Ok-None-clause-failing g c = none_counted (Ok None) c.forget-in-Ok-None.ensures.counts (none g (goal.at.returns-in_ok-forget-in-Ok-None-clause-failing g c).In-Ok-None) (λ more. ok_no_err (c.in-Ok-None.ensures.failed.1 more))
 
-pub returns-in_ok-forget-in-Ok-None-clause-counts_only : goal.returns-in_ok-forget-in-Ok-None-clause-counts_only
-returns-in_ok-forget-in-Ok-None-clause-counts_only g c h = absurd (none g (goal.at.returns-in_ok-forget-in-Ok-None-clause-counts_only g c).In-Ok-None h)
-
-pub returns-in_ok-forget-in-Ok-None-clause-kept_honest : goal.returns-in_ok-forget-in-Ok-None-clause-kept_honest
-returns-in_ok-forget-in-Ok-None-clause-kept_honest g c h = absurd (none g (goal.at.returns-in_ok-forget-in-Ok-None-clause-kept_honest g c).In-Ok-None h)
-
-pub returns-in_ok-forget-in-Ok-None-clause-forgets : goal.returns-in_ok-forget-in-Ok-None-clause-forgets
-returns-in_ok-forget-in-Ok-None-clause-forgets g c same =
-    ap (λ (m : Shares). get m (c.args.index, c.args.number)) c.forget-in-Ok-None.ensures.gone ∙ at_doubt (c.args.index, c.args.number) None (known c.stood.new.self.index)
+pub returns-in_ok-forget-in-Ok-None-clause-index : goal.returns-in_ok-forget-in-Ok-None-clause-index
+returns-in_ok-forget-in-Ok-None-clause-index g c =
+    forgotten (Ok None) c.forget-in-Ok-None.ensures.counts (none g (goal.at.returns-in_ok-forget-in-Ok-None-clause-index g c).In-Ok-None) (λ more. ok_no_err (c.in-Ok-None.ensures.failed.1 more)) refl c.stood.ensures.index c.forget-in-Ok-None.ensures.gone c.forget-in-Ok-None.ensures.room
