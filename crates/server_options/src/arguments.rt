@@ -37,7 +37,28 @@ fn serving<'a>(alloc: Global) -> Result<Command<'a>, AllocError> {
             "where GET /status, GET /metrics and POST /stop are answered",
         ))?
         .arg(shares(alloc))?;
-    with_log(alloc, with_limits(alloc, with_stores(alloc, command)?)?)
+    with_log(
+        alloc,
+        with_limits(alloc, with_pages(alloc, with_stores(alloc, command)?)?)?,
+    )
+}
+
+/// Adds the options of pages.
+fn with_pages<'a>(alloc: Global, command: Command<'a>) -> Result<Command<'a>, AllocError> {
+    command
+        .arg(option(
+            alloc,
+            "pages",
+            "FOLDER",
+            "a folder whose files are pages beside the web API: index.html at /, each other one under its name; without it the folder pages beside the program, where there is one",
+        ))?
+        .arg(
+            Arg::new(alloc, "no-pages")
+                .long("no-pages")
+                .help("no pages, also where the folder pages is there")
+                .action(ArgAction::SetTrue)
+                .conflicts_with("pages")?,
+        )
 }
 
 /// Adds the options of stores.
@@ -102,7 +123,14 @@ fn with_limits<'a>(alloc: Global, command: Command<'a>) -> Result<Command<'a>, A
             )
             .value_parser(ValueParser::unsigned(1, 86_400))
             .default_value("60"),
+        )?
+        .arg(option(
+            alloc,
+            "memory",
+            "BYTES",
+            "how many bytes are kept of requests and replies, as in --room, before those who send long requests have to wait",
         )
+        .default_value("256M"))
 }
 
 /// Adds the options of the log.

@@ -53,10 +53,16 @@ pub struct Options<'a> {
     pub secret_file: Option<&'a str>,
     /// The file whose bytes are the password of each Redis server.
     pub redis_password_file: Option<&'a str>,
+    /// The folder whose files are pages beside the web API, if one is named.
+    pub pages: Option<&'a str>,
+    /// Whether there are to be no pages.
+    pub no_pages: bool,
     /// How many connections may be open at once.
     pub connections: usize,
     /// For how many seconds one may be silent.
     pub idle: u64,
+    /// How many bytes may be kept of all connections before those that send long requests have to wait.
+    pub memory: u64,
     /// Which lines the log has.
     pub log_level: LogLevel,
     /// How they are written.
@@ -108,6 +114,8 @@ pub enum Refusal {
     Stores,
     /// `--room` is no size.
     Room,
+    /// `--memory` is no size.
+    Memory,
     /// `--new` is the folder of no store.
     New,
 }
@@ -185,10 +193,16 @@ fn read_options<'a>(alloc: Global, given: &ArgMatches<'a>) -> Result<Options<'a>
         ≡ given_text given.now (codes "secret-file")) }
     ensures redis_password_file { IfOk result (λ o. option_map (λ s. s.now) o.redis_password_file
         ≡ given_text given.now (codes "redis-password-file")) }
+    ensures pages { IfOk result (λ o. option_map (λ s. s.now) o.pages
+        ≡ given_text given.now (codes "pages")) }
+    ensures no_pages { IfOk result (λ o.
+        IsFlagGiven given.now (codes "no-pages") o.no_pages) }
     ensures connections { IfOk result (λ o. IsNumberGiven ⟦<usize as FromStr>⟧.from_str_gives
         given.now (codes "connections") 1 o.connections) }
     ensures idle { IfOk result (λ o. IsNumberGiven ⟦<u64 as FromStr>⟧.from_str_gives
         given.now (codes "idle") 60 o.idle) }
+    ensures memory { IfOk result (λ o.
+        written_size (unwrap_or (given_text given.now (codes "memory")) []) ≡ Some o.memory) }
     ensures log_level { IfOk result (λ o. o.log_level
         ≡ named_level (unwrap_or (given_text given.now (codes "log-level")) [])) }
     ensures log_format { IfOk result (λ o. o.log_format
@@ -202,6 +216,7 @@ fn read_options<'a>(alloc: Global, given: &ArgMatches<'a>) -> Result<Options<'a>
     if !are_folders_of(&stores, &new) {
         return Err(Refusal::New);
     }
+    let memory = memory_of(given)?;
     let secret_file = given.get_str("secret-file");
     Ok(Options {
         listen: text_of(given, "listen"),
@@ -212,8 +227,11 @@ fn read_options<'a>(alloc: Global, given: &ArgMatches<'a>) -> Result<Options<'a>
         synced: !has_flag(given, "no-sync"),
         secret_file,
         redis_password_file: given.get_str("redis-password-file"),
+        pages: given.get_str("pages"),
+        no_pages: has_flag(given, "no-pages"),
         connections: connections_of(given),
         idle: idle_of(given),
+        memory,
         log_level: named_level(text_of(given, "log-level")),
         log_format: named_format(text_of(given, "log-format")),
     })
@@ -277,6 +295,19 @@ fn idle_of(given: &ArgMatches<'_>) -> u64
     ensures { IsNumberGiven ⟦<u64 as FromStr>⟧.from_str_gives given.now (codes "idle") 60 result }
 {
     given.get_one::<u64>("idle").unwrap_or(60)
+}
+
+/// How many bytes may be kept of connections.
+fn memory_of(given: &ArgMatches<'_>) -> Result<u64, Refusal>
+    ensures some { IfOk result (λ memory.
+        written_size (unwrap_or (given_text given.now (codes "memory")) []) ≡ Some memory) }
+    ensures none { written_size (unwrap_or (given_text given.now (codes "memory")) []) ≡ None →
+        result ≡ Err Refusal.Memory }
+{
+    match read_size(text_of(given, "memory")) {
+        Some(memory) => Ok(memory),
+        None => Err(Refusal::Memory),
+    }
 }
 
 /// The values of an argument.

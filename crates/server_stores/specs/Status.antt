@@ -5,7 +5,7 @@ use Rattle.folder_shelf.specs.declared.fault.FolderFault.TheVariants as folder
 use Rattle.redis_store.specs.declared.fault.ServerFault.{ServerFault}
 use Rattle.redis_store.specs.declared.fault.ServerFault.TheVariants as server
 use Rattle.server_stores.specs.declared.fault.ProgramFault.{ProgramFault}
-use Rattle.server_stores.specs.declared.fault.ProgramFault.TheVariants.{PollFailed, Arguments, Shares, Stores, Room, New, NoAddress, AddressInUse, NotAllowed, NotBound, SecretUnread, SecretTooLong, FewHandles, NoMemory, NotPrinted, NotThere, NoneAbove, Empty, Folder, OtherGrid, Twice, NewFolder, DiskFull, NoRoom, NotEmpty, OtherCount, ImageUnread, BadImage, ImageUnwritten, NotWell, RedisUnknown, Redis, PasswordUnread, OptionsUnread, Options}
+use Rattle.server_stores.specs.declared.fault.ProgramFault.TheVariants.{PollFailed, Arguments, Shares, Stores, Room, Memory, New, NoAddress, AddressInUse, NotAllowed, NotBound, SecretUnread, SecretTooLong, FewHandles, NoMemory, NotPrinted, NotThere, NoneAbove, Empty, Folder, OtherGrid, Twice, NewFolder, DiskFull, NoRoom, NotEmpty, OtherCount, ImageUnread, BadImage, ImageUnwritten, NotWell, RedisUnknown, Redis, PasswordUnread, OptionsUnread, Options, PageUnread, NoPage, LongPage, ManyPages}
 
 -- the status where a folder was refused; 20 is between them, that of a full disk
 abbrev pub folder_status : FolderFault → ℕ
@@ -35,6 +35,7 @@ status_of Arguments = 2
 status_of Shares = 2
 status_of Stores = 2
 status_of Room = 2
+status_of Memory = 2
 status_of New = 2
 status_of (NoAddress place) = 3
 status_of (AddressInUse place) = 4
@@ -65,3 +66,7 @@ status_of (Redis fault) = server_status fault
 status_of PasswordUnread = 30
 status_of OptionsUnread = 32
 status_of Options = 33
+status_of PageUnread = 34
+status_of NoPage = 35
+status_of LongPage = 35
+status_of ManyPages = 35

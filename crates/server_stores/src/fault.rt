@@ -28,6 +28,9 @@ pub enum ProgramFault {
     /// `--room` is no size.
     #[error("--room wants BYTES: digits, and K, M, G or T behind them for powers of 1,024")]
     Room,
+    /// `--memory` is no size.
+    #[error("--memory wants BYTES: digits, and K, M, G or T behind them for powers of 1,024")]
+    Memory,
     /// `--new` is the folder of no store.
     #[error("--new wants the PATH of a --store dir:PATH, written as there")]
     New,
@@ -118,6 +121,18 @@ pub enum ProgramFault {
     /// The file of options is none: it was told already, by its name.
     #[error("the file of options is none")]
     Options,
+    /// A page could not be read: it was told already, by its name.
+    #[error("the page can't be read")]
+    PageUnread,
+    /// A file among the pages is none by its name.
+    #[error("it is no page: its name is to be of letters, digits, dots, hyphens and low lines, and to end in .html, .css, .js, .svg, .png, .json or .txt")]
+    NoPage,
+    /// A page has too many bytes.
+    #[error("it has more than 1,048,576 bytes")]
+    LongPage,
+    /// There are too many pages.
+    #[error("it is one page too many: there may be 64")]
+    ManyPages,
 }
 
 impl ProgramFault {
@@ -148,6 +163,10 @@ impl ProgramFault {
             ProgramFault::NotWell => true,
             ProgramFault::OptionsUnread => true,
             ProgramFault::Options => true,
+            ProgramFault::PageUnread => true,
+            ProgramFault::NoPage => true,
+            ProgramFault::LongPage => true,
+            ProgramFault::ManyPages => true,
             _ => self.is_of_a_store(),
         }
     }
@@ -162,6 +181,7 @@ impl ProgramFault {
             ProgramFault::Shares => 2,
             ProgramFault::Stores => 2,
             ProgramFault::Room => 2,
+            ProgramFault::Memory => 2,
             ProgramFault::New => 2,
             ProgramFault::NoAddress(_) => 3,
             ProgramFault::AddressInUse(_) => 4,
@@ -192,6 +212,10 @@ impl ProgramFault {
             ProgramFault::PasswordUnread => 30,
             ProgramFault::OptionsUnread => 32,
             ProgramFault::Options => 33,
+            ProgramFault::PageUnread => 34,
+            ProgramFault::NoPage => 35,
+            ProgramFault::LongPage => 35,
+            ProgramFault::ManyPages => 35,
         }
     }
 }

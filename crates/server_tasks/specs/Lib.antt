@@ -1,1 +1,3 @@
+-- Independent of each other.
 pub mod Filters
+pub mod Pages

@@ -6,13 +6,15 @@ ghost use Rattle.std.specs.Prelude.{◌≡◌, ◌*◌, ◌<◌, ◌≤◌, ℕ,
 ghost use Rattle.std.specs.Duration.{as_nanos};
 ghost use Rattle.std.specs.FinMap as map;
 ghost use Rattle.grid.specs.GridState.{states};
-ghost use Rattle.gate_core.specs.Held.{AreParameters};
+ghost use Rattle.gate_core.specs.ConnectionState.{AreParameters};
 ghost use Rattle.gate_core.specs.Tallies.{nothing_counted};
 
 /// How the log is written.
 mod log_lines;
 /// The file of options.
 mod option_words;
+/// Pages beside the web API.
+mod pages;
 /// The gateway's secret.
 mod secret;
 /// What the loop of connections runs with.
@@ -22,17 +24,18 @@ mod store_runtime;
 
 use crate::log_lines::log_of;
 use crate::option_words::{name_file, words_of_file};
+use crate::pages::pages_of;
 use crate::secret::Secret;
 use crate::serving_runtime::ServingRuntime;
 use crate::store_runtime::StoreRuntime;
 use folder_shelf::Settings;
-use gate_core::{Gateway, GatewayFault};
+use gate_core::{Gateway, GatewayFault, Pages};
 use gate_flow::Lobby;
 use gate_poll::{Limits, ServeFault, serve_on};
 use libc::net::{SO_SNDBUF, SOL_SOCKET, setsockopt};
 use log::{Log, info};
 use mio::net::TcpListener;
-use server_board::Board;
+use server_board::StatusControl;
 use server_options::{Options, Refusal, Shares, Task, read_words};
 use server_stores::{ProgramFault, ServerStore, check, handles, open_stores, restore, write_image};
 use share_store::Store;
@@ -89,6 +92,7 @@ fn told(rt: &(impl Print + Eprint), refusal: Refusal) -> Result<(), ProgramFault
         Refusal::Shares => return Err(ProgramFault::Shares),
         Refusal::Stores => return Err(ProgramFault::Stores),
         Refusal::Room => return Err(ProgramFault::Room),
+        Refusal::Memory => return Err(ProgramFault::Memory),
         Refusal::New => return Err(ProgramFault::New),
         Refusal::Words(error) => error,
     };
@@ -138,7 +142,8 @@ fn serve<
     }
     let told = &log_of(rt, options)?;
     let opening = &StoreRuntime::new(rt.clone()?, told.clone()?);
-    let mut lobby = Lobby::new(open_gateway(opening, options)?);
+    let pages = pages_of(opening, options)?;
+    let mut lobby = Lobby::new(open_gateway(opening, options, pages)?);
     let listeners = listen_for(rt, options)?;
     let serving = &ServingRuntime::new(rt, told);
     serve_with(serving, options, listeners, &mut lobby)
@@ -207,9 +212,16 @@ fn serve_with<R: AllocGlobal + Clock + CpuClock + Net + Log, S: Store>(
         connections,
         control,
     } = listeners;
-    info!(serving; "started: at most {} connections", options.connections);
+    info!(serving; "started: at most {} connections, {} bytes of requests and replies", options.connections, options.memory);
     let limits = limits_of(options);
-    match serve_on(serving, connections, control, &limits, lobby, &mut Board) {
+    match serve_on(
+        serving,
+        connections,
+        control,
+        &limits,
+        lobby,
+        &mut StatusControl,
+    ) {
         Ok(counts) => {
             info!(serving; "stopped: {} connections were opened", counts.opened);
             Ok(())
@@ -219,19 +231,24 @@ fn serve_with<R: AllocGlobal + Clock + CpuClock + Net + Log, S: Store>(
     }
 }
 
-/// What is allowed to connections: as many may be open, and silent for as long, as is asked for.
+/// What is allowed to connections: as many may be open, and silent for as long, and as much may be kept of them, as is asked
+/// for.
 fn limits_of(options: &Options<'_>) -> Limits
     ensures most { result.most ≡ options.now.connections }
     ensures idle { as_nanos result.idle ≡ options.now.idle * 1_000_000_000 }
+    ensures memory { result.memory ≡ options.now.memory }
     ensures endless { result.served ≡ None }
 {
-    Limits::new(options.connections, Duration::from_secs(options.idle))
+    let mut limits = Limits::new(options.connections, Duration::from_secs(options.idle));
+    limits.memory = options.memory;
+    limits
 }
 
-/// A gateway over the stores that are wanted, with the secret that its file has.
+/// A gateway over the stores that are wanted, with the secret that its file has, and these pages.
 fn open_gateway<R: AllocGlobal + Files<File = File> + Net + Clock + Clone + Drop + Log + Eprint>(
     rt: &R,
     options: &Options<'_>,
+    pages: Pages,
 ) -> Result<Gateway<ServerStore<R>>, ProgramFault>
     ensures needed { IfOk result (λ gateway. gateway.settings.k ≡ options.now.shares.needed) }
     ensures made { IfOk result (λ gateway. gateway.settings.n ≡ options.now.shares.made) }
@@ -239,9 +256,13 @@ fn open_gateway<R: AllocGlobal + Files<File = File> + Net + Clock + Clone + Drop
         gateway.settings.servers ≡ vec_len options.now.stores) }
     ensures none { is_some options.now.secret_file ≡ false →
         IfOk result (λ gateway. gateway.settings.secret ≡ []) }
+    ensures pages { IfOk result (λ gateway. gateway.settings.pages ≡ pages) }
 {
     match Secret::read(rt, options.secret_file) {
-        Ok(secret) => open_under(rt, options, &secret),
+        Ok(secret) => match open_under(rt, options, &secret) {
+            Ok(gateway) => Ok(gateway.with_pages(pages)),
+            Err(fault) => Err(fault),
+        },
         Err(fault) => Err(fault),
     }
 }
@@ -258,6 +279,7 @@ fn open_under<R: AllocGlobal + Files<File = File> + Net + Clock + Clone + Drop +
     ensures secret { IfOk result (λ gateway. gateway.settings.secret ≡ secret.now.bytes.items) }
     ensures servers { IfOk result (λ gateway.
         gateway.settings.servers ≡ vec_len options.now.stores) }
+    ensures fresh { IfOk result (λ gateway. gateway.connections ≡ map.empty) }
 {
     let Ok(servers) = u16::try_from(options.stores.len()) else {
         return Err(ProgramFault::Stores);
@@ -265,9 +287,6 @@ fn open_under<R: AllocGlobal + Files<File = File> + Net + Clock + Clone + Drop +
     let Shares { needed, made } = options.shares;
     let first = Settings::new(0, servers, needed, made, secret.bytes());
     let stores = open_stores(rt, options, &first)?;
-    if stores.len() != options.stores.len() {
-        return Err(ProgramFault::Stores);
-    }
     gateway_over(rt.alloc(), options.shares, stores, secret.bytes())
 }
 
@@ -289,6 +308,7 @@ fn gateway_over<S: Store + Drop>(
         n = shares.made;
         secret = secret.now;
         servers = vec_len stores;
+        pages = [];
       };
       connections = map.empty;
       grid = states S.shares S.room S.held S.failures S.honest S.history stores.items;

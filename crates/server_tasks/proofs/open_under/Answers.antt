@@ -1,5 +1,6 @@
 use Rattle.std.proofs.Common.{◌≡◌, ◌∙◌, ap, sym}
 use Rattle.std.proofs.lemmas.Result.{IfOk-weaker}
+use Rattle.server_tasks.proofs.Counted.{as_many}
 use Rattle.server_tasks.proofs.open_under.Goals as goal
 
 pub returns-clause-needed : goal.returns-clause-needed
@@ -12,4 +13,10 @@ pub returns-clause-secret : goal.returns-clause-secret
 returns-clause-secret g c = IfOk-weaker c.gateway_over.result _ _ (λ gateway is. ap (λ w. w.settings.secret) is ∙ c.bytes-2.ensures) c.gateway_over.ensures.held
 
 pub returns-clause-servers : goal.returns-clause-servers
-returns-clause-servers g c = IfOk-weaker c.gateway_over.result _ _ (λ gateway is. ap (λ w. w.settings.servers) is ∙ sym c.len-2.ensures ∙ c.if-len.false ∙ c.len-3.ensures) c.gateway_over.ensures.held
+returns-clause-servers g c =
+    IfOk-weaker c.gateway_over.result _ _
+    (λ gateway is. ap (λ w. w.settings.servers) is ∙ c.in_ok-stores.stores.ok.0 ∙ as_many _ _ _ _ c.in_ok-stores.ensures.1 ∙ sym c.args.options.now.stores.ok.0)
+    c.gateway_over.ensures.held
+
+pub returns-clause-fresh : goal.returns-clause-fresh
+returns-clause-fresh g c = IfOk-weaker c.gateway_over.result _ _ (λ gateway is. ap (λ w. w.connections) is) c.gateway_over.ensures.held

@@ -32,3 +32,7 @@ returns-then-not-are_folders_of-clause-no_shares c = λ none.
 pub returns-clause-no_shares : goal.returns-clause-no_shares
 returns-clause-no_shares c = λ none.
     absurd (not_none _ _ c.in-Some.shares c.text_of.ensures c.in-Some.ensures.pair c.in-Some.ensures.sharing none)
+
+pub returns-in_err-memory-clause-no_shares : goal.returns-in_err-memory-clause-no_shares
+returns-in_err-memory-clause-no_shares c = λ none.
+    absurd (not_none _ _ c.in-Some.shares c.text_of.ensures c.in-Some.ensures.pair c.in-Some.ensures.sharing none)
