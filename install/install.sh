@@ -1,6 +1,6 @@
 #!/bin/sh
-# Lays down the built program, its manual page, a systemd unit and the unit's user below PREFIX, or removes these files
-# again. It starts nothing, makes no user, and leaves stores alone: what is to be done next is printed.
+# Lays down the built program, its pages, its manual page, a systemd unit and the unit's user below PREFIX, or removes
+# these files again. It starts nothing, makes no user, and leaves stores alone: what is to be done next is printed.
 # usage: install/install.sh [--program PATH] [--connections MAX] [PREFIX]     (/usr/local without it)
 #        install/install.sh --remove [PREFIX]
 set -eu
@@ -62,14 +62,16 @@ esac
 prefix=${prefix%/}
 
 bin=$prefix/bin/wozhinnam
+pages=$prefix/share/wozhinnam/pages
 manual=$prefix/share/man/man1/wozhinnam.1
 unit=$prefix/lib/systemd/system/wozhinnam.service
 user=$prefix/lib/sysusers.d/wozhinnam.conf
 
 if test -n "$remove"; then
     rm -f "$bin" "$manual" "$unit" "$user"
+    rm -rf "$pages"
     # Folders that nothing else stands in, from the innermost one up. Those that a system has anyway stay there.
-    folders='share/man/man1 lib/systemd/system lib/systemd lib/sysusers.d'
+    folders='share/wozhinnam share/man/man1 lib/systemd/system lib/systemd lib/sysusers.d'
     case $prefix in
     '' | /usr | /usr/local) ;;
     *) folders="$folders bin share/man share lib" ;;
@@ -88,6 +90,10 @@ tail=$(command -v tail) || fail 'there is no tail, by which the unit waits for i
 
 install -D -m 755 "$program" "$bin.new"
 mv -f "$bin.new" "$bin"
+# all pages of this version, and none of another
+rm -rf "$pages"
+install -d -m 755 "$pages"
+install -m 644 "$here"/../pages/* "$pages"
 install -d -m 755 "${manual%/*}" "${unit%/*}" "${user%/*}"
 "$here/manual.sh" "$bin" > "$manual.new"
 mv -f "$manual.new" "$manual"

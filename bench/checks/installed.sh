@@ -23,7 +23,10 @@ test -z "$(ls "$prefix")" || fail 'what was refused was written'
 (cd "$prefix" && find . -type f | sort | xargs sha256sum) > "$folder/once"
 "$installer" --program "$program" --connections 5000 "$prefix" > "$folder/given"
 (cd "$prefix" && find . -type f | sort | xargs sha256sum) | cmp - "$folder/once" || fail 'twice makes something else'
-test "$(wc -l < "$folder/once")" = 4 || fail "not four files: $(cat "$folder/once")"
+for page in "$here"/../../pages/*; do
+    cmp "$page" "$prefix/share/wozhinnam/pages/${page##*/}" || fail "the page ${page##*/} is another"
+done
+test "$(grep -vc ' ./share/wozhinnam/pages/' "$folder/once")" = 4 || fail "not four files beside the pages: $(cat "$folder/once")"
 ! grep -q '@[A-Z]*@' "$prefix/lib/systemd/system/wozhinnam.service" || fail 'a word of the unit was not written'
 
 # the manual page
@@ -36,7 +39,7 @@ for command in serve check image restore; do
         grep -q -e " $option" "$folder/page" || fail "the page has no $option"
     done
 done
-for status in $(seq 0 30); do
+for status in $(seq 0 35); do
     grep -q "^ *$status  " "$folder/page" || fail "the page has no status $status"
 done
 
@@ -58,11 +61,13 @@ if test "$(ulimit -H -n)" = unlimited || test "$(ulimit -H -n)" -ge "$(said Limi
     CONTROL=127.0.0.1:0
     CONNECTIONS=$(said Environment=CONNECTIONS=)
     test "$CONNECTIONS" = 5000 || fail "the unit allows $CONNECTIONS connections"
+    PAGES=$(sed -n 's/^Environment="PAGES=\(.*\)"$/\1/p' "$unit")
     STORES=$(sed -n 's/^Environment="STORES=\(.*\)"$/\1/p' "$unit" | sed "s|/var/lib/wozhinnam|$folder|g")
     ulimit -n "$(said LimitNOFILE=)"
     eval "started 'control on' $(said ExecStart= | sed 's/\$MORE//')"
     CONTROL=$(address 'control on')
     $curl -T "$program" "$base/uri" > "$folder/cap"
+    $curl "$base/" | cmp - "$here/../../pages/index.html" || fail 'the unit serves no page'
     test "$(ls -d "$folder"/[0-9] | wc -l)" = 5 || fail 'the unit has not five stores'
     MAINPID=$(pgrep -P "$server")
     eval "$(said ExecStop= | sed "s/\${CONTROL}/$CONTROL/; s/\${MAINPID}/$MAINPID/")" > "$folder/given" || fail 'the stop of the unit fails'

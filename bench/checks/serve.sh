@@ -139,7 +139,7 @@ for line in sys.stdin.read().splitlines():
     else:
         name, labels, value = re.fullmatch(r"(wozhinnam_[a-z_]+)(\{[a-z]+=\"[^\"]*\"\})? ([0-9]+)", line).groups()
         assert name in said["HELP"] and name in said["TYPE"], line
-assert said["HELP"] == said["TYPE"] and len(said["HELP"]) == 16, said
+assert said["HELP"] == said["TYPE"] and len(said["HELP"]) == 18, said
 ' || fail 'the lines of the metrics'
 $curl "$control/metrics" | grep -q "^wozhinnam_build_info{version=\"$("$program" --version | cut -d' ' -f2)\"} 1\$" || fail 'the version in the metrics'
 $curl "$control/metrics" | grep -q '^wozhinnam_connections_opened_total [1-9]' || fail 'the metrics'
