@@ -47,8 +47,8 @@ not_head host (Check cap verify) body = refl
 answered : MeantLaw → (settings : Settings) (look : Look) (host : List ℕ) (ask : Ask) (body : List ℕ) → IsAsked host ask body → answer settings look (item_of host ask body) ≡ sent_for settings look ask body
 unfolding answer
 answered law settings look host ask body is =
-    ap (λ (asked : Interpreted). rendered (wire_reply (asked_reply (encoding_in settings) look asked)) (is_head_request (head_of host ask body)) false) (is_asked law host ask body is)
-    ∙ ap (λ b. rendered (wire_reply (asked_reply (encoding_in settings) look (Ok (meant ask body)))) b false) (not_head host ask body)
+    ap (λ (asked : Interpreted). rendered (wire_reply (asked_reply settings look (head_of host ask body) asked)) (is_head_request (head_of host ask body)) false) (is_asked law host ask body is)
+    ∙ ap (λ b. rendered (wire_reply (asked_reply settings look (head_of host ask body) (Ok (meant ask body)))) b false) (not_head host ask body)
 
 pub said_of : MeantLaw → (settings : Settings) (look : Look) (caller : ℕ) (secret host : List ℕ) (ask : Ask) (body : List ℕ) → IsAsked host ask body
     → told settings look caller (Asked caller secret (item_of host ask body)) ≡ sent_for (under settings secret) look ask body

@@ -4,3 +4,4 @@ pub mod Caps
 pub mod Got
 pub mod Items
 pub mod Readings
+pub mod Telling

@@ -9,9 +9,9 @@ use Rattle.http_edge.specs.Reply.{status_text, line_end, field_line, rendered_he
 use Rattle.web_ops.specs.declared.reply.Status.{Status}
 use Rattle.web_ops.specs.declared.reply.Status.TheVariants as status
 use Rattle.web_ops.specs.declared.reply.MediaType.{MediaType}
-use Rattle.web_ops.specs.declared.reply.MediaType.TheVariants.{OctetStream, PlainText, Json}
+use Rattle.web_ops.specs.declared.reply.MediaType.TheVariants.{OctetStream, PlainText, Json, Html, Css, JavaScript, Svg, Png}
 use Rattle.web_ops.specs.declared.reply.Field.{Field}
-use Rattle.web_ops.specs.declared.reply.Field.TheVariants.{ContentRange, UnsatisfiedRange, Allow}
+use Rattle.web_ops.specs.declared.reply.Field.TheVariants.{ContentRange, UnsatisfiedRange, Allow, Page}
 use Rattle.web_ops.specs.declared.reply.Reply.{Reply}
 use Rattle.caps.specs.Weakening.{cap_of}
 use Rattle.caps.specs.declared.cap.VerifyCap.{VerifyCap}
@@ -134,13 +134,21 @@ status_read status.RangeNotSatisfiable rest = refl
 status_read status.ServiceUnavailable rest = refl
 
 media_at : List ℕ → MediaType
-media_at text = cond (nth 0 text == 116) PlainText (cond (nth 12 text == 111) OctetStream Json)
+media_at text =
+    cond (nth 0 text == 105) (cond (nth 6 text == 115) Svg Png)
+    (cond (nth 0 text == 116) (cond (nth 5 text == 104) Html (cond (nth 5 text == 99) Css (cond (nth 5 text == 106) JavaScript PlainText)))
+    (cond (nth 12 text == 111) OctetStream Json))
 
 media_read : (m : MediaType) (rest : List ℕ) → media_at (media_type m ++ rest) ≡ m
 unfolding media_at nth
 media_read OctetStream rest = refl
 media_read PlainText rest = refl
 media_read Json rest = refl
+media_read Html rest = refl
+media_read Css rest = refl
+media_read JavaScript rest = refl
+media_read Svg rest = refl
+media_read Png rest = refl
 
 -- a field doesn't begin as the end of a head does
 no_further : (o : Option Field) (one other : List ℕ) → further_of o ++ (line_end ++ one) ≡ line_end ++ other → one ≡ other
@@ -149,6 +157,7 @@ no_further None one other e = append_cancel_left line_end one other e
 no_further (Some (ContentRange from to size)) one other e = absurd (let h : 67 ≡ 13 = ap (nth 0) e in omega arith)
 no_further (Some (UnsatisfiedRange size)) one other e = absurd (let h : 67 ≡ 13 = ap (nth 0) e in omega arith)
 no_further (Some (Allow resource)) one other e = absurd (let h : 65 ≡ 13 = ap (nth 0) e in omega arith)
+no_further (Some Page) one other e = absurd (let h : 67 ≡ 13 = ap (nth 0) e in omega arith)
 
 -- ---- two replies
 

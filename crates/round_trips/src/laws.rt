@@ -1,9 +1,9 @@
 //! Laws, each on a function that does nothing.
-ghost use Rattle.std.specs.Prelude.{◌≡◌, ◌≢◌, ◌++◌, ◌^◌, ◌<◌, ◌≤◌, ℕ, false, List, [], length, Result, Ok, Some, MatchResult};
+ghost use Rattle.std.specs.Prelude.{◌≡◌, ◌≢◌, ◌++◌, ◌∷◌, ◌^◌, ◌<◌, ◌≤◌, ℕ, false, List, [], length, Result, Ok, Some, MatchResult};
 ghost use Rattle.std.specs.List.{AllByRecursion};
 ghost use Rattle.http_edge.specs.Reply.{rendered};
 ghost use Rattle.erasure.specs.Code.{AreBytes};
-ghost use Rattle.caps.specs.CapTexts.{IsCapText};
+ghost use Rattle.caps.specs.CapTexts.{IsCapText, cap_text};
 ghost use Rattle.caps.specs.declared.cap.Cap.{Cap};
 ghost use Rattle.caps.specs.declared.cap.Cap.TheVariants.{Chk, Lit, DirChk, DirLit};
 ghost use Rattle.caps.specs.Fields.{ReadValue};
@@ -18,11 +18,13 @@ ghost use Rattle.chk_file.specs.Sound.{IsSound};
 ghost use Rattle.chk_file.specs.World.{World, empty, after_upload};
 ghost use Rattle.web_ops.specs.declared.reply.Reply.{Reply};
 ghost use Rattle.web_ops.specs.Answers.{request_reply};
+ghost use Rattle.web_ops.specs.Replies.{cap_reply};
 ghost use Rattle.web_ops.specs.Encoding.{upload_of};
 ghost use Rattle.web_ops.specs.Uploads.{directory_upload, directory_cap};
 ghost use Rattle.gate_core.specs.Settings.{Settings, under, encoding_in};
 ghost use Rattle.gate_core.specs.Items.{Entry, Asked};
 ghost use Rattle.gate_core.specs.Wire.{wire_reply};
+ghost use Rattle.gate_core.specs.Secrets.{upload_under};
 ghost use Rattle.gate_core.specs.Runs.{after_entry, world_after, told};
 ghost use Rattle.cap_binding.specs.Binds.{Binds};
 ghost use Rattle.client_wire.specs.Asks.{IsAsked, meant};
@@ -34,6 +36,7 @@ ghost use Rattle.round_trips.specs.Honest.{IsHonestExchange, IsWrittenAnswer, as
 ghost use Rattle.round_trips.specs.Stands.{IsSetUp, HasEnough, IsStanding, IsStandingFor, IsUnspoiled, Spares};
 ghost use Rattle.round_trips.specs.Trips.{IsBody, IsSendable, NamesCap, GivesAgain, IsUnansweredAt};
 ghost use Rattle.round_trips.specs.Said.{item_of, sent_for};
+ghost use Rattle.round_trips.specs.Told.{entry_asked, IsToldWith, IsToldAgain};
 
 use caps::ReadFields;
 use client_core::{ClientFault, Exchange, fetch_stored};
@@ -129,6 +132,54 @@ pub fn files_come_back<E: Exchange>()
     cap_binding::laws::what_is_bound_was_uploaded();
     caps::laws::caps_have_one_text();
     caps::laws::texts_have_one_cap();
+    tag_hash::laws::digests_are_bytes();
+    tag_hash::laws::texts_fix_their_parts();
+}
+
+/// **What the gateway's own theorem says of a run in which something is put and got again.** Whoever puts a file, or makes a
+/// directory, is told the text of its cap. Whoever asks for that cap later, in a world in which enough of the upload's shares
+/// are untouched, is told these bytes, or others that collide with them; whatever is asked before, between and behind, and
+/// whatever is lost.
+pub fn what_is_put_is_told_again()
+    ensures put { (settings : Settings) (w : World) (before after : List Entry) (caller : ℕ)
+        (secret host bytes : List ℕ) → IsAsked host Put bytes → IsToldWith settings caller w before
+        (entry_asked caller secret host Put bytes) after
+        (cap_reply (upload_cap (upload_under settings secret bytes))) }
+    ensures made { (settings : Settings) (w : World) (before after : List Entry) (caller : ℕ)
+        (secret host : List ℕ) (entries : List Child) → IsSendable entries →
+        IsAsked host Mkdir (children_text entries) → IsToldWith settings caller w before
+        (entry_asked caller secret host Mkdir (children_text entries)) after
+        (cap_reply (directory_cap (encoding_in (under settings secret)) entries)) }
+    ensures file { (settings : Settings) (w : World) (before between after : List Entry)
+        (putter reader : ℕ) (secret other host its bytes : List ℕ) (f : ReadValue) →
+        IsSetUp settings → let u = upload_under settings secret bytes in
+        let x = entry_asked putter secret host Put bytes in IsBody bytes → 55 < length bytes →
+        IsAsked host Put bytes → IsAsked its (Read f) [] → IsSound (world_after settings w before) →
+        IsUnspoiled u (world_after settings w before) →
+        IsCapText (Chk f) (cap_text (upload_cap u)) →
+        HasEnough u (world_after settings w (before ++ x ∷ between)) →
+        IsToldAgain settings reader w (before ++ x ∷ between)
+        (entry_asked reader other its (Read f) []) after f bytes }
+    ensures directory { (settings : Settings) (w : World) (before between after : List Entry)
+        (putter reader : ℕ) (secret other host its : List ℕ) (entries : List Child) (f : ReadValue) →
+        IsSetUp settings → IsSendable entries → let e = encoding_in (under settings secret) in
+        let u = directory_upload e entries in
+        let x = entry_asked putter secret host Mkdir (children_text entries) in
+        55 < length (directory_text entries) → IsAsked host Mkdir (children_text entries) →
+        IsAsked its (Read f) [] → IsSound (world_after settings w before) →
+        IsUnspoiled u (world_after settings w before) →
+        IsCapText (DirChk f) (cap_text (directory_cap e entries)) →
+        HasEnough u (world_after settings w (before ++ x ∷ between)) →
+        IsToldAgain settings reader w (before ++ x ∷ between)
+        (entry_asked reader other its (Read f) []) after f (directory_text entries) }
+{
+    client_wire::laws::requests_are_meant();
+    cap_binding::laws::uploads_bind_their_bytes();
+    cap_binding::laws::what_is_bound_was_uploaded();
+    caps::laws::caps_have_one_text();
+    caps::laws::texts_have_one_cap();
+    children_json::laws::written_children_are_made();
+    dir_codec::laws::made_children_are_named();
     tag_hash::laws::digests_are_bytes();
     tag_hash::laws::texts_fix_their_parts();
 }
