@@ -1,0 +1,6 @@
+mod Fronts
+mod Decodes
+mod Givens
+mod Determined
+pub mod Leaving
+pub mod Keeping
