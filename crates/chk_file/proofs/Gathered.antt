@@ -17,8 +17,8 @@ use Rattle.grid.specs.Standing.{standing}
 use Rattle.share_codec.specs.Params.{ParamsValue}
 use Rattle.share_codec.specs.GoodShare.{GoodShare}
 use Rattle.chk_file.specs.Row.{ShareTable, row_of, most_servers, Place, places, first_good, good_at}
-use Rattle.chk_file.specs.Check.{is_some_place, standing_numbers, bad_places}
-use Rattle.chk_file.specs.Gathered.{Found, of_number, by_number, good_below, bad_below, some_below}
+use Rattle.chk_file.specs.Check.{is_some_place, standing_numbers, standing_places, standing_in, bad_places, good_places}
+use Rattle.chk_file.specs.Gathered.{Found, of_number, by_number, good_below, bad_below, places_below, some_below, standing_below}
 use Rattle.chk_file.proofs.Tools.{true_or_false, mapped_alike, kept_alike, flat_alike, filter_alike, none_past, begun}
 
 -- ---- one share more
@@ -112,6 +112,16 @@ module _ (found : List Found) (row : ShareTable) (same : (number : ℕ) → of_n
   rows_are_bad p ueb =
       flat_alike (λ number. bad_places p ueb number (get_or rows number [])) (λ number. bad_places p ueb number (places row number)) n 0 n (omega arith)
       (λ number below. ap (bad_places p ueb number) (same_places number below))
+
+  pub rows_are_placed : (p : ParamsValue) (ueb : List ℕ) → places_below p ueb rows n ≡ flat_map (λ number. good_places p ueb number (places row number)) (range_with_len 0 n)
+  rows_are_placed p ueb =
+      flat_alike (λ number. good_places p ueb number (get_or rows number [])) (λ number. good_places p ueb number (places row number)) n 0 n (omega arith)
+      (λ number below. ap (good_places p ueb number) (same_places number below))
+
+  pub standing_alike : standing_below rows n ≡ standing_in n row
+  standing_alike =
+      flat_alike (λ number. standing_places number (get_or rows number [])) (λ number. standing_places number (places row number)) n 0 n (omega arith)
+      (λ number below. ap (standing_places number) (same_places number below))
 
   pub rows_stand : some_below rows n ≡ standing_numbers n row
   rows_stand =

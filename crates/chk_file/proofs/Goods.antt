@@ -15,7 +15,7 @@ use Rattle.share_codec.specs.Tags.{extension_hash}
 use Rattle.share_codec.specs.GoodShare.{GoodShare, IsCut}
 use Rattle.share_codec.specs.GoodShare.{good_share}
 use Rattle.chk_file.specs.Row.{ShareTable, Place, places, first_good, good_at, good_shares}
-use Rattle.chk_file.specs.Check.{if_bad, bad_places}
+use Rattle.chk_file.specs.Check.{if_bad, bad_places, if_good, good_places}
 use Rattle.chk_file.specs.Taken.{AreTaken}
 use Rattle.chk_file.specs.Fit.{blocks_at}
 use Rattle.chk_file.proofs.Tools.{All-filter_map, filtered_apart, cons_alone, pairs_taken}
@@ -184,6 +184,11 @@ module _ (p : ParamsValue) (ueb : List ℕ) (number : ℕ) where
   bad_more places place =
       filter_map-append (λ (q : Place). if_bad q.0 number (good_share q.1 number p ueb)) places (place ∷ [])
       ∙ ap (λ ys. bad_places p ueb number places ++ ys) (cons_alone (if_bad place.0 number (good_share place.1 number p ueb)))
+
+  pub good_more : (places : List Place) (place : Place) → good_places p ueb number (places ++ place ∷ []) ≡ good_places p ueb number places ++ option_to_list (if_good place.0 number (good_share place.1 number p ueb))
+  good_more places place =
+      filter_map-append (λ (q : Place). if_good q.0 number (good_share q.1 number p ueb)) places (place ∷ [])
+      ∙ ap (λ ys. good_places p ueb number places ++ ys) (cons_alone (if_good place.0 number (good_share place.1 number p ueb)))
 
 -- ---- the good shares of a row
 

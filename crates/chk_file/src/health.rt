@@ -12,6 +12,9 @@ pub struct Health {
     pub good: u16,
     /// The server and the number of each share that was verified and isn't good, by number and then by server.
     pub corrupt: Vec<(usize, u16)>,
+    /// The server and the number of each share that stands; where shares were verified, of each good one. By number and
+    /// then by server.
+    pub places: Vec<(usize, u16)>,
 }
 
 impl Model for Health {
@@ -24,5 +27,6 @@ impl Model for Health {
       expected = h.expected;
       good = h.good;
       corrupt = h.corrupt.items;
+      places = h.places.items;
     } };
 }

@@ -22,14 +22,14 @@ share_written : (index : List ℕ) (share : ℕ × ℕ) → share_text (quoted (
 unfolding quoted share_text
 share_written index share = refl
 
-shares_written : (later : Bool) (index : List ℕ) (shares : List (ℕ × ℕ)) → parted later (map (share_text (quoted (spelling index))) shares) (93 ∷ []) ≡ items_text later (shares_value index shares)
+pub shares_written : (later : Bool) (index : List ℕ) (shares : List (ℕ × ℕ)) → parted later (map (share_text (quoted (spelling index))) shares) (93 ∷ []) ≡ items_text later (shares_value index shares)
 shares_written later index [] = refl
 shares_written later index (share ∷ more) =
     let first = share_written index share in
     let rest = shares_written true index more in
     (λ i. comma_if later ++ (first i ++ rest i))
 
-abbrev Fits : ℕ × ℕ → Type 0
+abbrev pub Fits : ℕ × ℕ → Type 0
 Fits share = (share.0 < 2 ^ 64) × (share.1 < 2 ^ 64)
 
 shares_sound : (index : List ℕ) (shares : List (ℕ × ℕ)) → All Fits shares → ItemsAreSound (shares_value index shares)
@@ -42,13 +42,13 @@ shares_whole : (index : List ℕ) (shares : List (ℕ × ℕ)) → items_have_fl
 shares_whole index [] = refl
 shares_whole index (share ∷ more) = shares_whole index more
 
-shares_shallow : (index : List ℕ) (shares : List (ℕ × ℕ)) → items_depth (shares_value index shares) ≤ 1
+pub shares_shallow : (index : List ℕ) (shares : List (ℕ × ℕ)) → items_depth (shares_value index shares) ≤ 1
 shares_shallow index [] = omega arith
 shares_shallow index (share ∷ more) = let rest = shares_shallow index more in omega (arith, rest)
 
 -- ---- checks
 
-truth_written : (value : Bool) → truth value ≡ compact_text (boolean value)
+pub truth_written : (value : Bool) → truth value ≡ compact_text (boolean value)
 truth_written true = refl
 truth_written false = refl
 
@@ -57,7 +57,7 @@ check_closed : (a n b e c g d k h t l s r u i q : List ℕ)
     ≡ a ++ ((n ++ (b ++ (e ++ (c ++ (g ++ (d ++ (k ++ (h ++ (t ++ (l ++ ((s ++ 93 ∷ []) ++ (r ++ (u ++ 125 ∷ []))))))))))))) ++ (i ++ (q ++ 125 ∷ [])))
 check_closed a n b e c g d k h t l s r u i q = simp (append_assoc, append-nil)
 
-before : HealthValue → List ℕ → List ℕ
+unfoldable pub before : HealthValue → List ℕ → List ℕ
 before health more =
     decimal (length health.corrupt) ++ (codes ",\"count-shares-expected\":" ++ (decimal health.expected ++ (codes ",\"count-shares-good\":" ++ (decimal health.good
     ++ (codes ",\"count-shares-needed\":" ++ (decimal health.needed ++ (codes ",\"healthy\":" ++ more)))))))

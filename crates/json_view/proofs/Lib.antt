@@ -1,6 +1,7 @@
 pub mod Pushed
 pub mod Plain
 pub mod Commas
+pub mod Sharemap
 pub mod Replies
 pub mod ReadBack
 pub mod Nodes
@@ -9,3 +10,5 @@ pub mod Metadata
 pub mod Lengths
 pub mod Directories
 pub mod Checks
+pub mod Ordered
+pub mod Mapped

@@ -13,4 +13,4 @@ mod text;
 pub mod laws;
 
 pub use node::{dir_json, file_json};
-pub use report::{check_json, literal_check_json};
+pub use report::{check_json, literal_check_json, mapped_check_json};

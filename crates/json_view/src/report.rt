@@ -1,9 +1,9 @@
 //! Checks.
-ghost use Rattle.std.specs.Prelude.{◌≡◌, ◌++◌, codes, map, IfOk, OnOk};
+ghost use Rattle.std.specs.Prelude.{◌≡◌, ◌++◌, None, codes, decimal, map, IfOk, OnOk};
 ghost use Rattle.std.specs.List.{join_with_byte};
 ghost use Rattle.base32_text.specs.Base32.{spelling};
 ghost use Rattle.json_view.specs.Strings.{quoted};
-ghost use Rattle.json_view.specs.Checks.{share_text, counts_text, check_text, literal_check_text};
+ghost use Rattle.json_view.specs.Checks.{share_text, counts_text, check_text, sharemap_text, mapped_check_text, place_text, end_text, literal_check_text};
 
 use crate::text::{put_all, put_comma, put_string, truth};
 use base32_text::push_encoded;
@@ -30,6 +30,28 @@ pub fn check_json(alloc: Global, index: &[u8; 16], health: &Health) -> Result<Ve
             b"}",
         ],
     )?;
+    Ok(out)
+}
+
+/// The same JSON with one more key behind `recoverable`: `sharemap`, an object from the numbers of the health's places to
+/// lists of their servers, each in the order of the places. Refused only where memory is.
+#[tactic(auto, unfolding(crate::specs::Checks::mapped_check_text))]
+pub fn mapped_check_json(
+    alloc: Global,
+    index: &[u8; 16],
+    health: &Health,
+) -> Result<Vec<u8>, AllocError>
+    ensures { IfOk result (λ text. text.items ≡ mapped_check_text index.now health.now) }
+{
+    let index = index_string(alloc, index)?;
+    let mut out = Vec::new(alloc);
+    put_counts(&mut out, health)?;
+    put_shares(&mut out, &index, health.corrupt.as_slice())?;
+    out.extend_from_slice(b"],\"recoverable\":")?;
+    out.extend_from_slice(truth(health.needed <= health.good))?;
+    out.extend_from_slice(b",\"sharemap\":")?;
+    put_sharemap(&mut out, health.places.as_slice())?;
+    put_all(&mut out, &[b"},\"storage-index\":", index.as_slice(), b"}"])?;
     Ok(out)
 }
 
@@ -113,4 +135,75 @@ fn put_share(out: &mut Vec<u8>, index: &[u8], share: &(usize, u16)) -> Result<()
             b"]",
         ],
     )
+}
+
+/// Puts an object from the numbers of the places to lists of their servers.
+fn put_sharemap(out: &mut Vec<u8>, places: &[(usize, u16)]) -> Result<(), AllocError>
+    ensures { OnOk result (out.new.items ≡ out.old.items ++ sharemap_text places.now) }
+{
+    out.extend_from_slice(b"{")?;
+    let mut before = None;
+    for (server, number) in places {
+        put_place(out, before, *server, *number)?;
+        before = Some(*number);
+    }
+    put_end(out, before)
+}
+
+/// Puts a server: after the one before, where that is of the same number, else as the first one of its number.
+fn put_place(
+    out: &mut Vec<u8>,
+    before: Option<u16>,
+    server: usize,
+    number: u16,
+) -> Result<(), AllocError>
+    ensures { OnOk result (out.new.items ≡ out.old.items ++ place_text before server number) }
+{
+    match before {
+        None => put_first(out, b"", server, number),
+        Some(last) => {
+            if last == number {
+                put_next(out, server)
+            } else {
+                put_first(out, b"],", server, number)
+            }
+        }
+    }
+}
+
+/// Puts the first server of a number, behind the end of the list before.
+fn put_first(out: &mut Vec<u8>, end: &[u8], server: usize, number: u16) -> Result<(), AllocError>
+    ensures { OnOk result (out.new.items
+        ≡ out.old.items ++ (end.now ++ place_text None server number)) }
+{
+    let mut servers = Buffer::new();
+    let mut numbers = Buffer::new();
+    put_all(
+        out,
+        &[
+            end,
+            b"\"",
+            numbers.format(number).as_bytes(),
+            b"\":[",
+            servers.format(server).as_bytes(),
+        ],
+    )
+}
+
+/// Puts another server of the same number.
+fn put_next(out: &mut Vec<u8>, server: usize) -> Result<(), AllocError>
+    ensures { OnOk result (out.new.items ≡ out.old.items ++ (codes "," ++ decimal server)) }
+{
+    let mut servers = Buffer::new();
+    put_all(out, &[b",", servers.format(server).as_bytes()])
+}
+
+/// Puts the ends of the last list, if there is one, and of the object.
+fn put_end(out: &mut Vec<u8>, before: Option<u16>) -> Result<(), AllocError>
+    ensures { OnOk result (out.new.items ≡ out.old.items ++ end_text before) }
+{
+    match before {
+        None => put_all(out, &[b"}"]),
+        Some(_) => put_all(out, &[b"]}"]),
+    }
 }
