@@ -4,6 +4,7 @@ use Rattle.std.specs.Map.{lookup}
 use Rattle.std.specs.Str.{bytes_eq}
 use Rattle.std.specs.Str.Lossy.{utf8_lossy}
 use Rattle.form_urlencoded.specs.Form.{raw_pairs, decode}
+use Rattle.web_request.specs.Targets.{origin_of, query_text}
 use Rattle.web_request.specs.declared.query.Query.{Query}
 
 -- the text that a key or a value stands for: `+` is a space, `%XX` a byte, and what is no UTF-8 becomes U+FFFD
@@ -33,3 +34,11 @@ query_of query = record {
   output = first_of (codes "output") (pairs query);
   verify = first_of (codes "verify") (pairs query);
 }
+
+-- the first value of any other key, in the query of a target, where it has one
+abbrev pub value_from : List ℕ → Option (List ℕ) → Option (List ℕ)
+value_from key None = None
+value_from key (Some origin) = first_of key (pairs (query_text origin))
+
+unfoldable pub value_in : List ℕ → List ℕ → Option (List ℕ)
+value_in target key = value_from key (origin_of target)

@@ -120,9 +120,9 @@ fn verify_of(value: &Option<Text>) -> Option<bool>
     }
 }
 
-/// `true t 1 on` or `false f 0 off`, in any case.
+/// What a value says: `true`, `t`, `1`, `on` or `false`, `f`, `0`, `off`, in any case. `None` for any other.
 #[tactic(auto, unfolding(crate::specs::Actions::is_yes, crate::specs::Actions::is_no))]
-fn yes_or_no(text: &str) -> Option<bool>
+pub fn yes_or_no(text: &str) -> Option<bool>
     ensures { result ≡ verify_of (Some text.now) }
 {
     let bytes = text.as_bytes();

@@ -22,8 +22,11 @@ mod interpreter;
 /// What holds of requests.
 pub mod laws;
 
+pub use action::{is_same, yes_or_no};
 pub use fault::WebFault;
 pub use head::{Field, Fields, Head};
 pub use interpreter::interpret;
+pub use query::value_in;
+pub use range::{is_if_range, one_range};
 pub use request::{Request, Resource};
 pub use target::path_in;

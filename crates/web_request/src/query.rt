@@ -1,7 +1,8 @@
 //! The keys of a query that count.
 ghost use Rattle.std.specs.Prelude.{◌≡◌, codes, IfOk, if◌then◌else◌, Some, None};
-ghost use Rattle.web_request.specs.Queries.{pairs, first_of, first_of_both, query_of};
+ghost use Rattle.web_request.specs.Queries.{pairs, first_of, first_of_both, query_of, value_in};
 
+use crate::target::{cut_at_question, origin_of};
 use form_urlencoded::parse;
 use octets::Text;
 use std::alloc::{AllocError, Global};
@@ -47,4 +48,30 @@ fn first_kept(
         return Ok(Some(Text::from_string(String::from_str(alloc, value)?)));
     }
     Ok(kept)
+}
+
+/// The first value of a key in the query of a target, as a text (URL Standard, section 5), `None` where it has none.
+#[tactic(auto, unfolding(crate::specs::Queries::value_in))]
+pub fn value_in(alloc: Global, target: &[u8], key: &str) -> Result<Option<Text>, AllocError>
+    ensures { IfOk result (λ value. value ≡ value_in target.now key.now) }
+{
+    let Some(origin) = origin_of(target) else {
+        return Ok(None);
+    };
+    let (_, query) = cut_at_question(origin);
+    first_value(alloc, query, key)
+}
+
+/// The first value of a key in a query.
+fn first_value(alloc: Global, query: &[u8], key: &str) -> Result<Option<Text>, AllocError>
+    ensures { IfOk result (λ value. value ≡ first_of key.now (pairs query.now)) }
+{
+    for pair in parse(alloc, query) {
+        let (name, value) = pair?;
+        if name.as_str() == key {
+            let copy = String::from_str(alloc, value.as_str())?;
+            return Ok(Some(Text::from_string(copy)));
+        }
+    }
+    Ok(None)
 }

@@ -22,8 +22,8 @@ pub fn range_of(alloc: Global, fields: &[Field]) -> Result<Option<Bytes>, AllocE
     }
 }
 
-/// The one Range field.
-fn one_range(fields: &[Field]) -> Option<&Field>
+/// The one Range field, `None` where there is none and where there are several.
+pub fn one_range(fields: &[Field]) -> Option<&Field>
     ensures { option_copied result ≡ one_range fields.now }
 {
     if count_ranges(fields) != 1 {
@@ -63,7 +63,7 @@ fn is_range(field: &Field) -> bool
 
 /// Whether it is an If-Range field.
 #[tactic(auto, unfolding(crate::specs::Ranges::is_if_range))]
-fn is_if_range(field: &Field) -> bool
+pub fn is_if_range(field: &Field) -> bool
     ensures { result ≡ is_if_range field.now }
 {
     is_same(field.name.as_slice(), b"if-range")
