@@ -19,10 +19,9 @@ use Rattle.path_walk.specs.Walk.{walked}
 use Rattle.path_walk.specs.Way.{Leads, Stops}
 use Rattle.path_walk.specs.declared.fault.WalkFault.{WalkFault}
 use Rattle.path_walk.specs.declared.fault.WalkFault.TheVariants.{NoMemory}
-use Rattle.json_view.specs.Checks.{check_text}
 use Rattle.web_ops.specs.declared.reply.Reply.{Reply}
 use Rattle.web_ops.specs.Replies.{json_reply, not_readable, not_enough_shares}
-use Rattle.web_ops.specs.Answers.{at_end, with_bytes, walk_reply, checked_reply}
+use Rattle.web_ops.specs.Answers.{at_end, with_bytes, walk_reply, health_text, checked_reply}
 use Rattle.web_ops.specs.Replied.{MayGive, IsAtEnd, IsAnsweredFrom, IsHealth}
 use Rattle.web_ops.specs.Calls.{IsFound}
 
@@ -112,15 +111,15 @@ from_somewhere Fresh false Is says cap names r old new e found = found
 
 -- ---- checks
 
-pub checked : (Fresh : Type 0) (o : Option VerifyCap) (v : VerifyCap) (verify : Bool) (health : HealthValue) (r : Result Reply AllocError) (old new : GridState)
-    → o ≡ Some v → IfOk r (λ x. x ≡ json_reply (check_text v.fields.si health)) → Leaves old new → (IsHonest old → IsUnchanged old new)
+pub checked : (Fresh : Type 0) (mapped : Bool) (o : Option VerifyCap) (v : VerifyCap) (verify : Bool) (health : HealthValue) (r : Result Reply AllocError) (old new : GridState)
+    → o ≡ Some v → IfOk r (λ x. x ≡ json_reply (health_text mapped v.fields.si health)) → Leaves old new → (IsHonest old → IsUnchanged old new)
     → (health.needed ≡ v.fields.k) × (health.expected ≡ v.fields.n)
     → (IsHonest old → NoneFailed old new → health ≡ check v.fields verify (row_of (stood old) v.fields.si))
-    → IsFound Fresh (IsHealth o) (λ look. checked_reply look verify o) r old new
-checked Fresh o v verify health r old new some is leaves same numbers found =
-    subst (λ p. IsFound Fresh (IsHealth p) (λ look. checked_reply look verify p) r old new) (sym some) (record {
+    → IsFound Fresh (IsHealth mapped o) (λ look. checked_reply mapped look verify o) r old new
+checked Fresh mapped o v verify health r old new some is leaves same numbers found =
+    subst (λ p. IsFound Fresh (IsHealth mapped p) (λ look. checked_reply mapped look verify p) r old new) (sym some) (record {
       leaves = leaves;
       unchanged = same;
       fits = IfOk-weaker r _ _ (λ x e. record { health = health; needed = numbers.0; expected = numbers.1; is = e }) is;
-      written = λ fresh honest calm. IfOk-weaker r _ _ (λ x e. e ∙ ap (λ h. json_reply (check_text v.fields.si h)) (found honest calm)) is;
+      written = λ fresh honest calm. IfOk-weaker r _ _ (λ x e. e ∙ ap (λ h. json_reply (health_text mapped v.fields.si h)) (found honest calm)) is;
     })

@@ -1,5 +1,5 @@
 -- Answers over looks that agree.
-use Rattle.std.proofs.Common.{◌≡◌, ℕ, List, length, Bool, true, false, cond, Option, Result, Ok, Err, refl, ap, ◌∙◌}
+use Rattle.std.proofs.Common.{◌≡◌, ℕ, List, length, Bool, true, false, cond, Option, Some, Result, Ok, Err, refl, ap, ◌∙◌}
 use Rattle.std.specs.Prelude.{◌&&◌, ◌==◌, not, Contains}
 use Rattle.std.proofs.lemmas.List.Elements.{All-weaker, All-contains}
 use Rattle.caps.specs.declared.cap.Cap.{Cap}
@@ -12,14 +12,13 @@ use Rattle.chk_file.specs.Look.{Look}
 use Rattle.path_walk.specs.Walk.{Gives, walked, met as met_on_walk}
 use Rattle.path_walk.specs.Agree.{AgreesAt as GivesAgreeAt, AgreeOn as GivesAgreeOn}
 use Rattle.path_walk.specs.declared.fault.WalkFault.{WalkFault}
-use Rattle.json_view.specs.Checks.{check_text}
 use Rattle.web_request.specs.declared.request.Request.{Request}
 use Rattle.web_request.specs.declared.request.Request.TheVariants.{Put, Mkdir, Get, Check}
 use Rattle.web_ops.specs.declared.reply.Reply.{Reply}
 use Rattle.web_ops.specs.Encoding.{Encoding}
 use Rattle.web_ops.specs.Replies.{json_reply, bytes_reply, not_readable}
 use Rattle.caps.specs.Kinds.{is_verify_cap}
-use Rattle.web_ops.specs.Answers.{at_end, with_bytes, listing_reply, content_reply, node_json_reply, node_reply, range_to_apply, health_reply, request_reply}
+use Rattle.web_ops.specs.Answers.{at_end, with_bytes, listing_reply, content_reply, node_json_reply, node_reply, range_to_apply, health_text, health_reply, request_reply}
 use Rattle.web_ops.specs.Reach.{caps_met}
 use Rattle.web_ops.specs.Agree.{AgreesAt, AgreeOn}
 
@@ -39,7 +38,7 @@ walks_see_the_same look other caps same = All-weaker (AgreesAt look other) (Give
 -- ---- what is answered at the end
 
 same_content : (look other : Look) (range : Option (List ℕ)) (cap : Cap) → AgreesAt look other cap → content_reply look.gives range cap ≡ content_reply other.gives range cap
-same_content look other range (Chk fields) same = ap (with_bytes (bytes_reply range)) same.0
+same_content look other range (Chk fields) same = ap (with_bytes (bytes_reply (Some (verify_fields fields)) range)) same.0
 same_content look other range (Lit bytes) same = refl
 same_content look other range (DirChk fields) same = refl
 same_content look other range (DirLit bytes) same = refl
@@ -59,17 +58,17 @@ same_node look other true range cap same = same_json look other cap same
 same_node look other false range cap same = same_content look other range cap same
 
 -- what a check of these fields is answered over a row
-health_over : VerifyValue → Bool → ShareTable → Reply
-health_over fields verify row = json_reply (check_text fields.si (check fields verify row))
+health_over : Bool → VerifyValue → Bool → ShareTable → Reply
+health_over mapped fields verify row = json_reply (health_text mapped fields.si (check fields verify row))
 
-same_health : (look other : Look) (verify : Bool) (cap : Cap) → AgreesAt look other cap → health_reply look verify cap ≡ health_reply other verify cap
+same_health : (mapped : Bool) (look other : Look) (verify : Bool) (cap : Cap) → AgreesAt look other cap → health_reply mapped look verify cap ≡ health_reply mapped other verify cap
 unfolding health_over
-same_health look other verify (Chk fields) same = ap (health_over (verify_fields fields) verify) same.1
-same_health look other verify (Lit bytes) same = refl
-same_health look other verify (DirChk fields) same = ap (health_over (verify_fields fields) verify) same.1
-same_health look other verify (DirLit bytes) same = refl
-same_health look other verify (ChkVerify fields) same = ap (health_over fields verify) same
-same_health look other verify (DirChkVerify fields) same = ap (health_over fields verify) same
+same_health mapped look other verify (Chk fields) same = ap (health_over mapped (verify_fields fields) verify) same.1
+same_health mapped look other verify (Lit bytes) same = refl
+same_health mapped look other verify (DirChk fields) same = ap (health_over mapped (verify_fields fields) verify) same.1
+same_health mapped look other verify (DirLit bytes) same = refl
+same_health mapped look other verify (ChkVerify fields) same = ap (health_over mapped fields verify) same
+same_health mapped look other verify (DirChkVerify fields) same = ap (health_over mapped fields verify) same
 
 same_end : (f g : Cap → Reply) (r : Result Cap WalkFault) → ((end : Cap) → r ≡ Ok end → f end ≡ g end) → at_end f r ≡ at_end g r
 same_end f g (Ok end) same = same end refl
@@ -95,7 +94,7 @@ module _ (walks : (gives other : Gives) (cap : Cap) (names : List (List ℕ)) �
       (same_walk look other (node_reply look.gives json (range_to_apply head_only range)) (node_reply other.gives json (range_to_apply head_only range)) name names (same_node look other json (range_to_apply head_only range)) same)
   same_reply e look other (Check name names verify) same =
       ap (cond (is_verify_cap name && not (length names == 0)) not_readable)
-      (same_walk look other (health_reply look verify) (health_reply other verify) name names (same_health look other verify) same)
+      (same_walk look other (health_reply e.mapped look verify) (health_reply e.mapped other verify) name names (same_health e.mapped look other verify) same)
 
   pub same_met : (look other : Look) (request : Request) → AgreeOn look other (caps_met look request) → caps_met look request ≡ caps_met other request
   same_met look other (Put bytes) same = refl

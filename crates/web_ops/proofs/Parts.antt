@@ -1,6 +1,6 @@
 -- Parts of files: what is given of them, segment by segment, and what is left.
 use Rattle.std.proofs.Common.{◌≡◌, ◌⊎◌, inl, inr, ◌≤◌, ◌<◌, ℕ, ◌+◌, ◌-◌, List, ◌++◌, length, take, drop, min, sym, ap, ◌∙◌, arith, length-drop, length-take, length-append}
-use Rattle.std.proofs.lemmas.List.{take_all, take-append-drop, append-nil, take-append-le, drop-append-le}
+use Rattle.std.proofs.lemmas.List.{take_all, take-append-drop, append-nil, take-append-le, drop-append-le, take-take, drop-drop, drop-take}
 use Rattle.std.proofs.Math.Seq.{drop-append-add, take-append-add}
 
 -- ---- a segment, and what is left behind it
@@ -49,6 +49,17 @@ module _ (count skip at many : ℕ) (left segment rest : List ℕ) (is : drop sk
 
   pub cut_in : at + many ≤ length segment
   cut_in = omega (arith, inside, counted)
+
+-- ---- a part of a part
+
+pub part_of_part : (before n skip count : ℕ) (left : List ℕ) → skip + count ≤ n
+    → take count (drop (before + skip) left) ≡ take count (drop skip (take n (drop before left)))
+part_of_part before n skip count left within =
+    let few : count ≤ n - skip = omega (arith, within) in
+    let all : skip + (n - skip) ≡ n = omega (arith, within) in
+    ap (take count) (sym (drop-drop skip before left))
+    ∙ sym (take-take count (n - skip) (drop skip (drop before left)) few)
+    ∙ ap (take count) (sym (drop-take skip (n - skip) (drop before left)) ∙ ap (λ k. drop skip (take k (drop before left))) all)
 
 -- ---- how many are left
 

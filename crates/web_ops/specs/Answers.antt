@@ -4,18 +4,18 @@ use Rattle.caps.specs.declared.cap.Cap.{Cap}
 use Rattle.caps.specs.declared.cap.Cap.TheVariants.{Chk, Lit, DirChk, DirLit, ChkVerify, DirChkVerify}
 use Rattle.caps.specs.declared.cap.VerifyCap.{VerifyCap}
 use Rattle.caps.specs.Kinds.{is_verify_cap}
-use Rattle.caps.specs.Weakening.{weakened}
+use Rattle.caps.specs.Weakening.{verify_fields, weakened}
 use Rattle.dir_codec.specs.declared.entry.Entry.{Entry}
 use Rattle.dir_codec.specs.Reading.{children}
 use Rattle.dir_codec.specs.Children.{made}
 use Rattle.chk_file.specs.Upload.{upload_cap}
-use Rattle.chk_file.specs.Check.{check}
+use Rattle.chk_file.specs.Check.{HealthValue, check}
 use Rattle.chk_file.specs.Look.{Look}
 use Rattle.path_walk.specs.Walk.{Gives, walked}
 use Rattle.path_walk.specs.declared.fault.WalkFault.{WalkFault}
 use Rattle.path_walk.specs.declared.fault.WalkFault.TheVariants.{NoChild, NotDirectory, NotEnoughShares, NoMemory}
 use Rattle.json_view.specs.Nodes.{file_text, dir_text}
-use Rattle.json_view.specs.Checks.{check_text, literal_check_text}
+use Rattle.json_view.specs.Checks.{check_text, mapped_check_text, literal_check_text}
 use Rattle.web_request.specs.declared.request.Request.{Request}
 use Rattle.web_request.specs.declared.request.Request.TheVariants.{Put, Mkdir, Get, Check}
 use Rattle.web_ops.specs.declared.reply.Reply.{Reply}
@@ -46,8 +46,8 @@ with_bytes f (Some bytes) = f bytes
 
 -- the bytes of a file; of a directory nothing is looked at
 abbrev pub content_reply : Gives → Option (List ℕ) → Cap → Reply
-content_reply gives range (Chk fields) = with_bytes (bytes_reply range) (gives fields)
-content_reply gives range (Lit bytes) = bytes_reply range bytes
+content_reply gives range (Chk fields) = with_bytes (bytes_reply (Some (verify_fields fields)) range) (gives fields)
+content_reply gives range (Lit bytes) = bytes_reply None range bytes
 content_reply gives range (DirChk fields) = is_directory
 content_reply gives range (DirLit bytes) = is_directory
 content_reply gives range (ChkVerify fields) = not_readable
@@ -86,19 +86,24 @@ get_reply gives cap names json range =
 
 -- ---- checks
 
--- the health of what a verify cap verifies; what stands in its cap is healthy
-abbrev pub checked_reply : Look → Bool → Option VerifyCap → Reply
-checked_reply look verify None = json_reply literal_check_text
-checked_reply look verify (Some v) = json_reply (check_text v.fields.si (check v.fields verify (look.stood v.fields.si)))
+-- the health of the file of a storage index, with a map of where its shares are, or without
+abbrev pub health_text : Bool → List ℕ → HealthValue → List ℕ
+health_text true index health = mapped_check_text index health
+health_text false index health = check_text index health
 
-abbrev pub health_reply : Look → Bool → Cap → Reply
-health_reply look verify cap = checked_reply look verify (weakened cap)
+-- the health of what a verify cap verifies; what stands in its cap is healthy
+abbrev pub checked_reply : Bool → Look → Bool → Option VerifyCap → Reply
+checked_reply mapped look verify None = json_reply literal_check_text
+checked_reply mapped look verify (Some v) = json_reply (health_text mapped v.fields.si (check v.fields verify (look.stood v.fields.si)))
+
+abbrev pub health_reply : Bool → Look → Bool → Cap → Reply
+health_reply mapped look verify cap = checked_reply mapped look verify (weakened cap)
 
 -- a verify cap is checked, and leads nowhere
-abbrev pub check_reply : Look → Cap → List (List ℕ) → Bool → Reply
-check_reply look cap names verify =
+abbrev pub check_reply : Bool → Look → Cap → List (List ℕ) → Bool → Reply
+check_reply mapped look cap names verify =
     if is_verify_cap cap && not (length names == 0) then not_readable
-    else at_end (health_reply look verify) (walked look.gives cap names)
+    else at_end (health_reply mapped look verify) (walked look.gives cap names)
 
 -- ---- uploads
 
@@ -113,4 +118,4 @@ abbrev pub request_reply : Encoding → Look → Request → Reply
 request_reply e look (Put bytes) = cap_reply (upload_cap (upload_of e bytes))
 request_reply e look (Mkdir json) = made_reply e (made json)
 request_reply e look (Get cap names json head_only range) = get_reply look.gives cap names json (range_to_apply head_only range)
-request_reply e look (Check cap names verify) = check_reply look cap names verify
+request_reply e look (Check cap names verify) = check_reply e.mapped look cap names verify

@@ -4,7 +4,7 @@ use Rattle.caps.specs.declared.cap.Cap.{Cap}
 use Rattle.caps.specs.declared.cap.Cap.TheVariants.{Chk, Lit, DirChk, DirLit, ChkVerify, DirChkVerify}
 use Rattle.caps.specs.declared.cap.VerifyCap.{VerifyCap}
 use Rattle.caps.specs.Fields.{ReadValue, VerifyValue}
-use Rattle.caps.specs.Weakening.{weakened}
+use Rattle.caps.specs.Weakening.{verify_fields, weakened}
 use Rattle.dir_codec.specs.declared.entry.Entry.{Entry}
 use Rattle.dir_codec.specs.Children.{made}
 use Rattle.chk_file.specs.Bound.{Bound}
@@ -13,7 +13,7 @@ use Rattle.chk_file.specs.Upload.{upload_cap}
 use Rattle.path_walk.specs.Way.{Leads, Stops}
 use Rattle.path_walk.specs.declared.fault.WalkFault.{WalkFault}
 use Rattle.json_view.specs.Nodes.{file_text}
-use Rattle.json_view.specs.Checks.{check_text, literal_check_text}
+use Rattle.json_view.specs.Checks.{literal_check_text}
 use Rattle.web_request.specs.declared.request.Request.{Request}
 use Rattle.web_request.specs.declared.request.Request.TheVariants.{Put, Mkdir, Get, Check}
 use Rattle.web_ops.specs.declared.reply.Reply.{Reply}
@@ -21,7 +21,7 @@ use Rattle.web_ops.specs.Encoding.{Encoding, upload_of}
 use Rattle.web_ops.specs.Replies.{cap_reply, json_reply, bytes_reply, not_readable, not_enough_shares, is_directory, bad_children, store_full, store_down}
 use Rattle.web_ops.specs.Uploads.{directory_cap}
 use Rattle.caps.specs.Kinds.{is_verify_cap}
-use Rattle.web_ops.specs.Answers.{walk_reply, listing_reply, range_to_apply}
+use Rattle.web_ops.specs.Answers.{walk_reply, listing_reply, health_text, range_to_apply}
 
 -- ---- uploads
 
@@ -46,8 +46,8 @@ abbrev pub MayGive : (List ℕ → Reply) → ReadValue → Reply → Type 0
 MayGive f fields reply = (reply ≡ not_enough_shares) ⊎ GivesBound f fields reply
 
 abbrev pub IsContent : Option (List ℕ) → Cap → Reply → Type 0
-IsContent range (Chk fields) reply = MayGive (bytes_reply range) fields reply
-IsContent range (Lit bytes) reply = reply ≡ bytes_reply range bytes
+IsContent range (Chk fields) reply = MayGive (bytes_reply (Some (verify_fields fields)) range) fields reply
+IsContent range (Lit bytes) reply = reply ≡ bytes_reply None range bytes
 IsContent range (DirChk fields) reply = reply ≡ is_directory
 IsContent range (DirLit bytes) reply = reply ≡ is_directory
 IsContent range (ChkVerify fields) reply = reply ≡ not_readable
@@ -79,15 +79,15 @@ IsAnsweredFrom false Is cap names reply = IsAtEnd Is cap names reply
 -- ---- checks
 
 -- what a check of some shares is answered
-pub record IsHealthOf (v : VerifyValue) (reply : Reply) : Type 0 where
+pub record IsHealthOf (mapped : Bool) (v : VerifyValue) (reply : Reply) : Type 0 where
   pub health : HealthValue
   pub needed : health.needed ≡ v.k
   pub expected : health.expected ≡ v.n
-  pub is : reply ≡ json_reply (check_text v.si health)
+  pub is : reply ≡ json_reply (health_text mapped v.si health)
 
-abbrev pub IsHealth : Option VerifyCap → Reply → Type 0
-IsHealth None reply = reply ≡ json_reply literal_check_text
-IsHealth (Some v) reply = IsHealthOf v.fields reply
+abbrev pub IsHealth : Bool → Option VerifyCap → Reply → Type 0
+IsHealth mapped None reply = reply ≡ json_reply literal_check_text
+IsHealth mapped (Some v) reply = IsHealthOf mapped v.fields reply
 
 -- ---- requests
 
@@ -96,4 +96,4 @@ IsReply e (Put bytes) reply = IsStored (upload_cap (upload_of e bytes)) reply
 IsReply e (Mkdir json) reply = IsMade e (made json) reply
 IsReply e (Get cap names json head_only range) reply = IsAnsweredFrom (is_verify_cap cap) (IsNode json (range_to_apply head_only range)) cap names reply
 IsReply e (Check cap names verify) reply =
-    IsAnsweredFrom (is_verify_cap cap && not (length names == 0)) (λ end. IsHealth (weakened end)) cap names reply
+    IsAnsweredFrom (is_verify_cap cap && not (length names == 0)) (λ end. IsHealth e.mapped (weakened end)) cap names reply

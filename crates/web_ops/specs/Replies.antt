@@ -2,6 +2,7 @@
 use Rattle.std.specs.Prelude.{ℕ, suc, ◌-◌, List, [], ◌∷◌, ◌++◌, length, take, drop, codes, Option, Some, None}
 use Rattle.caps.specs.CapTexts.{cap_text}
 use Rattle.caps.specs.declared.cap.Cap.{Cap}
+use Rattle.caps.specs.Fields.{VerifyValue}
 use Rattle.range_view.specs.declared.range.Resolved.{Resolved}
 use Rattle.range_view.specs.declared.range.Resolved.TheVariants.{Whole, Part, Unsatisfiable}
 use Rattle.range_view.specs.Resolved.{resolved}
@@ -20,8 +21,16 @@ use Rattle.web_ops.specs.declared.failed.Failure.TheVariants as failure
 abbrev pub reply_with : Status → MediaType → Option Field → List ℕ → Reply
 reply_with answered media_type field body = record {
   status = answered;
-  fields = record { content_type = media_type; more = field };
+  fields = record { content_type = media_type; more = field; file = None };
   body = body;
+}
+
+-- the same reply, of bytes of this stored file
+abbrev pub of_file : Option VerifyValue → Reply → Reply
+of_file file reply = record {
+  status = reply.status;
+  fields = record { content_type = reply.fields.content_type; more = reply.fields.more; file = file };
+  body = reply.body;
 }
 
 -- ---- what was asked for
@@ -33,14 +42,18 @@ cap_reply cap = reply_with status.Ok PlainText None (cap_text cap)
 abbrev pub json_reply : List ℕ → Reply
 json_reply text = reply_with status.Ok Json None text
 
--- a file's bytes, all of them
-abbrev pub file_reply : List ℕ → Reply
-file_reply bytes = reply_with status.Ok OctetStream None bytes
+-- a file's bytes, all of them; it is told which one, if it is a stored one
+abbrev pub file_reply : Option VerifyValue → List ℕ → Reply
+file_reply file bytes = of_file file (reply_with status.Ok OctetStream None bytes)
 
 -- those from one place to another, both of them too
-abbrev pub part_reply : ℕ → ℕ → List ℕ → Reply
-part_reply from to bytes =
-    reply_with status.PartialContent OctetStream (Some (ContentRange from to (length bytes))) (take (suc (to - from)) (drop from bytes))
+abbrev pub part_reply : Option VerifyValue → ℕ → ℕ → List ℕ → Reply
+part_reply file from to bytes =
+    of_file file (reply_with status.PartialContent OctetStream (Some (ContentRange from to (length bytes))) (take (suc (to - from)) (drop from bytes)))
+
+-- what the request has already (RFC 9110, section 15.4.5)
+abbrev pub not_modified : Option VerifyValue → Reply
+not_modified file = of_file file (reply_with status.NotModified OctetStream None [])
 
 -- a page of the gateway's own
 abbrev pub page_reply : MediaType → List ℕ → Reply
@@ -107,12 +120,12 @@ refusal_reply NoMemory = fault_reply status.BadRequest []
 
 -- ---- ranges
 
-abbrev pub resolved_reply : Resolved → List ℕ → Reply
-resolved_reply Whole bytes = file_reply bytes
-resolved_reply (Part from to) bytes = part_reply from to bytes
-resolved_reply Unsatisfiable bytes = unsatisfiable (length bytes)
+abbrev pub resolved_reply : Option VerifyValue → Resolved → List ℕ → Reply
+resolved_reply file Whole bytes = file_reply file bytes
+resolved_reply file (Part from to) bytes = part_reply file from to bytes
+resolved_reply file Unsatisfiable bytes = of_file file (unsatisfiable (length bytes))
 
 -- a file's bytes, or as much of them as a range asks for
-abbrev pub bytes_reply : Option (List ℕ) → List ℕ → Reply
-bytes_reply None bytes = file_reply bytes
-bytes_reply (Some range) bytes = resolved_reply (resolved range (length bytes)) bytes
+abbrev pub bytes_reply : Option VerifyValue → Option (List ℕ) → List ℕ → Reply
+bytes_reply file None bytes = file_reply file bytes
+bytes_reply file (Some range) bytes = resolved_reply file (resolved range (length bytes)) bytes

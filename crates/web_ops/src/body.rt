@@ -1,5 +1,5 @@
 //! Bodies of replies.
-ghost use Rattle.std.specs.Prelude.{◌≡◌, ◌<◌, [], ◌++◌, length, IfOk, OnErr, IsOk, IsTrue, ◌↔◌, MatchOption};
+ghost use Rattle.std.specs.Prelude.{◌≡◌, ◌<◌, ◌≤◌, ◌+◌, [], ◌++◌, length, take, drop, IfOk, OnErr, IsOk, IsTrue, ◌↔◌, MatchOption};
 
 use crate::part::Part;
 use crate::shared::SharedBytes;
@@ -63,6 +63,18 @@ impl Body {
         }
     }
 
+    /// So many of its bytes, from a place on: a copy where they are at hand or shared.
+    pub(crate) fn narrow(self, alloc: Global, from: usize, count: usize) -> Result<Body, AllocError>
+        requires { from + count ≤ length self }
+        ensures { IfOk result (λ body. body ≡ take count (drop from self)) }
+    {
+        match self.source {
+            Source::Bytes(bytes) => copy_of(alloc, bytes.as_slice(), from, count),
+            Source::Part(part) => Ok(Body::from_part(part.narrow(from, count))),
+            Source::Shared(bytes) => copy_of(alloc, bytes.as_slice(), from, count),
+        }
+    }
+
     /// How many bytes are left.
     pub fn len(&self) -> usize
         ensures { result ≡ length self.now }
@@ -99,6 +111,15 @@ impl Body {
             Source::Shared(bytes) => bytes.next(alloc),
         }
     }
+}
+
+/// A copy of so many bytes, from a place on.
+fn copy_of(alloc: Global, bytes: &[u8], from: usize, count: usize) -> Result<Body, AllocError>
+    requires { from + count ≤ length bytes.now }
+    ensures { IfOk result (λ body. body ≡ take count (drop from bytes.now)) }
+{
+    let part = &bytes[from..from + count];
+    Ok(Body::from_bytes(Bytes::from_slice(alloc, part)?))
 }
 
 /// All of the bytes, which are moved, or none where there is none.

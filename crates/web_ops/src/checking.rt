@@ -1,10 +1,10 @@
 //! Checks of what a path leads to.
-ghost use Rattle.std.specs.Prelude.{◌≡◌, ⊤, ◌==◌, ◌&&◌, not, length};
+ghost use Rattle.std.specs.Prelude.{◌≡◌, IfOk, ⊤, ◌==◌, ◌&&◌, not, length};
 ghost use Rattle.grid.specs.Stamped.{IsStamped};
 ghost use Rattle.chk_file.specs.Cached.{IsFresh};
 ghost use Rattle.caps.specs.Weakening.{weakened};
 ghost use Rattle.caps.specs.Kinds.{is_verify_cap};
-ghost use Rattle.web_ops.specs.Answers.{health_reply, check_reply};
+ghost use Rattle.web_ops.specs.Answers.{health_text, health_reply, check_reply};
 ghost use Rattle.web_ops.specs.Replied.{IsHealth, IsAnsweredFrom};
 ghost use Rattle.web_ops.specs.Calls.{IsFound};
 
@@ -13,14 +13,14 @@ use crate::node::walk_refused;
 use crate::replies::json_reply;
 use crate::reply::Reply;
 use caps::{Cap, is_verify_cap, weaken};
-use chk_file::Cache;
+use chk_file::{Cache, Health};
 use grid::Grid;
-use json_view::{check_json, literal_check_json};
+use json_view::{check_json, literal_check_json, mapped_check_json};
 use path_walk::{Names, walk};
 use share_store::Store;
 use std::alloc::{AllocError, Global};
 
-/// How healthy what the names lead to from a cap is.
+/// How healthy what the names lead to from a cap is, with a map of where its shares are, or without.
 pub fn check<S: Store>(
     alloc: Global,
     grid: &mut Grid<S>,
@@ -28,18 +28,19 @@ pub fn check<S: Store>(
     cap: &Cap,
     names: &Names,
     verify: bool,
+    mapped: bool,
 ) -> Result<Reply, AllocError>
     ensures fresh { IsFresh cache.old grid.old → IsFresh cache.new grid.new }
     ensures found { IsFound (IsFresh cache.old grid.old)
         (IsAnsweredFrom (is_verify_cap cap.now && not (length names.now == 0))
-        (λ end. IsHealth (weakened end)) cap.now names.now)
-        (λ look. check_reply look cap.now names.now verify) result grid.old grid.new }
+        (λ end. IsHealth mapped (weakened end)) cap.now names.now)
+        (λ look. check_reply mapped look cap.now names.now verify) result grid.old grid.new }
 {
     if leads_nowhere(cap, names) {
         return failure_reply(alloc, Failure::NotReadable);
     }
     match walk(alloc, grid, cache, cap, names) {
-        Ok(end) => health(alloc, grid, &end, verify),
+        Ok(end) => health(alloc, grid, &end, verify, mapped),
         Err(fault) => walk_refused(alloc, &fault),
     }
 }
@@ -57,14 +58,32 @@ fn health<S: Store>(
     grid: &mut Grid<S>,
     cap: &Cap,
     verify: bool,
+    mapped: bool,
 ) -> Result<Reply, AllocError>
     ensures stamped { IsStamped grid.old grid.new }
-    ensures found { IsFound ⊤ (IsHealth (weakened cap.now))
-        (λ look. health_reply look verify cap.now) result grid.old grid.new }
+    ensures found { IsFound ⊤ (IsHealth mapped (weakened cap.now))
+        (λ look. health_reply mapped look verify cap.now) result grid.old grid.new }
 {
     let Some(verify_cap) = weaken(cap) else {
         return Ok(json_reply(literal_check_json(alloc)?));
     };
     let health = chk_file::check(alloc, grid, &verify_cap, verify)?;
-    Ok(json_reply(check_json(alloc, &verify_cap.fields.si, &health)?))
+    let text = health_json(alloc, &verify_cap.fields.si, &health, mapped)?;
+    Ok(json_reply(text))
+}
+
+/// The JSON of the health of a storage index's file, with a map of where its shares are, or without.
+fn health_json(
+    alloc: Global,
+    index: &[u8; 16],
+    health: &Health,
+    mapped: bool,
+) -> Result<Vec<u8>, AllocError>
+    ensures { IfOk result (λ text. text.items ≡ health_text mapped index.now health.now) }
+{
+    if mapped {
+        mapped_check_json(alloc, index, health)
+    } else {
+        check_json(alloc, index, health)
+    }
 }

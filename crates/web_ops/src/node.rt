@@ -1,8 +1,9 @@
 //! The bytes and the JSON of what a path leads to.
-ghost use Rattle.std.specs.Prelude.{◌≡◌, ◌≢◌, ◌↔◌, IfOk, IsTrue};
+ghost use Rattle.std.specs.Prelude.{◌≡◌, ◌≢◌, ◌↔◌, IfOk, IsTrue, Some};
 ghost use Rattle.chk_file.specs.Cached.{IsFresh};
 ghost use Rattle.path_walk.specs.declared.fault.WalkFault.TheVariants.{NoMemory};
 ghost use Rattle.caps.specs.Kinds.{is_verify_cap};
+ghost use Rattle.caps.specs.Weakening.{verify_fields};
 ghost use Rattle.web_ops.specs.Answers.{walk_reply, content_reply, listing_reply, node_json_reply, node_reply, get_reply};
 ghost use Rattle.web_ops.specs.Replied.{IsContent, IsNodeJson, IsNode, IsAnsweredFrom};
 ghost use Rattle.web_ops.specs.Calls.{IsFound};
@@ -10,7 +11,7 @@ ghost use Rattle.web_ops.specs.Calls.{IsFound};
 use crate::failed::{Failure, failure_reply};
 use crate::replies::{bytes_reply, download_reply, json_reply};
 use crate::reply::Reply;
-use caps::{Cap, is_verify_cap};
+use caps::{Cap, ReadFields, VerifyFields, is_verify_cap, weaken};
 use chk_file::{Cache, ReadFault, begin, read};
 use dir_codec::{decode, is_memory};
 use grid::Grid;
@@ -92,13 +93,27 @@ fn content<S: Store>(
     chk_file::laws::bound_bytes_have_the_size();
     match cap {
         Cap::Chk(fields) => match begin(alloc, grid, cache, &fields) {
-            Ok(download) => download_reply(alloc, range, fields.size, download),
+            Ok(download) => {
+                let file = file_of(&fields);
+                download_reply(alloc, range, file, fields.size, download)
+            }
             Err(ReadFault::NotEnoughShares) => failure_reply(alloc, Failure::NotEnoughShares),
             Err(ReadFault::NoMemory) => Err(AllocError),
         },
         Cap::Lit(bytes) => bytes_reply(alloc, range, bytes),
         Cap::DirChk(_) | Cap::DirLit(_) => failure_reply(alloc, Failure::NeedsJson),
         Cap::ChkVerify(_) | Cap::DirChkVerify(_) => failure_reply(alloc, Failure::NotReadable),
+    }
+}
+
+/// What verifies a file.
+fn file_of(fields: &ReadFields) -> Option<VerifyFields>
+    ensures { result ≡ Some (verify_fields fields.now) }
+{
+    let cap = Cap::Chk(*fields);
+    match weaken(&cap) {
+        Some(verify_cap) => Some(verify_cap.fields),
+        None => None,
     }
 }
 

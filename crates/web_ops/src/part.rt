@@ -1,5 +1,5 @@
 //! Parts of files.
-ghost use Rattle.std.specs.Prelude.{◌≡◌, ◌≤◌, ◌<◌, ◌+◌, [], ◌++◌, length, take, drop, IfOk, OnErr, IsOk, MatchOption};
+ghost use Rattle.std.specs.Prelude.{◌≡◌, ◌≤◌, ◌<◌, ◌+◌, ◌^◌, [], ◌++◌, length, take, drop, IfOk, OnErr, IsOk, MatchOption};
 
 use chk_file::Download;
 use std::alloc::AllocError;
@@ -15,20 +15,21 @@ pub struct Part {
 }
 
 impl Model for Part {
-    ghost use Rattle.std.specs.Prelude.{List, ℕ, ◌<◌, ◌≤◌, ◌+◌, length, take, drop};
+    ghost use Rattle.std.specs.Prelude.{List, ℕ, ◌<◌, ◌≤◌, ◌+◌, ◌^◌, length, take, drop};
 
     ghost Value = { List ℕ };
 
     ghost view = { λ p. take p.count (drop p.skip p.download.left) };
 
     ghost invariant = { λ p. (p.skip + p.count ≤ length p.download.left)
-        × (0 < p.count → p.skip < p.download.each) };
+        × ((0 < p.count → p.skip < p.download.each) × (p.skip + p.count < 2 ^ 64)) };
 }
 
 impl Part {
     /// So many bytes of a file, after those that are passed over.
     pub fn new(download: Download, skip: usize, count: usize) -> Self
-        requires { skip + count ≤ length download.left }
+        requires inside { skip + count ≤ length download.left }
+        requires fits { skip + count < 2 ^ 64 }
         ensures { result ≡ take count (drop skip download.left) }
     {
         let mut download = download;
@@ -45,6 +46,19 @@ impl Part {
             skip: skip - passed,
             count,
         }
+    }
+
+    /// So many of its bytes, after those that are passed over.
+    pub(crate) fn narrow(self, skip: usize, count: usize) -> Part
+        requires { skip + count ≤ length self }
+        ensures { result ≡ take count (drop skip self) }
+    {
+        let Part {
+            download,
+            skip: before,
+            ..
+        } = self;
+        Part::new(download, before + skip, count)
     }
 
     /// How many bytes are left.

@@ -6,7 +6,7 @@ ghost use Rattle.grid.specs.GridState.{stood, IsHonest, NoneFailed};
 ghost use Rattle.grid.specs.Leaves.{Leaves};
 ghost use Rattle.chk_file.specs.Cached.{IsFresh};
 ghost use Rattle.chk_file.specs.Look.{look_in};
-ghost use Rattle.web_ops.specs.Encoding.{encoding_of};
+ghost use Rattle.web_ops.specs.Encoding.{encoding_of, mapping};
 ghost use Rattle.web_ops.specs.Uploads.{upload_in};
 ghost use Rattle.web_ops.specs.Answers.{range_to_apply, request_reply};
 ghost use Rattle.web_ops.specs.Replied.{IsReply};
@@ -74,6 +74,56 @@ pub fn perform<S: Store>(
         NoneFailed grid.old grid.new → OnOk result
         (Follows (upload_in e request) grid.old grid.new) }
 {
+    perform_mapped(alloc, grid, cache, k, n, secret, false, request)
+}
+
+/// Like [`perform`]; a check tells also where the shares are, if `mapped` says so.
+pub fn perform_mapped<S: Store>(
+    alloc: Global,
+    grid: &mut Grid<S>,
+    cache: &mut Cache,
+    k: u16,
+    n: u16,
+    secret: &[u8],
+    mapped: bool,
+    request: Request,
+) -> Result<Reply, AllocError>
+    requires { IsSharing k n }
+    ensures leaves { Leaves grid.old grid.new }
+
+    // What is kept of files that were read stays as good as it was.
+    ensures fresh { IsFresh cache.old grid.old → IsFresh cache.new grid.new }
+
+    // Of any stores: bytes of a stored file or directory are bound to the cap that the names lead to.
+    ensures fits { IfOk result (λ reply. IsReply (mapping mapped (encoding_of k n secret.now)) request reply) }
+
+    // What is stored are bytes.
+    ensures bytes { OnOk result (IfSome (upload_in (mapping mapped (encoding_of k n secret.now)) request)
+        (λ u. AreBytes u.bytes)) }
+
+    // What a reply to an upload tells of the stores, however full or failing they are.
+    ensures tells { IfOk result (λ reply.
+        TellsOfIn (upload_in (mapping mapped (encoding_of k n secret.now)) request) reply grid.old grid.new) }
+
+    // Of honest stores, also where memory is refused or a store is full or fails.
+    ensures begun { IsHonest grid.old →
+        IsBegunIn (upload_in (mapping mapped (encoding_of k n secret.now)) request) grid.old grid.new }
+
+    // Of honest stores that have room for what is stored and don't fail in the call.
+    ensures written { let e = mapping mapped (encoding_of k n secret.now) in
+        IsFresh cache.old grid.old → IsHonest grid.old →
+        HasRoomFor grid.old (upload_in e request) →
+        NoneFailed grid.old grid.new → IfOk result (λ reply.
+        reply ≡ request_reply e (look_in (stood grid.old)) request) }
+    ensures stored { let e = mapping mapped (encoding_of k n secret.now) in
+        IsHonest grid.old → HasRoomFor grid.old (upload_in e request) →
+        NoneFailed grid.old grid.new → OnOk result
+        (IsStoredIn (upload_in e request) grid.old grid.new) }
+    ensures world { let e = mapping mapped (encoding_of k n secret.now) in
+        IsHonest grid.old → HasRoomFor grid.old (upload_in e request) →
+        NoneFailed grid.old grid.new → OnOk result
+        (Follows (upload_in e request) grid.old grid.new) }
+{
     match request {
         Request::Put(bytes) => put(alloc, grid, k, n, secret, bytes),
         Request::Mkdir(json) => make_directory(alloc, grid, k, n, secret, json.as_slice()),
@@ -87,7 +137,9 @@ pub fn perform<S: Store>(
             let range_to_apply = range_to_apply(head_only, range);
             get(alloc, grid, cache, &cap, &names, json, range_to_apply)
         }
-        Request::Check { cap, names, verify } => check(alloc, grid, cache, &cap, &names, verify),
+        Request::Check { cap, names, verify } => check(
+            alloc, grid, cache, &cap, &names, verify, mapped,
+        ),
     }
 }
 

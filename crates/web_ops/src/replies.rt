@@ -1,12 +1,12 @@
 //! The replies that are given.
 ghost use Rattle.std.specs.Prelude.{◌≡◌, ◌∷◌, [], ◌++◌, ◌≤◌, ◌<◌, length, IfOk, Some, None};
 ghost use Rattle.caps.specs.CapTexts.{cap_text};
-ghost use Rattle.web_ops.specs.Replies.{reply_with, cap_reply, json_reply, file_reply, part_reply, unsatisfiable, bytes_reply};
+ghost use Rattle.web_ops.specs.Replies.{reply_with, of_file, cap_reply, json_reply, file_reply, part_reply, not_modified, unsatisfiable, bytes_reply};
 
 use crate::body::Body;
 use crate::part::Part;
 use crate::reply::{Field, Fields, MediaType, Reply, Status};
-use caps::Cap;
+use caps::{Cap, VerifyFields};
 use chk_file::Download;
 use octets::Bytes;
 use range_view::{Resolved, resolve};
@@ -18,7 +18,31 @@ pub fn reply_with(status: Status, content_type: MediaType, more: Option<Field>, 
 {
     Reply {
         status,
-        fields: Fields { content_type, more },
+        fields: Fields {
+            content_type,
+            more,
+            file: None,
+        },
+        body,
+    }
+}
+
+/// The same reply, of bytes of this stored file, if there is one.
+fn of_file(file: Option<VerifyFields>, reply: Reply) -> Reply
+    ensures { result ≡ of_file file reply }
+{
+    let Reply {
+        status,
+        fields,
+        body,
+    } = reply;
+    Reply {
+        status,
+        fields: Fields {
+            content_type: fields.content_type,
+            more: fields.more,
+            file,
+        },
         body,
     }
 }
@@ -54,17 +78,46 @@ pub fn json_reply(text: Vec<u8>) -> Reply
     reply_with(Status::Ok, MediaType::Json, None, body)
 }
 
-/// The bytes of a file that are at hand, which are moved, or a copy of as many of them as a range asks for.
+/// The bytes that stand in a cap, which are moved, or a copy of as many of them as a range asks for.
 pub fn bytes_reply(alloc: Global, range: Option<Bytes>, bytes: Bytes) -> Result<Reply, AllocError>
-    ensures { IfOk result (λ reply. reply ≡ bytes_reply range bytes) }
+    ensures { IfOk result (λ reply. reply ≡ bytes_reply None range bytes) }
+{
+    narrowed_by(alloc, range, None, Body::from_bytes(bytes))
+}
+
+/// The bytes of a reply, or as many of them as this range asks for: a reply with bytes of the same file.
+pub fn narrowed(alloc: Global, range: Bytes, reply: Reply) -> Result<Reply, AllocError>
+    ensures { IfOk result (λ part. part ≡ bytes_reply reply.fields.file (Some range) reply.body) }
+{
+    narrowed_by(alloc, Some(range), reply.fields.file, reply.body)
+}
+
+/// The reply to a request that has the bytes of a reply already.
+pub fn not_modified(alloc: Global, reply: Reply) -> Reply
+    ensures { result ≡ not_modified reply.fields.file }
+{
+    let body = Body::from_bytes(Bytes::new(alloc));
+    let bare = reply_with(Status::NotModified, MediaType::OctetStream, None, body);
+    of_file(reply.fields.file, bare)
+}
+
+/// These bytes, or as many of them as a range asks for.
+fn narrowed_by(
+    alloc: Global,
+    range: Option<Bytes>,
+    file: Option<VerifyFields>,
+    body: Body,
+) -> Result<Reply, AllocError>
+    ensures { IfOk result (λ reply. reply ≡ bytes_reply file range body) }
 {
     let Some(range) = range else {
-        return Ok(file_reply(Body::from_bytes(bytes)));
+        return Ok(file_reply(file, body));
     };
-    match resolve(range.as_slice(), bytes.len() as u64) {
-        Resolved::Whole => Ok(file_reply(Body::from_bytes(bytes))),
-        Resolved::Part(from, to) => copy_reply(alloc, from, to, bytes.as_slice()),
-        Resolved::Unsatisfiable => unsatisfiable(alloc, bytes.len() as u64),
+    let size = body.len() as u64;
+    match resolve(range.as_slice(), size) {
+        Resolved::Whole => Ok(file_reply(file, body)),
+        Resolved::Part(from, to) => part_reply(alloc, file, from, to, body),
+        Resolved::Unsatisfiable => Ok(of_file(file, unsatisfiable(alloc, size)?)),
     }
 }
 
@@ -72,72 +125,47 @@ pub fn bytes_reply(alloc: Global, range: Option<Bytes>, bytes: Bytes) -> Result<
 pub fn download_reply(
     alloc: Global,
     range: Option<Bytes>,
+    file: Option<VerifyFields>,
     size: u64,
     download: Download,
 ) -> Result<Reply, AllocError>
     requires { length download.left ≡ size }
-    ensures { IfOk result (λ reply. reply ≡ bytes_reply range download.left) }
+    ensures { IfOk result (λ reply. reply ≡ bytes_reply file range download.left) }
 {
-    let Some(range) = range else {
-        return Ok(whole_reply(size, download));
-    };
-    match resolve(range.as_slice(), size) {
-        Resolved::Whole => Ok(whole_reply(size, download)),
-        Resolved::Part(from, to) => Ok(part_reply(from, to, size, download)),
-        Resolved::Unsatisfiable => unsatisfiable(alloc, size),
-    }
+    let part = Part::new(download, 0, size as usize);
+    narrowed_by(alloc, range, file, Body::from_part(part))
 }
 
 /// A file's bytes.
-fn file_reply(body: Body) -> Reply
-    ensures { result ≡ file_reply body }
+fn file_reply(file: Option<VerifyFields>, body: Body) -> Reply
+    ensures { result ≡ file_reply file body }
 {
-    reply_with(Status::Ok, MediaType::OctetStream, None, body)
+    let reply = reply_with(Status::Ok, MediaType::OctetStream, None, body);
+    of_file(file, reply)
 }
 
-/// All bytes of a file of this size.
-fn whole_reply(size: u64, download: Download) -> Reply
-    requires { length download.left ≡ size }
-    ensures { result ≡ file_reply download.left }
+/// A file's bytes from one place to another, both of them too.
+fn part_reply(
+    alloc: Global,
+    file: Option<VerifyFields>,
+    from: u64,
+    to: u64,
+    body: Body,
+) -> Result<Reply, AllocError>
+    requires order { from ≤ to }
+    requires inside { to < length body }
+    ensures { IfOk result (λ reply. reply ≡ part_reply file from to body) }
 {
-    let part = Part::new(download, 0, size as usize);
-    file_reply(Body::from_part(part))
-}
-
-/// What stands from one place to another of a file of this size, both of them too.
-fn partial_reply(from: u64, to: u64, size: u64, body: Body) -> Reply
-    ensures { result ≡ reply_with Status.PartialContent MediaType.OctetStream
-        (Some (Field.ContentRange from to size)) body }
-{
-    let range = Field::ContentRange(from, to, size);
-    reply_with(
+    let range = Field::ContentRange(from, to, body.len() as u64);
+    let (first, count) = (from as usize, to as usize + 1 - from as usize);
+    let part = body.narrow(alloc, first, count)?;
+    let reply = reply_with(
         Status::PartialContent,
         MediaType::OctetStream,
         Some(range),
-        body,
-    )
-}
-
-/// A copy of the bytes from one place to another, both of them too.
-fn copy_reply(alloc: Global, from: u64, to: u64, bytes: &[u8]) -> Result<Reply, AllocError>
-    requires order { from ≤ to }
-    requires inside { to < length bytes.now }
-    ensures { IfOk result (λ reply. reply ≡ part_reply from to bytes.now) }
-{
-    let part = &bytes[from as usize..to as usize + 1];
-    let body = Body::from_bytes(Bytes::from_slice(alloc, part)?);
-    Ok(partial_reply(from, to, bytes.len() as u64, body))
-}
-
-/// The bytes of a file of this size from one place to another, both of them too.
-fn part_reply(from: u64, to: u64, size: u64, download: Download) -> Reply
-    requires order { from ≤ to }
-    requires inside { to < size }
-    requires size { length download.left ≡ size }
-    ensures { result ≡ part_reply from to download.left }
-{
-    let part = Part::new(download, from as usize, to as usize + 1 - from as usize);
-    partial_reply(from, to, size, Body::from_part(part))
+        part,
+    );
+    Ok(of_file(file, reply))
 }
 
 /// No byte of a file of this size is in the range.

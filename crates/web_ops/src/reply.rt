@@ -1,6 +1,7 @@
 //! Replies.
 
 use crate::body::Body;
+use caps::VerifyFields;
 use web_request::Resource;
 
 /// The status of a reply (RFC 9110, section 15).
@@ -8,6 +9,7 @@ use web_request::Resource;
 pub enum Status {
     Ok = 200,
     PartialContent = 206,
+    NotModified = 304,
     BadRequest = 400,
     NotFound = 404,
     MethodNotAllowed = 405,
@@ -59,6 +61,8 @@ pub struct Fields {
     pub content_type: MediaType,
     /// What stands after it.
     pub more: Option<Field>,
+    /// The stored file that the body's bytes are of, if they are one's.
+    pub file: Option<VerifyFields>,
 }
 
 /// A reply. Its body is that of GET, also where the request was for the head alone.

@@ -43,6 +43,13 @@ impl SharedBytes {
         Ok(SharedBytes { bytes, at: self.at })
     }
 
+    /// The bytes that are left.
+    pub(crate) fn as_slice(&self) -> &[u8]
+        ensures { result.now ≡ self.now }
+    {
+        &self.bytes[self.at..]
+    }
+
     /// How many bytes are left.
     pub fn len(&self) -> usize
         ensures { result ≡ length self.now }

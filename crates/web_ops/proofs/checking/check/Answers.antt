@@ -11,7 +11,7 @@ use Rattle.web_ops.proofs.checking.check.Goals as goal
 pub returns-in-Ok-clause-found : goal.returns-in-Ok-clause-found
 returns-in-Ok-clause-found g c =
     from_somewhere _ (is_verify_cap c.args.cap.now && not (length c.args.names.now == 0)) _ _ c.args.cap.now c.args.names.now c.health.result c.args.grid.now c.health.new.grid (sym c.leads_nowhere.ensures ∙ c.if-leads_nowhere.false)
-    (walked_to _ ⊤ (λ end. IsHealth (weakened end)) (λ look. health_reply look c.args.verify) c.args.cap.now c.args.names.now c.in-Ok.end c.health.result c.args.grid.now c.walk.new.grid c.health.new.grid
+    (walked_to _ ⊤ (λ end. IsHealth c.args.mapped (weakened end)) (λ look. health_reply c.args.mapped look c.args.verify) c.args.cap.now c.args.names.now c.in-Ok.end c.health.result c.args.grid.now c.walk.new.grid c.health.new.grid
     c.walk.ensures.leaves c.walk.ensures.unchanged (λ fresh. tt) c.in-Ok.ensures.leads c.in-Ok.ensures.reached c.health.ensures.found)
 
 pub returns-in-Ok-clause-fresh : goal.returns-in-Ok-clause-fresh
@@ -21,5 +21,5 @@ returns-in-Ok-clause-fresh g c fresh =
 pub returns-in-Err-clause-found : goal.returns-in-Err-clause-found
 returns-in-Err-clause-found g c =
     from_somewhere _ (is_verify_cap c.args.cap.now && not (length c.args.names.now == 0)) _ _ c.args.cap.now c.args.names.now c.walk_refused.result c.args.grid.now c.walk.new.grid (sym c.leads_nowhere.ensures ∙ c.if-leads_nowhere.false)
-    (walk_stopped _ (λ end. IsHealth (weakened end)) (λ look. health_reply look c.args.verify) c.args.cap.now c.args.names.now c.in-Err.fault c.walk_refused.result c.args.grid.now c.walk.new.grid
+    (walk_stopped _ (λ end. IsHealth c.args.mapped (weakened end)) (λ look. health_reply c.args.mapped look c.args.verify) c.args.cap.now c.args.names.now c.in-Err.fault c.walk_refused.result c.args.grid.now c.walk.new.grid
     c.walk.ensures.leaves c.walk.ensures.unchanged c.in-Err.ensures.stops c.in-Err.ensures.refused c.walk_refused.ensures)

@@ -16,7 +16,7 @@ returns-clause-given c =
     let given : IsGiven segment.items c.self.inside.download c.next.new.self =
     subst (λ given. MatchOption given (IsDone c.self.inside.download c.next.new.self) (λ bytes. IsGiven bytes.items c.self.inside.download c.next.new.self)) c.in-Some.is c.in_ok-segment.ensures.given in
     let some : 0 < count = omega (arith, c.if-self-eq0.false) in
-    let inside : skip < length segment.items = omega (arith, c.self.invariant.0, c.self.invariant.1 some, some, ap length given.is ∙ length-take each left) in
+    let inside : skip < length segment.items = omega (arith, c.self.invariant.0, c.self.invariant.1.0 some, some, ap length given.is ∙ length-take each left) in
     let is = found left segment.items rest each skip given.is given.left in
     let counted : many ≡ min count (length segment.items - skip) = (let a = segment.ok.0 in omega arith) in (
       subst (λ l. 0 < length l) (sym c.cut.ensures) (some_given count skip skip many left segment.items rest is inside counted some),
