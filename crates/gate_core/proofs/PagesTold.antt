@@ -16,7 +16,7 @@ use Rattle.gate_core.specs.declared.pages.Page.{Page}
 use Rattle.gate_core.specs.Settings.{Settings, under, with_pages}
 use Rattle.gate_core.specs.Pages.{page_at, is_elsewhere, is_reading, page_read, page_or_refusal}
 use Rattle.gate_core.specs.Requests.{asked_of}
-use Rattle.gate_core.specs.Wire.{wire_reply}
+use Rattle.gate_core.specs.Browsers.{sent_reply}
 use Rattle.gate_core.specs.Answers.{asked_reply, answer}
 use Rattle.gate_core.specs.Items.{Entry, Asked, Lost, Spoiled}
 use Rattle.gate_core.specs.Runs.{upload_by, after_entry, world_after}
@@ -28,10 +28,10 @@ use Rattle.web_request.specs.Targets.{path_in}
 
 pub told_page : (s : Settings) (look : Look) (head : Head) (body : List ℕ) (close : Bool) (fault : WebFault) (page : Page) → asked_of head body ≡ Err fault
     → page_read s.pages head.method head.target fault ≡ Some page
-    → answer s look (RequestItem head body close) ≡ rendered (wire_reply (page_reply page.kind page.body)) (is_head_request head) close
+    → answer s look (RequestItem head body close) ≡ rendered (sent_reply s.for_browsers head (page_reply page.kind page.body)) (is_head_request head) close
 unfolding answer
 told_page s look head body close fault page asks reads =
-    ap (λ r. rendered (wire_reply r) (is_head_request head) close) (ap (asked_reply s look head) asks ∙ ap (page_or_refusal fault) reads)
+    ap (λ r. rendered (sent_reply s.for_browsers head r) (is_head_request head) close) (ap (asked_reply s look head) asks ∙ ap (page_or_refusal fault) reads)
 
 none_at : (path : Option (List ℕ)) → page_at [] path ≡ None
 none_at None = refl
@@ -46,10 +46,10 @@ unfolding page_read
 none_read method target fault = none_if (is_elsewhere fault && is_reading method) (page_at [] (path_in target)) (none_at (path_in target))
 
 pub told_none : (s : Settings) (look : Look) (head : Head) (body : List ℕ) (close : Bool) (fault : WebFault) → asked_of head body ≡ Err fault
-    → answer (with_pages s []) look (RequestItem head body close) ≡ rendered (wire_reply (refusal_reply fault)) (is_head_request head) close
+    → answer (with_pages s []) look (RequestItem head body close) ≡ rendered (sent_reply s.for_browsers head (refusal_reply fault)) (is_head_request head) close
 unfolding answer
 told_none s look head body close fault asks =
-    ap (λ r. rendered (wire_reply r) (is_head_request head) close) (ap (asked_reply (with_pages s []) look head) asks ∙ ap (page_or_refusal fault) (none_read head.method head.target fault))
+    ap (λ r. rendered (sent_reply s.for_browsers head r) (is_head_request head) close) (ap (asked_reply (with_pages s []) look head) asks ∙ ap (page_or_refusal fault) (none_read head.method head.target fault))
 
 -- ---- what stands
 

@@ -1,5 +1,5 @@
 -- What carrying out a request comes to, and what refusing it.
-use Rattle.std.proofs.Common.{◌≡◌, ◌≢◌, ℕ, ◌+◌, ◌-◌, ◌≤◌, List, length, Option, Some, None, Result, Ok, Err, refl, sym, ap, subst, ◌∙◌, arith}
+use Rattle.std.proofs.Common.{◌≡◌, ◌≢◌, ℕ, ◌+◌, ◌-◌, ◌≤◌, Bool, List, length, Option, Some, None, Result, Ok, Err, refl, sym, ap, subst, ◌∙◌, arith}
 use Rattle.std.specs.Prelude.{IfOk, OnOk, IsErr}
 use Rattle.http_edge.specs.declared.item.Head.{Head}
 use Rattle.grid.specs.Standing.{standing}
@@ -19,7 +19,7 @@ use Rattle.web_request.specs.declared.fault.WebFault.{WebFault}
 use Rattle.web_request.specs.declared.fault.WebFault.TheVariants.{NoMemory}
 use Rattle.web_request.specs.Requests.{interpreted}
 use Rattle.web_ops.specs.declared.reply.Reply.{Reply}
-use Rattle.web_ops.specs.Encoding.{Encoding, encoding_of}
+use Rattle.web_ops.specs.Encoding.{Encoding, encoding_of, mapping}
 use Rattle.web_ops.specs.Uploads.{upload_in, after_stored}
 use Rattle.web_ops.specs.Answers.{request_reply}
 use Rattle.web_ops.specs.Replied.{IsReply}
@@ -110,33 +110,37 @@ asked_as : (head : Head) (body : List ℕ) (same : WebHead) (asked : Interpreted
 unfolding asked_of
 asked_as head body same asked is read = ap (λ h. interpreted h body) (sym is) ∙ read
 
-same_encoding : (e : Encoding) (k n : ℕ) (secret : List ℕ) → k ≡ e.k → n ≡ e.n → secret ≡ e.secret → encoding_of k n secret ≡ e
-same_encoding e k n secret a b c i = record { k = a i; n = b i; secret = c i }
+-- the encoding of these parts
+abbrev pub parts_as : ℕ → ℕ → List ℕ → Bool → Encoding
+parts_as k n secret mapped = mapping mapped (encoding_of k n secret)
 
-pub carried_out : {E : Type 0} (e : Encoding) (pages : List Page) (k n : ℕ) (secret : List ℕ) (head : Head) (body : List ℕ) (same : WebHead) (request : Request) (r : Result Reply E) (old new : GridState)
-    → k ≡ e.k → n ≡ e.n → secret ≡ e.secret
+same_encoding : (e : Encoding) (k n : ℕ) (secret : List ℕ) (mapped : Bool) → k ≡ e.k → n ≡ e.n → secret ≡ e.secret → mapped ≡ e.mapped → parts_as k n secret mapped ≡ e
+same_encoding e k n secret mapped a b c d i = record { k = a i; n = b i; secret = c i; mapped = d i }
+
+pub carried_out : {E : Type 0} (e : Encoding) (pages : List Page) (k n : ℕ) (secret : List ℕ) (mapped : Bool) (head : Head) (body : List ℕ) (same : WebHead) (request : Request) (r : Result Reply E) (old new : GridState)
+    → k ≡ e.k → n ≡ e.n → secret ≡ e.secret → mapped ≡ e.mapped
     → same ≡ web_head head → interpreted same body ≡ Ok request → Leaves old new
-    → IfOk r (λ reply. IsReply (encoding_of k n secret) request reply)
-    → (IsHonest old → HasRoomFor old (upload_in (encoding_of k n secret) request) → NoneFailed old new → IfOk r (λ reply. reply ≡ request_reply (encoding_of k n secret) (look_in (stood old)) request))
-    → (IsHonest old → HasRoomFor old (upload_in (encoding_of k n secret) request) → NoneFailed old new → OnOk r (IsStoredIn (upload_in (encoding_of k n secret) request) old new))
-    → (IsHonest old → HasRoomFor old (upload_in (encoding_of k n secret) request) → NoneFailed old new → OnOk r (Follows (upload_in (encoding_of k n secret) request) old new))
-    → OnOk r (BringsBytes (upload_in (encoding_of k n secret) request))
-    → IfOk r (λ reply. TellsOfIn (upload_in (encoding_of k n secret) request) reply old new)
+    → IfOk r (λ reply. IsReply (parts_as k n secret mapped) request reply)
+    → (IsHonest old → HasRoomFor old (upload_in (parts_as k n secret mapped) request) → NoneFailed old new → IfOk r (λ reply. reply ≡ request_reply (parts_as k n secret mapped) (look_in (stood old)) request))
+    → (IsHonest old → HasRoomFor old (upload_in (parts_as k n secret mapped) request) → NoneFailed old new → OnOk r (IsStoredIn (upload_in (parts_as k n secret mapped) request) old new))
+    → (IsHonest old → HasRoomFor old (upload_in (parts_as k n secret mapped) request) → NoneFailed old new → OnOk r (Follows (upload_in (parts_as k n secret mapped) request) old new))
+    → OnOk r (BringsBytes (upload_in (parts_as k n secret mapped) request))
+    → IfOk r (λ reply. TellsOfIn (upload_in (parts_as k n secret mapped) request) reply old new)
     → IfOk r (λ reply. IsCarriedOut (settings_of (setup_of e pages) (length old.stores)) head (asked_of head body) reply old new)
-carried_out e pages k n secret head body same request r old new is_k is_n is_secret is_head read leaves fits written stored follows bytes tells =
+carried_out e pages k n secret mapped head body same request r old new is_k is_n is_secret is_mapped is_head read leaves fits written stored follows bytes tells =
     subst (λ asked. IfOk r (λ reply. IsCarriedOut (settings_of (setup_of e pages) (length old.stores)) head asked reply old new)) (sym (asked_as head body same (Ok request) is_head read))
-    (subst (λ f. IfOk r (λ reply. IsCarriedOut (settings_of (setup_of f pages) (length old.stores)) head (Ok request) reply old new)) (same_encoding e k n secret is_k is_n is_secret)
-    (performed (encoding_of k n secret) pages head request r old new leaves fits written stored follows bytes tells))
+    (subst (λ f. IfOk r (λ reply. IsCarriedOut (settings_of (setup_of f pages) (length old.stores)) head (Ok request) reply old new)) (same_encoding e k n secret mapped is_k is_n is_secret is_mapped)
+    (performed (parts_as k n secret mapped) pages head request r old new leaves fits written stored follows bytes tells))
 
 -- a beginning of its upload was put, if any
-pub begun_out : (e : Encoding) (k n : ℕ) (secret : List ℕ) (head : Head) (body : List ℕ) (same : WebHead) (request : Request) (old new : GridState)
-    → k ≡ e.k → n ≡ e.n → secret ≡ e.secret
+pub begun_out : (e : Encoding) (k n : ℕ) (secret : List ℕ) (mapped : Bool) (head : Head) (body : List ℕ) (same : WebHead) (request : Request) (old new : GridState)
+    → k ≡ e.k → n ≡ e.n → secret ≡ e.secret → mapped ≡ e.mapped
     → same ≡ web_head head → interpreted same body ≡ Ok request
-    → (IsHonest old → IsBegunIn (upload_in (encoding_of k n secret) request) old new)
+    → (IsHonest old → IsBegunIn (upload_in (parts_as k n secret mapped) request) old new)
     → IsHonest old → IsBegunIn (upload_asked e (asked_of head body)) old new
-begun_out e k n secret head body same request old new is_k is_n is_secret is_head read begun honest =
+begun_out e k n secret mapped head body same request old new is_k is_n is_secret is_mapped is_head read begun honest =
     subst (λ asked. IsBegunIn (upload_asked e asked) old new) (sym (asked_as head body same (Ok request) is_head read))
-    (subst (λ f. IsBegunIn (upload_in f request) old new) (same_encoding e k n secret is_k is_n is_secret) (begun honest))
+    (subst (λ f. IsBegunIn (upload_in f request) old new) (same_encoding e k n secret mapped is_k is_n is_secret is_mapped) (begun honest))
 
 -- where nothing was done, nothing of it was put
 pub nothing_begun : (o : Option Upload) (g : GridState) → IsBegunIn o g g

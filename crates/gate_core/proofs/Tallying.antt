@@ -9,9 +9,8 @@ use Rattle.http_edge.specs.declared.item.FramingFault.{FramingFault}
 use Rattle.http_edge.specs.declared.reply.Reply.{Reply}
 use Rattle.http_edge.specs.Judge.{is_head_request}
 use Rattle.http_edge.specs.Reply.{rendered, continue_text}
-use Rattle.web_ops.specs.declared.reply.Reply.{Reply as WebReply}
 use Rattle.gate_core.specs.declared.tally.Tally.{Tally}
-use Rattle.gate_core.specs.Wire.{wire_reply, framing_reply}
+use Rattle.gate_core.specs.Wire.{framing_reply}
 use Rattle.gate_core.specs.Tallies.{counted, AreTallied, AreTalliedAfter}
 
 -- two facts where a result is Ok
@@ -48,17 +47,17 @@ tallied_output items before after output s t waits all = subst (λ o. AreTallied
 
 -- ---- one item
 
-pub tallied_request : (item : Item) (head : Head) (body : List ℕ) (close asked : Bool) (given : WebReply) (reply : Reply) (before after : List ℕ) (old new : Tally)
-    → item ≡ RequestItem head body close → asked ≡ is_head_request head → reply ≡ wire_reply given
+pub tallied_request : (item : Item) (head : Head) (body : List ℕ) (close asked : Bool) (reply : Reply) (before after : List ℕ) (old new : Tally)
+    → item ≡ RequestItem head body close → asked ≡ is_head_request head
     → after ≡ before ++ rendered reply asked close → new ≡ counted reply.status old → AreTalliedAfter (item ∷ []) before after old new
-tallied_request item head body close asked given reply before after old new is head_only sends pushed counts =
+tallied_request item head body close asked reply before after old new is head_only pushed counts =
     let text = rendered reply (is_head_request head) close in
     record {
       output = text;
       waits = pushed ∙ ap (λ b. before ++ rendered reply b close) head_only;
       tallied =
           subst (λ x. AreTallied (x ∷ []) text old new) (sym is)
-          (text, [], new, sym (append-nil text), (given, (ap (λ r. rendered r (is_head_request head) close) sends, counts ∙ ap (λ (r : Reply). counted r.status old) sends)), (refl, refl));
+          (text, [], new, sym (append-nil text), (reply, (refl, counts)), (refl, refl));
     }
 
 pub tallied_fault : (item : Item) (fault : FramingFault) (head_only : Bool) (reply : Reply) (before after : List ℕ) (old new : Tally)

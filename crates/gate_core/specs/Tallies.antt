@@ -5,16 +5,17 @@ use Rattle.http_edge.specs.declared.item.Item.{Item}
 use Rattle.http_edge.specs.declared.item.Item.TheVariants.{Request as RequestItem, Continue, Fault}
 use Rattle.http_edge.specs.declared.reply.Status.{Status}
 use Rattle.http_edge.specs.declared.reply.Status.TheVariants as statuses
+use Rattle.http_edge.specs.declared.reply.Reply.{Reply}
 use Rattle.http_edge.specs.Judge.{is_head_request}
 use Rattle.http_edge.specs.Reply.{rendered, continue_text}
-use Rattle.web_ops.specs.declared.reply.Reply.{Reply as WebReply}
 use Rattle.gate_core.specs.declared.tally.Tally.{Tally}
-use Rattle.gate_core.specs.Wire.{wire_reply, framing_reply}
+use Rattle.gate_core.specs.Wire.{framing_reply}
 
 abbrev pub nothing_counted : Tally
 nothing_counted = record {
   ok = 0;
   partial_content = 0;
+  not_modified = 0;
   bad_request = 0;
   not_found = 0;
   method_not_allowed = 0;
@@ -32,6 +33,7 @@ one_more n = min (n + 1) (2 ^ 64 - 1)
 abbrev pub counted : Status → Tally → Tally
 counted statuses.Ok t = record t { ok = one_more t.ok }
 counted statuses.PartialContent t = record t { partial_content = one_more t.partial_content }
+counted statuses.NotModified t = record t { not_modified = one_more t.not_modified }
 counted statuses.BadRequest t = record t { bad_request = one_more t.bad_request }
 counted statuses.NotFound t = record t { not_found = one_more t.not_found }
 counted statuses.MethodNotAllowed t = record t { method_not_allowed = one_more t.method_not_allowed }
@@ -47,7 +49,7 @@ counted statuses.ServiceUnavailable t = record t { service_unavailable = one_mor
 -- counts nothing.
 abbrev pub IsTallied : Item → List ℕ → Tally → Tally → Type 0
 IsTallied (RequestItem head body close) text old new =
-    (given : WebReply) × ((text ≡ rendered (wire_reply given) (is_head_request head) close) × (new ≡ counted (wire_reply given).status old))
+    (reply : Reply) × ((text ≡ rendered reply (is_head_request head) close) × (new ≡ counted reply.status old))
 IsTallied Continue text old new = (text ≡ continue_text) × (new ≡ old)
 IsTallied (Fault fault head_only) text old new = (text ≡ rendered (framing_reply fault) head_only true) × (new ≡ counted (framing_reply fault).status old)
 
@@ -68,7 +70,7 @@ pub record AreTalliedAfter (items : List Item) (before after : List ℕ) (old ne
 -- a tally is stored as the tuple of its numbers
 abbrev pub tally_code : Coded Tally
 tally_code =
-    code_by (ℕ × (ℕ × (ℕ × (ℕ × (ℕ × (ℕ × (ℕ × (ℕ × (ℕ × ℕ))))))))) (coded× coded_ℕ (coded× coded_ℕ (coded× coded_ℕ (coded× coded_ℕ (coded× coded_ℕ (coded× coded_ℕ (coded× coded_ℕ (coded× coded_ℕ (coded× coded_ℕ coded_ℕ)))))))))
-    (λ t. (t.ok, (t.partial_content, (t.bad_request, (t.not_found, (t.method_not_allowed, (t.gone, (t.content_too_large, (t.range_not_satisfiable, (t.not_implemented, t.service_unavailable))))))))))
-    (λ p. record { ok = p.0; partial_content = p.1.0; bad_request = p.1.1.0; not_found = p.1.1.1.0; method_not_allowed = p.1.1.1.1.0; gone = p.1.1.1.1.1.0; content_too_large = p.1.1.1.1.1.1.0; range_not_satisfiable = p.1.1.1.1.1.1.1.0; not_implemented = p.1.1.1.1.1.1.1.1.0; service_unavailable = p.1.1.1.1.1.1.1.1.1 })
+    code_by (ℕ × (ℕ × (ℕ × (ℕ × (ℕ × (ℕ × (ℕ × (ℕ × (ℕ × (ℕ × ℕ)))))))))) (coded× coded_ℕ (coded× coded_ℕ (coded× coded_ℕ (coded× coded_ℕ (coded× coded_ℕ (coded× coded_ℕ (coded× coded_ℕ (coded× coded_ℕ (coded× coded_ℕ (coded× coded_ℕ coded_ℕ))))))))))
+    (λ t. (t.ok, (t.partial_content, (t.not_modified, (t.bad_request, (t.not_found, (t.method_not_allowed, (t.gone, (t.content_too_large, (t.range_not_satisfiable, (t.not_implemented, t.service_unavailable)))))))))))
+    (λ p. record { ok = p.0; partial_content = p.1.0; not_modified = p.1.1.0; bad_request = p.1.1.1.0; not_found = p.1.1.1.1.0; method_not_allowed = p.1.1.1.1.1.0; gone = p.1.1.1.1.1.1.0; content_too_large = p.1.1.1.1.1.1.1.0; range_not_satisfiable = p.1.1.1.1.1.1.1.1.0; not_implemented = p.1.1.1.1.1.1.1.1.1.0; service_unavailable = p.1.1.1.1.1.1.1.1.1.1 })
     (λ _. refl)

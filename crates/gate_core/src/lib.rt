@@ -12,6 +12,8 @@ mod parameters;
 mod answerer;
 /// Replies as they are sent.
 mod wire;
+/// Replies as browsers make use of them.
+mod browsers;
 /// Bytes that are taken from the front of a buffer.
 mod queue;
 /// Bytes that wait to be taken.

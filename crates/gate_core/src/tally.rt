@@ -10,6 +10,7 @@ use http_edge::Status;
 pub struct Tally {
     pub ok: u64,
     pub partial_content: u64,
+    pub not_modified: u64,
     pub bad_request: u64,
     pub not_found: u64,
     pub method_not_allowed: u64,
@@ -28,6 +29,7 @@ impl Tally {
         Tally {
             ok: 0,
             partial_content: 0,
+            not_modified: 0,
             bad_request: 0,
             not_found: 0,
             method_not_allowed: 0,
@@ -46,6 +48,7 @@ impl Tally {
         match status {
             Status::Ok => self.ok = one_more(self.ok),
             Status::PartialContent => self.partial_content = one_more(self.partial_content),
+            Status::NotModified => self.not_modified = one_more(self.not_modified),
             Status::BadRequest => self.bad_request = one_more(self.bad_request),
             Status::NotFound => self.not_found = one_more(self.not_found),
             Status::MethodNotAllowed => {

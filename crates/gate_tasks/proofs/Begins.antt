@@ -71,10 +71,10 @@ refused_with grid servers secret fault P a b accepted never refused =
 
 -- ---- `grid`
 
-pub set_is : (grid : Grid) (secret : List ℕ) (servers : ℕ) → secret ≡ grid.secret → servers ≡ grid.servers → (let s : Settings = record { k = grid.k; n = grid.n; secret = secret; servers = servers; pages = [] } in s) ≡ settings_by grid
+pub set_is : (grid : Grid) (secret : List ℕ) (servers : ℕ) → secret ≡ grid.secret → servers ≡ grid.servers → (let s : Settings = record { k = grid.k; n = grid.n; secret = secret; servers = servers; pages = []; for_browsers = false } in s) ≡ settings_by grid
 set_is grid secret servers a b =
-    ap (λ q. let s : Settings = record { k = grid.k; n = grid.n; secret = q; servers = servers; pages = [] } in s) a
-    ∙ ap (λ q. let s : Settings = record { k = grid.k; n = grid.n; secret = grid.secret; servers = q; pages = [] } in s) b
+    ap (λ q. let s : Settings = record { k = grid.k; n = grid.n; secret = q; servers = servers; pages = []; for_browsers = false } in s) a
+    ∙ ap (λ q. let s : Settings = record { k = grid.k; n = grid.n; secret = grid.secret; servers = q; pages = []; for_browsers = false } in s) b
 
 came_first : (grid : Grid) (g : State) → g.grid.stores ≡ replicate grid.servers (fresh grid.room) → Starts empty g → Came (opening_by grid) g []
 unfolding items

@@ -1,5 +1,5 @@
 -- Which replies commands get, by what was called before.
-use Rattle.std.specs.Prelude.{◌≡◌, ℕ, ◌+◌, ◌&&◌, not, nat_le, nat_lt, ◌⊎◌, List, [], ◌∷◌, ◌++◌, length, take, drop, replicate, ⊤, Bool, is_some, unwrap_or, if◌then◌else◌, Option, Some, None}
+use Rattle.std.specs.Prelude.{◌≡◌, ℕ, ◌+◌, ◌&&◌, not, nat_le, nat_lt, ◌⊎◌, List, [], ◌∷◌, ◌++◌, length, take, drop, replicate, ⊤, Bool, false, is_some, unwrap_or, if◌then◌else◌, Option, Some, None}
 use Rattle.grid.specs.declared.fault.GridFault.TheVariants.{NoServer, BadImage, Full}
 use Rattle.grid.specs.GridState.{GridState}
 use Rattle.grid.specs.Stamps.{never_raised}
@@ -43,7 +43,7 @@ pub record CallStep : Type 0 where
 
 -- what the line `grid` sets a gateway up with
 abbrev pub settings_by : Grid → Settings
-settings_by grid = record { k = grid.k; n = grid.n; secret = grid.secret; servers = grid.servers; pages = [] }
+settings_by grid = record { k = grid.k; n = grid.n; secret = grid.secret; servers = grid.servers; pages = []; for_browsers = false }
 
 -- a gateway has these parameters
 abbrev pub are_parameters : Grid → Bool

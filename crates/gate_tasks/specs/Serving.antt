@@ -1,5 +1,5 @@
 -- What a server begins with.
-use Rattle.std.specs.Prelude.{ℕ, List, [], replicate}
+use Rattle.std.specs.Prelude.{ℕ, false, List, [], replicate}
 use Rattle.std.specs.FinMap as finite
 use Rattle.grid.specs.Stamps.{never_raised}
 use Rattle.gate_core.specs.ConnectionState.{State}
@@ -14,7 +14,7 @@ server_room = 1073741824
 -- called yet, nothing stands, and no reply was made.
 abbrev pub set_up_with : List ℕ → State
 set_up_with secret = record {
-  settings = record { k = 3; n = 10; secret = secret; servers = 5; pages = [] };
+  settings = record { k = 3; n = 10; secret = secret; servers = 5; pages = []; for_browsers = false };
   connections = finite.empty;
   grid = record { stores = replicate 5 (fresh server_room); stamps = never_raised };
   tally = nothing_counted;

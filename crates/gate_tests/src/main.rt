@@ -11,6 +11,9 @@ mod hostile;
 /// Connections that are forgotten.
 #[cfg(test)]
 mod forgetting;
+/// Replies for browsers.
+#[cfg(test)]
+mod browsers;
 /// A body of the longest length.
 #[cfg(test)]
 mod longest;

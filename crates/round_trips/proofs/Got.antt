@@ -4,6 +4,7 @@ use Rattle.octets.specs.Sharing.{IsSharing}
 use Rattle.tag_hash.specs.Tagged.{tagged16}
 use Rattle.erasure.specs.Code.{AreBytes}
 use Rattle.caps.specs.Fields.{ReadValue}
+use Rattle.caps.specs.Weakening.{verify_fields}
 use Rattle.caps.specs.CapTexts.{IsCapText}
 use Rattle.caps.specs.declared.cap.Cap.TheVariants.{Chk, DirChk}
 use Rattle.dir_codec.specs.Children.{made}
@@ -44,7 +45,7 @@ module _ (own : OwnLaw) (settings : Settings) (w : World) (v : Upload) (f : Read
   -- the answer of an honest gateway in a world where the upload stands
   pub gives : (r : Result Answer LinkFault) → IsWrittenAnswer settings (by_held w) (Read f) [] r → GivesJust f v.bytes r
   gives (Ok answer) e =
-      let is : answer ≡ record { status = 200; body = v.bytes } = e ∙ ap (λ (o : Option (List ℕ)). as_answer (with_bytes (bytes_reply None) o)) found in
+      let is : answer ≡ record { status = 200; body = v.bytes } = e ∙ ap (λ (o : Option (List ℕ)). as_answer (with_bytes (bytes_reply (Some (verify_fields f)) None) o)) found in
       (ap (λ (a : Answer). a.status) is, sym (ap (λ (a : Answer). a.body) is), bound)
   gives (Err fault) e = tt
 
@@ -67,7 +68,7 @@ first_trip settings bytes set body long =
     let w : World = with_asked settings Put bytes empty in
     let put : w ≡ after_upload settings.servers u empty = ap (λ b. after_stored settings.servers (cond b (Some u) None) empty) (lt-ltb 55 (length bytes) long) in
     let stands : IsStanding u w = subst (IsStanding u) (sym put) (stands_first settings u set is long) in
-    ap (λ (o : Option (List ℕ)). as_answer (with_bytes (bytes_reply None) o)) (held_while u w stands)
+    ap (λ (o : Option (List ℕ)). as_answer (with_bytes (bytes_reply (Some (verify_fields (fields u))) None) o)) (held_while u w stands)
 
 -- ---- whatever gave the cap
 

@@ -1,6 +1,7 @@
 -- What a client asks for, as an item.
 use Rattle.std.proofs.Common.{◌≡◌, ℕ, List, [], length, false, cond, None, Ok, refl, ap, ◌∙◌, eq-eqb}
-use Rattle.std.specs.Prelude.{map}
+use Rattle.std.specs.Prelude.{map, Bool}
+use Rattle.std.specs.List.{list_any}
 use Rattle.http_edge.specs.Judge.{head_parts, is_head_request}
 use Rattle.http_edge.specs.Reply.{rendered}
 use Rattle.http_edge.specs.declared.item.Head.{Head}
@@ -9,10 +10,13 @@ use Rattle.web_request.specs.Requests.{interpreted}
 use Rattle.web_request.specs.declared.head.Field.{Field as WebField}
 use Rattle.chk_file.specs.Look.{Look}
 use Rattle.chk_file.specs.World.{World}
+use Rattle.web_ops.specs.declared.reply.Reply.{Reply}
+use Rattle.web_ops.specs.Answers.{request_reply}
 use Rattle.web_ops.specs.Uploads.{after_stored}
 use Rattle.gate_core.specs.Settings.{Settings, under, encoding_in}
-use Rattle.gate_core.specs.Requests.{web_field, Interpreted, asked_of}
-use Rattle.gate_core.specs.Wire.{wire_reply}
+use Rattle.gate_core.specs.Requests.{web_field, web_head, Interpreted, asked_of}
+use Rattle.gate_core.specs.Wire.{status_line, wire_reply}
+use Rattle.gate_core.specs.Browsers.{is_condition, sent_reply}
 use Rattle.gate_core.specs.Answers.{asked_reply, answer}
 use Rattle.gate_core.specs.Items.{Asked}
 use Rattle.gate_core.specs.Runs.{upload_asked, upload_by, after_entry, told}
@@ -20,7 +24,7 @@ use Rattle.client_wire.specs.Asks.{asked_head, method_of, target_of, meant, IsAs
 use Rattle.client_wire.specs.declared.ask.Ask.{Ask}
 use Rattle.client_wire.specs.declared.ask.Ask.TheVariants.{Put, Mkdir, Read, Check}
 use Rattle.round_trips.specs.Honest.{with_asked}
-use Rattle.round_trips.specs.Said.{item_of, sent_for}
+use Rattle.round_trips.specs.Said.{head_asked, item_of, sent_for, told_for}
 
 abbrev pub MeantLaw : Type 0
 MeantLaw = (ask : Ask) (fields : List WebField) (body : List ℕ) → IsAsk ask → range_of fields ≡ None
@@ -44,14 +48,14 @@ not_head host Mkdir body = refl
 not_head host (Read fields) body = refl
 not_head host (Check cap verify) body = refl
 
-answered : MeantLaw → (settings : Settings) (look : Look) (host : List ℕ) (ask : Ask) (body : List ℕ) → IsAsked host ask body → answer settings look (item_of host ask body) ≡ sent_for settings look ask body
+answered : MeantLaw → (settings : Settings) (look : Look) (host : List ℕ) (ask : Ask) (body : List ℕ) → IsAsked host ask body → answer settings look (item_of host ask body) ≡ told_for settings look host ask body
 unfolding answer
 answered law settings look host ask body is =
-    ap (λ (asked : Interpreted). rendered (wire_reply (asked_reply settings look (head_of host ask body) asked)) (is_head_request (head_of host ask body)) false) (is_asked law host ask body is)
-    ∙ ap (λ b. rendered (wire_reply (asked_reply settings look (head_of host ask body) (Ok (meant ask body)))) b false) (not_head host ask body)
+    ap (λ (asked : Interpreted). rendered (sent_reply settings.for_browsers (head_of host ask body) (asked_reply settings look (head_of host ask body) asked)) (is_head_request (head_of host ask body)) false) (is_asked law host ask body is)
+    ∙ ap (λ b. rendered (sent_reply settings.for_browsers (head_of host ask body) (asked_reply settings look (head_of host ask body) (Ok (meant ask body)))) b false) (not_head host ask body)
 
 pub said_of : MeantLaw → (settings : Settings) (look : Look) (caller : ℕ) (secret host : List ℕ) (ask : Ask) (body : List ℕ) → IsAsked host ask body
-    → told settings look caller (Asked caller secret (item_of host ask body)) ≡ sent_for (under settings secret) look ask body
+    → told settings look caller (Asked caller secret (item_of host ask body)) ≡ told_for (under settings secret) look host ask body
 said_of law settings look caller secret host ask body is =
     ap (λ b. cond b (answer (under settings secret) look (item_of host ask body)) []) (eq-eqb caller caller refl)
     ∙ answered law (under settings secret) look host ask body is
@@ -61,3 +65,20 @@ pub stored_of : MeantLaw → (settings : Settings) (w : World) (caller : ℕ) (s
 unfolding upload_by
 stored_of law settings w caller secret host ask body is =
     ap (λ (asked : Interpreted). after_stored settings.servers (upload_asked (encoding_in (under settings secret)) asked) w) (is_asked law host ask body is)
+
+-- ---- for browsers
+
+no_condition : (host : List ℕ) (ask : Ask) (body : List ℕ) → list_any is_condition (web_head (head_of host ask body)).fields ≡ false
+unfolding asked_head is_if_range
+no_condition host ask body = refl
+
+pub same_of : ((for_browsers : Bool) (head : Head) (reply : Reply) → list_any is_condition (web_head head).fields ≡ false
+    → ((sent_reply for_browsers head reply).status ≡ status_line reply.status) × ((sent_reply for_browsers head reply).body ≡ reply.body))
+    → (for_browsers : Bool) (host : List ℕ) (ask : Ask) (body : List ℕ) (reply : Reply)
+    → ((sent_reply for_browsers (head_asked host ask body) reply).status ≡ (wire_reply reply).status) × ((sent_reply for_browsers (head_asked host ask body) reply).body ≡ reply.body)
+same_of law for_browsers host ask body reply = law for_browsers (head_of host ask body) reply (no_condition host ask body)
+
+pub plain_of : (settings : Settings) (look : Look) (host : List ℕ) (ask : Ask) (body : List ℕ) → settings.for_browsers ≡ false
+    → told_for settings look host ask body ≡ sent_for settings look ask body
+plain_of settings look host ask body plain =
+    ap (λ b. rendered (sent_reply b (head_of host ask body) (request_reply (encoding_in settings) look (meant ask body))) false false) plain

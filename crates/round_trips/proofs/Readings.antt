@@ -5,7 +5,8 @@ use Rattle.std.specs.List.{AllByRecursion}
 use Rattle.std.proofs.lemmas.List.{append_cancel_left}
 use Rattle.std.proofs.lemmas.Nat.{mod_below}
 use Rattle.std.proofs.lemmas.Fmt.{decimal_by_steps, decimal_injective}
-use Rattle.http_edge.specs.Reply.{status_text, line_end, field_line, rendered_head, rendered}
+use Rattle.http_edge.specs.declared.field.Field.{Field as Line}
+use Rattle.http_edge.specs.Reply.{status_text, line_end, field_line, has_length, lines_with_length, lines_for, rendered_head, rendered}
 use Rattle.web_ops.specs.declared.reply.Status.{Status}
 use Rattle.web_ops.specs.declared.reply.Status.TheVariants as status
 use Rattle.web_ops.specs.declared.reply.MediaType.{MediaType}
@@ -13,7 +14,8 @@ use Rattle.web_ops.specs.declared.reply.MediaType.TheVariants.{OctetStream, Plai
 use Rattle.web_ops.specs.declared.reply.Field.{Field}
 use Rattle.web_ops.specs.declared.reply.Field.TheVariants.{ContentRange, UnsatisfiedRange, Allow, Page}
 use Rattle.web_ops.specs.declared.reply.Reply.{Reply}
-use Rattle.caps.specs.Weakening.{cap_of}
+use Rattle.caps.specs.Fields.{VerifyValue}
+use Rattle.caps.specs.Weakening.{verify_fields, cap_of}
 use Rattle.caps.specs.declared.cap.VerifyCap.{VerifyCap}
 use Rattle.dir_codec.specs.Children.{made}
 use Rattle.dir_codec.specs.declared.entry.Entry.{Entry as Child}
@@ -105,19 +107,43 @@ in_order a s l t c m u d f b more = simp append_assoc refl
 abbrev further_of : Option Field → List ℕ
 further_of o = flat_map field_line (further_lines o)
 
-parts_are : (r : Reply) (more : List ℕ) → rendered (wire_reply r) false false ++ more ≡ in_parts r.status r.fields.content_type (length r.body) (further_of r.fields.more) (r.body ++ more)
+-- the lines of a reply, with the length of its body
+long_lines : (b : Bool) (x y : List ℕ) → b ≡ true → cond b x y ≡ x
+long_lines true x y is = refl
+long_lines false x y is = cc
+
+abbrev lines_in : Reply → List Line
+lines_in r = record { name = codes "Content-Type"; value = media_type r.fields.content_type } ∷ further_lines r.fields.more
+
+parts_are : (r : Reply) (more : List ℕ) → has_length (status_line r.status) ≡ true
+    → rendered (wire_reply r) false false ++ more ≡ in_parts r.status r.fields.content_type (length r.body) (further_of r.fields.more) (r.body ++ more)
 unfolding rendered rendered_head
-parts_are r more =
-    in_order (codes "HTTP/1.1 ") (status_text (status_line r.status)) line_end (codes "Content-Type") (codes ": ") (media_type r.fields.content_type)
+parts_are r more long =
+    ap (λ (lines : List ℕ). (codes "HTTP/1.1 " ++ status_text (status_line r.status) ++ line_end ++ lines ++ [] ++ line_end ++ r.body) ++ more)
+    (long_lines (has_length (status_line r.status)) (lines_with_length (length r.body) (lines_in r)) (flat_map field_line (lines_in r)) long)
+    ∙ in_order (codes "HTTP/1.1 ") (status_text (status_line r.status)) line_end (codes "Content-Type") (codes ": ") (media_type r.fields.content_type)
     (codes "Content-Length") (decimal (length r.body)) (further_of r.fields.more) r.body more
+
+-- what stands behind the status, whatever it is
+behind_status : Reply → List ℕ → List ℕ
+behind_status r more = line_end ++ (lines_for (status_line r.status) (length r.body) (lines_in r) ++ (line_end ++ (r.body ++ more)))
+
+in_front : (a s l f b more : List ℕ) → (a ++ s ++ l ++ f ++ [] ++ l ++ b) ++ more ≡ a ++ (s ++ (l ++ (f ++ (l ++ (b ++ more)))))
+in_front a s l f b more = simp append_assoc refl
+
+front_of : (r : Reply) (more : List ℕ) → rendered (wire_reply r) false false ++ more ≡ codes "HTTP/1.1 " ++ (status_text (status_line r.status) ++ behind_status r more)
+unfolding rendered rendered_head behind_status
+front_of r more =
+    in_front (codes "HTTP/1.1 ") (status_text (status_line r.status)) line_end (lines_for (status_line r.status) (length r.body) (lines_in r)) r.body more
 
 -- ---- what they say
 
 -- the status, by a sum of the bytes of its three digits
 status_by : ℕ → Status
 status_by n =
-    cond (n == 5528) status.Ok (cond (n == 5534) status.PartialContent (cond (n == 5728) status.BadRequest (cond (n == 5732) status.NotFound
-    (cond (n == 5733) status.MethodNotAllowed (cond (n == 5738) status.Gone (cond (n == 5744) status.RangeNotSatisfiable status.ServiceUnavailable))))))
+    cond (n == 5528) status.Ok (cond (n == 5534) status.PartialContent (cond (n == 5632) status.NotModified (cond (n == 5728) status.BadRequest
+    (cond (n == 5732) status.NotFound (cond (n == 5733) status.MethodNotAllowed (cond (n == 5738) status.Gone
+    (cond (n == 5744) status.RangeNotSatisfiable status.ServiceUnavailable)))))))
 
 status_at : List ℕ → Status
 status_at text = status_by (nth 9 text * 100 + (nth 10 text * 10 + nth 11 text))
@@ -126,6 +152,7 @@ status_read : (s : Status) (rest : List ℕ) → status_at (codes "HTTP/1.1 " ++
 unfolding status_at status_by nth
 status_read status.Ok rest = refl
 status_read status.PartialContent rest = refl
+status_read status.NotModified rest = refl
 status_read status.BadRequest rest = refl
 status_read status.NotFound rest = refl
 status_read status.MethodNotAllowed rest = refl
@@ -161,7 +188,7 @@ no_further (Some Page) one other e = absurd (let h : 67 ≡ 13 = ap (nth 0) e in
 
 -- ---- two replies
 
-module _ (one other : Reply) (x y : List ℕ) (fits : length one.body < 2 ^ 64) (other_fits : length other.body < 2 ^ 64) (bare : other.fields.more ≡ None)
+module _ (one other : Reply) (x y : List ℕ) (fits : length one.body < 2 ^ 64) (other_fits : length other.body < 2 ^ 64) (bare : other.fields.more ≡ None) (long : has_length (status_line other.status) ≡ true)
     (same : rendered (wire_reply one) false false ++ x ≡ rendered (wire_reply other) false false ++ y) where
   abbrev m : MediaType
   m = one.fields.content_type
@@ -181,11 +208,12 @@ module _ (one other : Reply) (x y : List ℕ) (fits : length one.body < 2 ^ 64) 
   abbrev other_further : List ℕ
   other_further = further_of other.fields.more
 
-  same_parts : in_parts one.status m n further (one.body ++ x) ≡ in_parts other.status om on other_further (other.body ++ y)
-  same_parts = sym (parts_are one x) ∙ same ∙ parts_are other y
-
   same_status : one.status ≡ other.status
-  same_status = sym (status_read one.status (after_status m n further (one.body ++ x))) ∙ ap status_at same_parts ∙ status_read other.status (after_status om on other_further (other.body ++ y))
+  same_status =
+      sym (status_read one.status (behind_status one x)) ∙ ap status_at (sym (front_of one x) ∙ same ∙ front_of other y) ∙ status_read other.status (behind_status other y)
+
+  same_parts : in_parts one.status m n further (one.body ++ x) ≡ in_parts other.status om on other_further (other.body ++ y)
+  same_parts = sym (parts_are one x (ap (λ (s : Status). has_length (status_line s)) same_status ∙ long)) ∙ same ∙ parts_are other y long
 
   past_status : after_status m n further (one.body ++ x) ≡ after_status om on other_further (other.body ++ y)
   past_status =
@@ -249,23 +277,38 @@ bare_made : (e : Encoding) (o : Option (List Child)) → (made_reply e o).fields
 bare_made e None = refl
 bare_made e (Some entries) = refl
 
-bare_bytes : (o : Option (List ℕ)) → (with_bytes (bytes_reply None) o).fields.more ≡ None
-bare_bytes None = refl
-bare_bytes (Some bytes) = refl
+bare_bytes : (file : Option VerifyValue) (o : Option (List ℕ)) → (with_bytes (bytes_reply file None) o).fields.more ≡ None
+bare_bytes file None = refl
+bare_bytes file (Some bytes) = refl
 
 abbrev pub CheckLaw : Type 0
-CheckLaw = (e : Encoding) (look : Look) (cap : VerifyCap) (verify : Bool) → request_reply e look (request.Check (cap_of cap) [] verify) ≡ checked_reply look verify (Some cap)
+CheckLaw = (e : Encoding) (look : Look) (cap : VerifyCap) (verify : Bool) → request_reply e look (request.Check (cap_of cap) [] verify) ≡ checked_reply e.mapped look verify (Some cap)
 
 -- it has no further field
 bare_reply : CheckLaw → (e : Encoding) (look : Look) (ask : Ask) (body : List ℕ) → (request_reply e look (meant ask body)).fields.more ≡ None
 bare_reply law e look Put body = refl
 bare_reply law e look Mkdir body = bare_made e (made body)
-bare_reply law e look (Read f) body = bare_bytes (look.gives f)
+bare_reply law e look (Read f) body = bare_bytes (Some (verify_fields f)) (look.gives f)
 bare_reply law e look (Check cap verify) body = ap (λ (r : Reply). r.fields.more) (law e look cap verify)
+
+-- and a length
+long_made : (e : Encoding) (o : Option (List Child)) → has_length (status_line (made_reply e o).status) ≡ true
+long_made e None = refl
+long_made e (Some entries) = refl
+
+long_bytes : (file : Option VerifyValue) (o : Option (List ℕ)) → has_length (status_line (with_bytes (bytes_reply file None) o).status) ≡ true
+long_bytes file None = refl
+long_bytes file (Some bytes) = refl
+
+long_reply : CheckLaw → (e : Encoding) (look : Look) (ask : Ask) (body : List ℕ) → has_length (status_line (request_reply e look (meant ask body)).status) ≡ true
+long_reply law e look Put body = refl
+long_reply law e look Mkdir body = long_made e (made body)
+long_reply law e look (Read f) body = long_bytes (Some (verify_fields f)) (look.gives f)
+long_reply law e look (Check cap verify) body = ap (λ (r : Reply). has_length (status_line r.status)) (law e look cap verify)
 
 pub read_off : CheckLaw → (settings : Settings) (look : Look) (ask : Ask) (body more after : List ℕ) (reply : Reply) → length reply.body < 2 ^ 64
     → length (request_reply (encoding_in settings) look (meant ask body)).body < 2 ^ 64 → sent_for settings look ask body ++ more ≡ rendered (wire_reply reply) false false ++ after
     → IsWrittenAnswer settings look ask body (Ok (as_answer reply)) × (more ≡ after)
 read_off law settings look ask body more after reply fits written_fits same =
-    let both = one_answer reply (request_reply (encoding_in settings) look (meant ask body)) after more fits written_fits (bare_reply law (encoding_in settings) look ask body) (sym same) in
+    let both = one_answer reply (request_reply (encoding_in settings) look (meant ask body)) after more fits written_fits (bare_reply law (encoding_in settings) look ask body) (long_reply law (encoding_in settings) look ask body) (sym same) in
     (both.0, sym both.1)

@@ -3,6 +3,7 @@ use Rattle.std.proofs.Common.{◌≡◌, ℕ, ◌<◌, List, [], ◌∷◌, ◌+
 use Rattle.std.proofs.lemmas.List.{append_assoc}
 use Rattle.http_edge.specs.Reply.{rendered}
 use Rattle.caps.specs.Fields.{ReadValue}
+use Rattle.caps.specs.Weakening.{verify_fields}
 use Rattle.caps.specs.CapTexts.{IsCapText, cap_text}
 use Rattle.caps.specs.declared.cap.Cap.TheVariants.{Chk, DirChk}
 use Rattle.dir_codec.specs.Children.{made}
@@ -20,7 +21,7 @@ use Rattle.web_ops.specs.Uploads.{as_directory, directory_upload, directory_cap,
 use Rattle.gate_core.specs.Settings.{Settings, under, encoding_in}
 use Rattle.gate_core.specs.Secrets.{upload_under}
 use Rattle.gate_core.specs.Items.{Entry}
-use Rattle.gate_core.specs.Wire.{wire_reply}
+use Rattle.gate_core.specs.Browsers.{sent_reply}
 use Rattle.gate_core.specs.Runs.{after_entry, world_after, told, said}
 use Rattle.cap_binding.specs.Binds.{Binds}
 use Rattle.client_wire.specs.Asks.{meant, IsAsked}
@@ -28,7 +29,7 @@ use Rattle.client_wire.specs.declared.ask.Ask.{Ask}
 use Rattle.client_wire.specs.declared.ask.Ask.TheVariants.{Put, Mkdir, Read}
 use Rattle.round_trips.specs.Stands.{IsSetUp, HasEnough, IsStanding, IsStandingFor, IsUnspoiled, AreOne}
 use Rattle.round_trips.specs.Trips.{IsBody}
-use Rattle.round_trips.specs.Said.{sent_for}
+use Rattle.round_trips.specs.Said.{head_asked, told_for}
 use Rattle.round_trips.specs.Told.{entry_asked, IsToldWith, IsToldAgain}
 use Rattle.round_trips.proofs.Items.{MeantLaw, said_of, stored_of}
 use Rattle.round_trips.proofs.Standing.{OwnLaw, OneLaw, held_while, known_on, enough_for, stands_now}
@@ -54,7 +55,7 @@ module _ (law : MeantLaw) (settings : Settings) (w : World) where
   told_at : (before after : List Entry) (caller : ℕ) (secret host : List ℕ) (ask : Ask) (body : List ℕ) → IsAsked host ask body
       → said settings caller w (before ++ entry_asked caller secret host ask body ∷ after)
       ≡ said settings caller w before
-      ++ (sent_for (under settings secret) (by_held (world_after settings w before)) ask body ++ said settings caller (after_entry settings (entry_asked caller secret host ask body) (world_after settings w before)) after)
+      ++ (told_for (under settings secret) (by_held (world_after settings w before)) host ask body ++ said settings caller (after_entry settings (entry_asked caller secret host ask body) (world_after settings w before)) after)
   told_at before after caller secret host ask body is =
       let here : World = world_after settings w before in
       let x : Entry = entry_asked caller secret host ask body in
@@ -63,16 +64,16 @@ module _ (law : MeantLaw) (settings : Settings) (w : World) where
       ∙ ap (λ (t : List ℕ). said settings caller w before ++ (t ++ later)) (said_of law settings (by_held here) caller secret host ask body is)
 
   pub put_told : (before after : List Entry) (caller : ℕ) (secret host bytes : List ℕ) → IsAsked host Put bytes
-      → IsToldWith settings caller w before (entry_asked caller secret host Put bytes) after (cap_reply (upload_cap (upload_under settings secret bytes)))
+      → IsToldWith settings caller w before (head_asked host Put bytes) (entry_asked caller secret host Put bytes) after (cap_reply (upload_cap (upload_under settings secret bytes)))
   put_told before after caller secret host bytes is = told_at before after caller secret host Put bytes is
 
   pub made_told : (before after : List Entry) (caller : ℕ) (secret host json : List ℕ) (entries : List Child) → made json ≡ Some entries → IsAsked host Mkdir json
-      → IsToldWith settings caller w before (entry_asked caller secret host Mkdir json) after (cap_reply (directory_cap (encoding_in (under settings secret)) entries))
+      → IsToldWith settings caller w before (head_asked host Mkdir json) (entry_asked caller secret host Mkdir json) after (cap_reply (directory_cap (encoding_in (under settings secret)) entries))
   made_told before after caller secret host json entries makes is =
       let x : Entry = entry_asked caller secret host Mkdir json in
       let later : List ℕ = said settings caller (after_entry settings x (world_after settings w before)) after in
       told_at before after caller secret host Mkdir json is
-      ∙ ap (λ (o : Option (List Child)). said settings caller w before ++ (rendered (wire_reply (made_reply (encoding_in (under settings secret)) o)) false false ++ later)) makes
+      ∙ ap (λ (o : Option (List Child)). said settings caller w before ++ (rendered (sent_reply settings.for_browsers (head_asked host Mkdir json) (made_reply (encoding_in (under settings secret)) o)) false false ++ later)) makes
 
   module _ (own : OwnLaw) (one : OneLaw) (set : IsSetUp settings) where
     -- whatever asks for the upload
@@ -102,7 +103,7 @@ module _ (law : MeantLaw) (settings : Settings) (w : World) where
           }
 
       got_again : (later : List Entry) (reader : ℕ) (other its : List ℕ) (f : ReadValue) → IsAsked its (Read f) [] → IsSound here → IsUnspoiled u here
-          → f ≡ fields u → HasEnough u there → IsToldAgain settings reader w (before ++ put ∷ between) (entry_asked reader other its (Read f) []) later f u.bytes
+          → f ≡ fields u → HasEnough u there → IsToldAgain settings reader w (before ++ put ∷ between) (head_asked its (Read f) []) (entry_asked reader other its (Read f) []) later f u.bytes
       got_again later reader other its f get sound unspoiled same enough =
           let now : IsStandingFor u (after_upload settings.servers u here) = stands_now own one settings u here set is sound unspoiled long in
           let kept : Upload = now.upload in
@@ -115,7 +116,7 @@ module _ (law : MeantLaw) (settings : Settings) (w : World) where
           record {
             again = kept.bytes;
             told = told_at (before ++ put ∷ between) later reader other its (Read f) [] get
-                ∙ ap (λ (o : Option (List ℕ)). said settings reader w (before ++ put ∷ between) ++ (rendered (wire_reply (with_bytes (bytes_reply None) o)) false false ++ after)) found;
+                ∙ ap (λ (o : Option (List ℕ)). said settings reader w (before ++ put ∷ between) ++ (rendered (sent_reply settings.for_browsers (head_asked its (Read f) []) (with_bytes (bytes_reply (Some (verify_fields f)) None) o)) false false ++ after)) found;
             bound = subst (λ (g : ReadValue). Binds g kept.bytes) named (own kept (omega (arith, size, long)));
             same = subst (λ (g : ReadValue). AreOne g kept.bytes u.bytes) (sym same) now.same;
           }
@@ -124,7 +125,7 @@ module _ (law : MeantLaw) (settings : Settings) (w : World) where
       pub file_told_again : (bytes : List ℕ) (f : ReadValue) → let u = upload_under settings secret bytes in let x = entry_asked putter secret host Put bytes in
           IsBody bytes → 55 < length bytes → IsAsked host Put bytes → IsAsked its (Read f) [] → IsSound (world_after settings w before)
           → IsUnspoiled u (world_after settings w before) → IsCapText (Chk f) (cap_text (upload_cap u)) → HasEnough u (world_after settings w (before ++ x ∷ between))
-          → IsToldAgain settings reader w (before ++ x ∷ between) (entry_asked reader other its (Read f) []) after f bytes
+          → IsToldAgain settings reader w (before ++ x ∷ between) (head_asked its (Read f) []) (entry_asked reader other its (Read f) []) after f bytes
       file_told_again bytes f body long asked get sound unspoiled text enough =
           let u : Upload = upload_under settings secret bytes in
           let is : IsUpload u = record { sharing = set.sharing; some = omega (arith, long); bytes = body.are_bytes } in
@@ -137,7 +138,7 @@ module _ (law : MeantLaw) (settings : Settings) (w : World) where
           IsBody (directory_text entries) → made json ≡ Some entries → 55 < length (directory_text entries) → IsAsked host Mkdir json → IsAsked its (Read f) []
           → IsSound (world_after settings w before) → IsUnspoiled u (world_after settings w before) → IsCapText (DirChk f) (cap_text (directory_cap e entries))
           → HasEnough u (world_after settings w (before ++ x ∷ between))
-          → IsToldAgain settings reader w (before ++ x ∷ between) (entry_asked reader other its (Read f) []) after f (directory_text entries)
+          → IsToldAgain settings reader w (before ++ x ∷ between) (head_asked its (Read f) []) (entry_asked reader other its (Read f) []) after f (directory_text entries)
       directory_told_again entries json f body makes long asked get sound unspoiled text enough =
           let e : Encoding = encoding_in (under settings secret) in
           let u : Upload = directory_upload e entries in

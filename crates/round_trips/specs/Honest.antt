@@ -19,6 +19,7 @@ use Rattle.client_core.specs.declared.exchange.LinkFault.{LinkFault}
 abbrev pub code_of : Status → ℕ
 code_of status.Ok = 200
 code_of status.PartialContent = 206
+code_of status.NotModified = 304
 code_of status.BadRequest = 400
 code_of status.NotFound = 404
 code_of status.MethodNotAllowed = 405

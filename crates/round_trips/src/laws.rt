@@ -1,5 +1,5 @@
 //! Laws, each on a function that does nothing.
-ghost use Rattle.std.specs.Prelude.{◌≡◌, ◌≢◌, ◌++◌, ◌∷◌, ◌^◌, ◌<◌, ◌≤◌, ℕ, false, List, [], length, Result, Ok, Some, MatchResult};
+ghost use Rattle.std.specs.Prelude.{◌≡◌, ◌≢◌, ◌++◌, ◌∷◌, ◌^◌, ◌<◌, ◌≤◌, ℕ, Bool, false, List, [], length, Result, Ok, Some, MatchResult};
 ghost use Rattle.std.specs.List.{AllByRecursion};
 ghost use Rattle.http_edge.specs.Reply.{rendered};
 ghost use Rattle.erasure.specs.Code.{AreBytes};
@@ -24,6 +24,7 @@ ghost use Rattle.web_ops.specs.Uploads.{directory_upload, directory_cap};
 ghost use Rattle.gate_core.specs.Settings.{Settings, under, encoding_in};
 ghost use Rattle.gate_core.specs.Items.{Entry, Asked};
 ghost use Rattle.gate_core.specs.Wire.{wire_reply};
+ghost use Rattle.gate_core.specs.Browsers.{sent_reply};
 ghost use Rattle.gate_core.specs.Secrets.{upload_under};
 ghost use Rattle.gate_core.specs.Runs.{after_entry, world_after, told};
 ghost use Rattle.cap_binding.specs.Binds.{Binds};
@@ -35,7 +36,7 @@ ghost use Rattle.client_core.specs.declared.exchange.LinkFault.{LinkFault};
 ghost use Rattle.round_trips.specs.Honest.{IsHonestExchange, IsWrittenAnswer, as_answer, LeadsOn, with_asked, by_the_book, written_answer};
 ghost use Rattle.round_trips.specs.Stands.{IsSetUp, HasEnough, IsStanding, IsStandingFor, IsUnspoiled, Spares};
 ghost use Rattle.round_trips.specs.Trips.{IsBody, IsSendable, NamesCap, GivesAgain, IsUnansweredAt};
-ghost use Rattle.round_trips.specs.Said.{item_of, sent_for};
+ghost use Rattle.round_trips.specs.Said.{head_asked, item_of, sent_for, told_for};
 ghost use Rattle.round_trips.specs.Told.{entry_asked, IsToldWith, IsToldAgain};
 
 use caps::ReadFields;
@@ -48,13 +49,21 @@ pub fn asks_are_items()
     ensures said { (settings : Settings) (look : Look) (caller : ℕ) (secret host : List ℕ)
         (ask : Ask) (body : List ℕ) → IsAsked host ask body →
         told settings look caller (Asked caller secret (item_of host ask body))
-        ≡ sent_for (under settings secret) look ask body }
+        ≡ told_for (under settings secret) look host ask body }
+    // What is made for browsers has the same status and body; where nothing is, it is the same to the byte.
+    ensures same { (for_browsers : Bool) (host : List ℕ) (ask : Ask) (body : List ℕ)
+        (reply : Reply) → let sent = sent_reply for_browsers (head_asked host ask body) reply in
+        (sent.status ≡ (wire_reply reply).status) × (sent.body ≡ reply.body) }
+    ensures plain { (settings : Settings) (look : Look) (host : List ℕ) (ask : Ask)
+        (body : List ℕ) → settings.for_browsers ≡ false →
+        told_for settings look host ask body ≡ sent_for settings look ask body }
     ensures stored { (settings : Settings) (w : World) (caller : ℕ) (secret host : List ℕ)
         (ask : Ask) (body : List ℕ) → IsAsked host ask body →
         after_entry settings (Asked caller secret (item_of host ask body)) w
         ≡ with_asked (under settings secret) ask body w }
 {
     client_wire::laws::requests_are_meant();
+    gate_core::laws::browsers_are_told_the_same();
 }
 
 /// Whoever reads a reply off the bytes that are sent for an ask reads the answer of an honest gateway, and all of them that
@@ -143,11 +152,12 @@ pub fn files_come_back<E: Exchange>()
 pub fn what_is_put_is_told_again()
     ensures put { (settings : Settings) (w : World) (before after : List Entry) (caller : ℕ)
         (secret host bytes : List ℕ) → IsAsked host Put bytes → IsToldWith settings caller w before
-        (entry_asked caller secret host Put bytes) after
+        (head_asked host Put bytes) (entry_asked caller secret host Put bytes) after
         (cap_reply (upload_cap (upload_under settings secret bytes))) }
     ensures made { (settings : Settings) (w : World) (before after : List Entry) (caller : ℕ)
         (secret host : List ℕ) (entries : List Child) → IsSendable entries →
         IsAsked host Mkdir (children_text entries) → IsToldWith settings caller w before
+        (head_asked host Mkdir (children_text entries))
         (entry_asked caller secret host Mkdir (children_text entries)) after
         (cap_reply (directory_cap (encoding_in (under settings secret)) entries)) }
     ensures file { (settings : Settings) (w : World) (before between after : List Entry)
@@ -158,7 +168,7 @@ pub fn what_is_put_is_told_again()
         IsUnspoiled u (world_after settings w before) →
         IsCapText (Chk f) (cap_text (upload_cap u)) →
         HasEnough u (world_after settings w (before ++ x ∷ between)) →
-        IsToldAgain settings reader w (before ++ x ∷ between)
+        IsToldAgain settings reader w (before ++ x ∷ between) (head_asked its (Read f) [])
         (entry_asked reader other its (Read f) []) after f bytes }
     ensures directory { (settings : Settings) (w : World) (before between after : List Entry)
         (putter reader : ℕ) (secret other host its : List ℕ) (entries : List Child) (f : ReadValue) →
@@ -170,7 +180,7 @@ pub fn what_is_put_is_told_again()
         IsUnspoiled u (world_after settings w before) →
         IsCapText (DirChk f) (cap_text (directory_cap e entries)) →
         HasEnough u (world_after settings w (before ++ x ∷ between)) →
-        IsToldAgain settings reader w (before ++ x ∷ between)
+        IsToldAgain settings reader w (before ++ x ∷ between) (head_asked its (Read f) [])
         (entry_asked reader other its (Read f) []) after f (directory_text entries) }
 {
     client_wire::laws::requests_are_meant();

@@ -59,10 +59,11 @@ pub fn connection_figures(counts: &Counts) -> [Named; 9] {
 }
 
 /// How many replies there were of each status, by its code.
-pub fn reply_figures(tally: &Tally) -> [Named; 10] {
+pub fn reply_figures(tally: &Tally) -> [Named; 11] {
     [
         number("200", tally.ok),
         number("206", tally.partial_content),
+        number("304", tally.not_modified),
         number("400", tally.bad_request),
         number("404", tally.not_found),
         number("405", tally.method_not_allowed),
