@@ -8,7 +8,8 @@ Over several connections at once trees are the same, also where answers are late
 With `--skip-existing` only what changed is sent again, told by the requests that reach the gateway.
 Then a proxy stands between the two that changes one bit of a reply's body (at each of many places), cuts replies, gives them byte by byte or in
 chunks, and gateways that answer with endless heads, interim replies without end, rubbish in chunks, redirects, pages of HTML and bodies that are
-too long: a get is right or refused with its status, and then nothing stands under the name that was asked for. Each byte of a reply's head is
+too long: a get is right or refused with its status, and then nothing stands under the name that was asked for. Gateways that are silent, or drip, are
+left soon after `--patience`. Each byte of a reply's head is
 changed too, and the answers to a check, a repair and a new directory; folders change while they are put; output that is full. At last a disk that is
 full (a file system in memory, where this user may mount one). It takes two or three minutes.
 """
@@ -17,6 +18,7 @@ import json
 import os
 import pty
 import random
+import re
 import shutil
 import socket
 import subprocess
@@ -131,6 +133,8 @@ class Client:
             fail("%s ends with %d and not %d: %s" % (words[:1], done.returncode, wanted, done.stderr.decode(errors="replace")))
         if b"URI:" in done.stderr:
             fail("%s tells a cap on standard error" % (words[:1],))
+        if any(byte < 32 and byte != 10 or byte == 127 for byte in done.stderr):
+            fail("%s tells control characters on standard error: %r" % (words[:1], done.stderr))
         return done
 
     def text(self, url, *words, **how):
@@ -274,10 +278,20 @@ def parts(client, server, folder):
 
 def statuses(client, server, folder, cap):
     client.run(server.url, "nothing", wanted=2)
+    client.run(server.url, cap, wanted=2)
+    client.run(server.url, "ls", cap, cap, wanted=2)
+    client.run(server.url, "put", cap, wanted=8)
+    client.run(server.url, "put", "-r", cap, wanted=8)
+    for seconds in ["0", "3601", "1.5", "-1", "x"]:
+        client.run(server.url, "--patience=" + seconds, "ls", cap, wanted=2)
+    client.run(server.url, "--patience", "3600", "ls", cap)
     client.run("https://127.0.0.1:1", "ls", cap, wanted=2)
     client.run("http://127.0.0.1/path", "ls", cap, wanted=2)
     client.run(server.url, "ls", "URI:CHK:nothing", wanted=3)
-    client.run(server.url, "get", cap + "/no such name", wanted=3)
+    for name, shown in [("no such name", b'"no such name"'), ("red \x1b[31m", b'"red \\u{1b}[31m"'), (cap, b"isn't told"), ("no" + cap, b"no(what")]:
+        told = client.run(server.url, "get", cap + "/" + name, wanted=3).stderr
+        if b"no such child: " not in told or shown not in told:
+            fail("a child that isn't there is told by %r" % told)
     client.run(server.url, "get", cap, wanted=3)
     client.run(server.url, "ls", cap + "/file 56 \"quoted\" \\ 日.bin/below", wanted=3)
     client.run("http://127.0.0.1:1", "ls", cap, wanted=4)
@@ -291,9 +305,11 @@ def statuses(client, server, folder, cap):
     if passed.stdout.decode().strip() != cap:
         fail("a link changes a folder's cap")
     os.remove(os.path.join(folder, "tree", "link"))
-    up = client.text(server.url, "mkdir", "..=URI:LIT:ge").strip()
-    client.run(server.url, "get", "-r", up, "up", wanted=8)
-    no_leftovers(folder, "up")
+    for name, shown in [("..", b'".."'), ("a\x1b/b", b'"a\\u{1b}/b"')]:
+        up = client.text(server.url, "mkdir", name + "=URI:LIT:ge").strip()
+        if shown not in client.run(server.url, "get", "-r", up, "up", wanted=8).stderr:
+            fail("a name that no file can have isn't told")
+        no_leftovers(folder, "up")
     client.run(server.url, "get", "-r", cap, "tree/empty/../../back", wanted=8)
 
 
@@ -449,6 +465,8 @@ def names(client, server, folder):
         put = client.run(server.url, "put", "-r", kind, wanted=8)
         if put.stdout or not put.stderr:
             fail("a folder of %s is refused with %r and %r" % (kind, put.stdout, put.stderr))
+        if kind == "one name" and not any(name in put.stderr for name in found):
+            fail("which names are one isn't told: %r" % put.stderr)
 
 
 def killed(client, server, folder, cap):
@@ -596,9 +614,13 @@ def around(client, server, folder):
             done = run(server.url, *words, input=b"some", stdout=full, stderr=subprocess.PIPE)
             if done.returncode != 8 or b"URI:" in done.stderr:
                 fail("%s on an output that is full ends with %d" % (words[0], done.returncode))
-    for words in [[], ["--quiet"]]:
+    with open(os.path.join(folder, "long"), "wb") as file:
+        file.write(random.Random(13).randbytes(3 * LIMIT))
+    for words in [quiet + verb for quiet in [[], ["--quiet"]] for verb in
+                  [["put", "-r", "tree"], ["put", "long"], ["get", "@cap/file 57 \"quoted\" \\ 日.bin"], ["get", "-r", "@cap", "back again"]]]:
+        shutil.rmtree(os.path.join(folder, "back again"), ignore_errors=True)
         here, there = pty.openpty()
-        process = subprocess.Popen([client.program, "--gateway", server.url, *words, "put", "-r", "tree"], cwd=folder, stdout=subprocess.DEVNULL, stderr=there)
+        process = subprocess.Popen([client.program, "--gateway", server.url, *words], cwd=folder, stdout=subprocess.DEVNULL, stderr=there)
         os.close(there)
         told = b""
         try:
@@ -608,9 +630,15 @@ def around(client, server, folder):
             pass  # the terminal has ended with the program
         os.close(here)
         if process.wait(timeout=60) != 0:
-            fail("a put on a terminal ends with %d" % process.returncode)
-        if b"URI:" in told or (b"files" in told and b"bytes" in told) != (not words):
-            fail("on a terminal %s tells %r" % (words, told[-100:]))
+            fail("%s on a terminal ends with %d" % (words, process.returncode))
+        size = rb"\d+(\.\d k| |\.\d M|\.\d G)B"
+        if words[0] == "--quiet":
+            if told:
+                fail("on a terminal %s tells %r" % (words, told[-100:]))
+        elif not re.fullmatch(rb"(\r\d+ files?, %s, %s/s *)+\r\n" % (size, size), told):
+            fail("on a terminal %s tells %r" % (words, told[-200:]))
+    os.remove(os.path.join(folder, "long"))
+    shutil.rmtree(os.path.join(folder, "back again"))
 
 
 def many(client, server, folder):
@@ -910,6 +938,68 @@ def shapes(client, server, folder):
         gateway.close()
 
 
+def slow(client, server, folder):
+    """Gateways that say nothing, or a byte now and then, or take a body so, are left soon after --patience is over, and aren't asked again; one
+    of a kilobyte a second isn't."""
+    given = random.Random(12).randbytes(3000)
+    cap = client.text(server.url, "put", "-", given=given).strip()
+    ok = b"HTTP/1.1 200 OK\r\n"
+
+    def silent(stream):
+        read_request(stream)
+        time.sleep(30)
+
+    def dripping(first, drop):
+        def serve(stream):
+            read_request(stream)
+            stream.sendall(first)
+            for _ in range(600):
+                stream.sendall(drop)
+                time.sleep(0.05)
+
+        return serve
+
+    def takes_little(stream):
+        for _ in range(300):
+            stream.recv(100)
+            time.sleep(0.1)
+
+    lies = [
+        ("says nothing", silent),
+        ("says nothing behind a head", dripping(ok + b"Content-Length: 3000\r\n\r\n", b"")),
+        ("drips a head", dripping(ok, b"A")),
+        ("drips a body", dripping(ok + b"Content-Length: 3000\r\n\r\n", b"x")),
+        ("drips chunks", dripping(ok + b"Transfer-Encoding: chunked\r\n\r\n", b"1\r\nx\r\n")),
+        ("drips interim replies", dripping(b"", b"HTTP/1.1 100 Continue\r\n\r\n")),
+    ]
+    for name, serve in lies:
+        gateway = Gateway(serve)
+        begun = time.monotonic()
+        told = client.run(gateway.url, "--patience", "2", "get", cap, "slow", wanted=4, timeout=60).stderr
+        took = time.monotonic() - begun
+        if took > 8 or (b"too slow" not in told and name != "drips interim replies") or gateway.connections != 1:
+            fail("a gateway that %s: %d connections, %.1f seconds, %r" % (name, gateway.connections, took, told))
+        no_leftovers(folder, "slow")
+        gateway.close()
+    gateway = Gateway(takes_little)
+    begun = time.monotonic()
+    client.run(gateway.url, "--patience", "2", "put", "-", given=random.Random(14).randbytes(LIMIT), wanted=4, timeout=60)
+    if time.monotonic() - begun > 15:
+        fail("a gateway that takes little has %.1f seconds" % (time.monotonic() - begun))
+    gateway.close()
+
+    def steady(stream, head, body):
+        for at in range(0, len(body), 150):
+            stream.sendall((head + b"\r\n\r\n" if at == 0 else b"") + body[at:at + 150])
+            time.sleep(0.1)
+        return True
+
+    gateway = proxy(server, steady)
+    if client.run(gateway.url, "--patience", "1", "get", cap).stdout != given:
+        fail("a slow gateway gives other bytes")
+    gateway.close()
+
+
 def full_disk(client, server, folder, cap):
     disk = os.path.join(folder, "disk")
     os.mkdir(disk)
@@ -948,6 +1038,7 @@ def main():
             many(client, server, folder)
             skipping(client, server, folder)
             shapes(client, server, folder)
+            slow(client, server, folder)
             full_disk(client, server, folder, cap)
         finally:
             server.stop()

@@ -26,8 +26,8 @@ pub enum ClientFault {
     /// What was to be walked through or listed is no directory.
     #[error("not a directory")]
     NotDirectory,
-    /// A directory on the way has no child of this name.
-    #[error("no such child")]
+    /// A directory on the way has no child of this name, which the message has in quotes, its control characters escaped.
+    #[error("no such child: {:?}", .0.as_str())]
     NoChild(Text),
     /// Memory was refused.
     #[error("out of memory")]

@@ -3,7 +3,7 @@ ghost use Rattle.std.specs.Prelude.{◌≡◌, ◌≢◌, [], Result, IfOk, OnOk
 ghost use Rattle.dir_codec.specs.Reading.{reading};
 ghost use Rattle.cap_binding.specs.Binds.{Binds, AreFileOf, AreTextOf};
 ghost use Rattle.client_core.specs.Way.{IsDirectoryOf};
-ghost use Rattle.client_core.specs.Given.{IsBoundAnswer, IsUnboundAnswer};
+ghost use Rattle.client_core.specs.Given.{IsBoundAnswer, IsUnboundAnswer, most_taken};
 ghost use Rattle.client_core.specs.declared.exchange.Answer.{Answer as Answered};
 ghost use Rattle.client_core.specs.declared.exchange.LinkFault.{LinkFault as Fault};
 
@@ -22,8 +22,10 @@ const OK: u16 = 200;
 /// since a directory's text may be longer than the JSON of which it is made.
 const MOST_STORED: u64 = 67_108_864;
 
-/// The most bytes that are taken of what is stored under these fields.
-pub(crate) fn most_of(fields: &ReadFields) -> u64 {
+/// The most bytes that are taken of what is stored under these fields: as many as they say, and 67,108,864 at most.
+pub(crate) fn most_of(fields: &ReadFields) -> u64
+    ensures { result ≡ most_taken fields.now.size }
+{
     fields.size.min(MOST_STORED)
 }
 

@@ -4,6 +4,10 @@
 //! body of no more bytes than were asked for, or it is refused, and the connection with it.
 #![tactic(auto)]
 
+/// Streams that are cut where they are too slow.
+mod pace;
+/// Writing requests.
+mod sending;
 /// Connections.
 mod link;
 /// Reading replies.
@@ -15,4 +19,6 @@ mod lanes;
 
 pub use lanes::Lanes;
 pub use link::Link;
+pub use pace::{Paced, Timer, are_too_few};
 pub use redial::{Dial, Redialing};
+pub use sending::send_request;

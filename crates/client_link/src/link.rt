@@ -1,10 +1,12 @@
 //! Connections.
-ghost use Rattle.std.specs.Prelude.{◌≤◌, length, IfOk};
+ghost use Rattle.std.specs.Prelude.{◌≤◌, length, IfOk, OnOk};
+ghost use Rattle.std.specs.Io.KnownBytes.{Appends};
+ghost use Rattle.client_link.specs.Sent.{request_bytes};
 
 use crate::reply::Replies;
+use crate::sending::send_request;
 use client_core::{Answer, Exchange, LinkFault};
-use client_wire::{Ask, WireFault, request_head};
-use octets::write_whole;
+use client_wire::Ask;
 use std::alloc::Global;
 use std::io::{Read, Write};
 
@@ -85,20 +87,11 @@ impl<'a, S: Read + Write + Drop> Link<'a, S> {
     }
 
     /// Writes a request.
-    fn send(&mut self, ask: &Ask, body: &[u8]) -> Result<(), LinkFault> {
-        let head = match request_head(self.alloc, self.host, ask, body.len()) {
-            Ok(head) => head,
-            Err(WireFault::TooLong) => return Err(LinkFault::NoConnection),
-            Err(WireFault::NoMemory) => return Err(LinkFault::NoMemory),
-        };
-        let mut calls = u64::MAX;
-        if write_whole(&mut self.stream, &head, &mut calls).is_err() {
-            return Err(LinkFault::Broken);
-        }
-        match write_whole(&mut self.stream, body, &mut calls) {
-            Ok(()) => Ok(()),
-            Err(_) => Err(LinkFault::Broken),
-        }
+    fn send(&mut self, ask: &Ask, body: &[u8]) -> Result<(), LinkFault>
+        ensures { OnOk result (Appends (S.contents self.old.stream) (S.contents self.new.stream)
+            (request_bytes self.old.host.now ask.now body.now)) }
+    {
+        send_request(self.alloc, &mut self.stream, self.host, ask, body)
     }
 }
 

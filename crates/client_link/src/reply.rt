@@ -1,5 +1,6 @@
 //! Reading replies.
-ghost use Rattle.std.specs.Prelude.{◌≤◌, length, vec_len, IfOk};
+ghost use Rattle.std.specs.Prelude.{◌≡◌, ◌≤◌, length, vec_len, IfOk};
+ghost use Rattle.client_link.specs.Faults.{fault_of_kind};
 
 use client_core::{Answer, LinkFault};
 use http1::Limits;
@@ -201,6 +202,7 @@ impl Replies {
         if self.input.resize(before + PORTION, 0).is_err() {
             return Err(LinkFault::NoMemory);
         }
+        let mut fault = LinkFault::Broken;
         for _ in 0..u64::MAX {
             match reader.read(&mut self.input[before..]) {
                 Ok(count) => {
@@ -210,12 +212,24 @@ impl Replies {
                 }
                 Err(error) => {
                     if error.kind() != ErrorKind::Interrupted {
+                        fault = fault_of(error.kind());
                         break;
                     }
                 }
             }
         }
         self.input.truncate(before);
-        Err(LinkFault::Broken)
+        Err(fault)
+    }
+}
+
+/// The fault where a read fails: `TooSlow` where its time is over, as a socket tells it by either kind, and else `Broken`.
+fn fault_of(kind: ErrorKind) -> LinkFault
+    ensures { result ≡ fault_of_kind kind }
+{
+    match kind {
+        ErrorKind::TimedOut => LinkFault::TooSlow,
+        ErrorKind::WouldBlock => LinkFault::TooSlow,
+        _ => LinkFault::Broken,
     }
 }

@@ -55,5 +55,6 @@ IsTask given (Mkdir children) = IsVerb given (codes "mkdir") (λ rows.
 -- options are what the words of a command line say, the program's name first
 pub record AreOptionsOf (words : List (List ℕ)) (options : Options) : Type 0 where
   pub gateway : option_map (λ s. s.now) options.gateway ≡ first_of (codes "gateway") (matches_of woz words)
+  pub patience : option_map (λ s. s.now) options.patience ≡ first_of (codes "patience") (matches_of woz words)
   pub quiet : options.quiet ≡ is_set (codes "quiet") (matches_of woz words)
   pub task : IsTask (subcommand_of woz words) options.task

@@ -64,7 +64,7 @@ verb_shapes = verb (codes "put") (recursive ∷ jobs ∷ skip_existing ∷ verif
 abbrev pub woz : App
 woz = record {
   top = record (new_shape (codes "woz")) {
-    rules = valued (codes "gateway") ∷ flag (codes "quiet") ∷ [];
+    rules = valued (codes "gateway") ∷ valued (codes "patience") ∷ flag (codes "quiet") ∷ [];
     is_leaf = false;
     has_version = true;
     subcommand_required = true;

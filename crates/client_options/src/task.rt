@@ -16,6 +16,8 @@ use std::alloc::{AllocError, Global};
 pub struct Options<'a> {
     /// The gateway's URL, if it was given.
     pub gateway: Option<&'a str>,
+    /// For how many seconds the gateway may be slow, if that was given.
+    pub patience: Option<&'a str>,
     /// Whether no progress is told.
     pub quiet: bool,
     /// What is to be done.
@@ -81,6 +83,7 @@ pub fn read_words<'a>(alloc: Global, words: &'a [String]) -> Result<Options<'a>,
     let task = read_task(alloc, &matches)?;
     Ok(Options {
         gateway: find_word(&matches, "gateway"),
+        patience: find_word(&matches, "patience"),
         quiet: has_flag(&matches, "quiet"),
         task,
     })

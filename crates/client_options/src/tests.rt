@@ -40,6 +40,17 @@ fn the_gateway_is_the_one_that_is_named(rt: HostRuntime) -> Result<(), Fail> {
 }
 
 #[test]
+fn patience_is_as_long_as_it_is_given(rt: HostRuntime) -> Result<(), Fail> {
+    let words = line(rt.alloc(), &["ls", "URI:LIT:"])?;
+    assert!(rt; read(rt.alloc(), &words)?.patience.is_none());
+    for seconds in ["2", "600"] {
+        let words = line(rt.alloc(), &["--patience", seconds, "ls", "URI:LIT:"])?;
+        assert!(rt; read(rt.alloc(), &words)?.patience == Some(seconds));
+    }
+    Ok(())
+}
+
+#[test]
 fn progress_is_told_but_for_quiet(rt: HostRuntime) -> Result<(), Fail> {
     let words = line(rt.alloc(), &["ls", "URI:LIT:"])?;
     assert!(rt; !read(rt.alloc(), &words)?.quiet);

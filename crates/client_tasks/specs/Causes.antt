@@ -5,7 +5,7 @@ use Rattle.client_core.specs.declared.fault.ClientFault.TheVariants as client
 use Rattle.client_tree.specs.declared.fault.TreeFault.{TreeFault}
 use Rattle.client_tree.specs.declared.fault.TreeFault.TheVariants as tree
 use Rattle.client_tasks.specs.declared.fault.TaskFault.{TaskFault}
-use Rattle.client_tasks.specs.declared.fault.TaskFault.TheVariants.{Words, BadUrl, BadJobs, BadSkips, BadState, NoCap, Tree, NotWell, OtherCap, PassedOver, Unread, Unwritten, NotPrinted, NoMemory}
+use Rattle.client_tasks.specs.declared.fault.TaskFault.TheVariants.{Words, BadUrl, BadJobs, BadPatience, BadSkips, BadState, NoCap, Tree, NotWell, OtherCap, PassedOver, Unread, Unwritten, NotPrinted, NoMemory}
 
 -- of what the gateway gave, or didn't give
 abbrev pub client_cause : ClientFault → ℕ
@@ -32,6 +32,7 @@ abbrev pub cause : TaskFault → ℕ
 cause Words = 2
 cause BadUrl = 2
 cause BadJobs = 2
+cause BadPatience = 2
 cause BadSkips = 2
 cause BadState = 9
 cause NoCap = 3

@@ -5,6 +5,7 @@ ghost use Rattle.client_tasks.specs.Had.{IsAskedCheck, IsReadThrough, IsStoredHa
 use crate::disk::Nowhere;
 use crate::fault::TaskFault;
 use crate::getting::{MOST_DEPTH, MOST_NODES};
+use crate::messages::Tell;
 use crate::progress::Progress;
 use caps::{Cap, ReadFields, weaken};
 use client_core::{ClientFault, Exchange, copy_cap, fetch_directory, fetch_stored, put_file};
@@ -26,12 +27,12 @@ struct Report {
 }
 
 /// Reads what a cap is of, a file in parts whole, and holds it against the cap. It takes nobody's word.
-pub fn read_all<R: AllocGlobal + Eprint + Drop, E: Exchange>(
+pub fn read_all<R: AllocGlobal + Tell + Drop, E: Exchange>(
     rt: &R,
     gateway: &mut E,
     cap: &Cap,
     recursive: bool,
-    told: bool,
+    is_told: bool,
 ) -> Result<(), TaskFault>
     ensures { IfOk result (λ done. IsReadThrough recursive cap.now) }
 {
@@ -44,7 +45,7 @@ pub fn read_all<R: AllocGlobal + Eprint + Drop, E: Exchange>(
             }
         }
     }
-    let mut nowhere = Nowhere::new(rt, Progress::new(told));
+    let mut nowhere = Nowhere::new(rt, Progress::new(rt, is_told));
     let read = get_tree(alloc, gateway, &mut nowhere, cap, MOST_DEPTH, MOST_NODES);
     nowhere.end();
     Ok(read?)

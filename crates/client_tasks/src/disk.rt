@@ -1,7 +1,10 @@
 //! Folders and files on a disk.
-ghost use Rattle.std.specs.Prelude.{◌≡◌, IfSome, Some};
+ghost use Rattle.std.specs.Prelude.{◌≡◌, IfOk, IfSome, Some, string_bytes};
+ghost use Rattle.client_tree.specs.FileNames.{AreFileNames};
+ghost use Rattle.client_tasks.specs.Places.{IsPlaceBelow, place_of_names};
 
 use crate::journal::{Journal, stamp_of};
+use crate::messages::{Tell, tell_passed_over, told};
 use crate::progress::Progress;
 use crate::state::Stamp;
 use caps::Cap;
@@ -19,13 +22,13 @@ const MOST_TRIES: u32 = 10;
 
 /// What on a disk files are written into: a folder or a file, under a new name until it is whole.
 #[derive(Drop)]
-pub struct DiskFolder<'a, R: Files + AllocGlobal + Eprint + Drop> {
+pub struct DiskFolder<'a, R: Files + AllocGlobal + Tell + Drop> {
     rt: &'a R,
     top: &'a str,
     progress: Progress,
 }
 
-impl<'a, R: Files + AllocGlobal + Eprint + Drop> DiskFolder<'a, R> {
+impl<'a, R: Files + AllocGlobal + Tell + Drop> DiskFolder<'a, R> {
     /// At a path at which nothing stands.
     pub fn new(rt: &'a R, top: &'a str, progress: Progress) -> Self {
         DiskFolder { rt, top, progress }
@@ -51,15 +54,15 @@ impl<'a, R: Files + AllocGlobal + Eprint + Drop> DiskFolder<'a, R> {
     }
 }
 
-impl<R: Files + AllocGlobal + Eprint + Drop> Folder for DiskFolder<'_, R> {
+impl<R: Files + AllocGlobal + Tell + Drop> Folder for DiskFolder<'_, R> {
     fn make_folder(&mut self, path: &[Text]) -> Result<(), LocalFault> {
-        let place = place_of(self.rt.alloc(), self.top, path)?;
+        let place = place_below(self.rt.alloc(), self.top, path)?;
         let made = fs::create_dir(self.rt, place.as_str());
         told(self.rt, place.as_str(), made)
     }
 
     fn write_file(&mut self, path: &[Text], bytes: &[u8]) -> Result<(), LocalFault> {
-        let place = place_of(self.rt.alloc(), self.top, path)?;
+        let place = place_below(self.rt.alloc(), self.top, path)?;
         let written = self.write_new(place.as_str(), bytes);
         if written.is_err() {
             let _ = fs::remove_file(self.rt, place.as_str());
@@ -70,7 +73,7 @@ impl<R: Files + AllocGlobal + Eprint + Drop> Folder for DiskFolder<'_, R> {
     }
 
     fn append_file(&mut self, path: &[Text], bytes: &[u8]) -> Result<(), LocalFault> {
-        let place = place_of(self.rt.alloc(), self.top, path)?;
+        let place = place_below(self.rt.alloc(), self.top, path)?;
         let written = self.append(place.as_str(), bytes);
         told(self.rt, place.as_str(), written)?;
         self.progress.count(self.rt, bytes.len(), false);
@@ -80,42 +83,54 @@ impl<R: Files + AllocGlobal + Eprint + Drop> Folder for DiskFolder<'_, R> {
 
 /// Standard output, on which one file is written.
 #[derive(Drop)]
-pub struct Output<'a, R: Print + Drop> {
+pub struct Output<'a, R: Print + AllocGlobal + Tell + Drop> {
     rt: &'a R,
+    progress: Progress,
 }
 
-impl<'a, R: Print + Drop> Output<'a, R> {
+impl<'a, R: Print + AllocGlobal + Tell + Drop> Output<'a, R> {
     /// Of a program.
-    pub fn new(rt: &'a R) -> Self {
-        Output { rt }
+    pub fn new(rt: &'a R, progress: Progress) -> Self {
+        Output { rt, progress }
+    }
+
+    /// Nothing more comes.
+    pub fn end(&self) {
+        self.progress.end(self.rt);
+    }
+
+    /// Writes bytes, of one more file or of the one that came last.
+    fn write(&mut self, bytes: &[u8], is_new: bool) -> Result<(), LocalFault> {
+        if io::writer(self.rt).write_all(bytes).is_err() {
+            return Err(LocalFault);
+        }
+        self.progress.count(self.rt, bytes.len(), is_new);
+        Ok(())
     }
 }
 
-impl<R: Print + Drop> Folder for Output<'_, R> {
+impl<R: Print + AllocGlobal + Tell + Drop> Folder for Output<'_, R> {
     fn make_folder(&mut self, _path: &[Text]) -> Result<(), LocalFault> {
         Err(LocalFault)
     }
 
     fn write_file(&mut self, _path: &[Text], bytes: &[u8]) -> Result<(), LocalFault> {
-        match io::writer(self.rt).write_all(bytes) {
-            Ok(()) => Ok(()),
-            Err(_) => Err(LocalFault),
-        }
+        self.write(bytes, true)
     }
 
-    fn append_file(&mut self, path: &[Text], bytes: &[u8]) -> Result<(), LocalFault> {
-        self.write_file(path, bytes)
+    fn append_file(&mut self, _path: &[Text], bytes: &[u8]) -> Result<(), LocalFault> {
+        self.write(bytes, false)
     }
 }
 
 /// What is verified, and written nowhere.
 #[derive(Drop)]
-pub struct Nowhere<'a, R: Eprint + Drop> {
+pub struct Nowhere<'a, R: AllocGlobal + Tell + Drop> {
     rt: &'a R,
     progress: Progress,
 }
 
-impl<'a, R: Eprint + Drop> Nowhere<'a, R> {
+impl<'a, R: AllocGlobal + Tell + Drop> Nowhere<'a, R> {
     /// Of a program.
     pub fn new(rt: &'a R, progress: Progress) -> Self {
         Nowhere { rt, progress }
@@ -127,7 +142,7 @@ impl<'a, R: Eprint + Drop> Nowhere<'a, R> {
     }
 }
 
-impl<R: Eprint + Drop> Folder for Nowhere<'_, R> {
+impl<R: AllocGlobal + Tell + Drop> Folder for Nowhere<'_, R> {
     fn make_folder(&mut self, _path: &[Text]) -> Result<(), LocalFault> {
         Ok(())
     }
@@ -145,7 +160,7 @@ impl<R: Eprint + Drop> Folder for Nowhere<'_, R> {
 
 /// A folder on a disk that files are read from.
 #[derive(Drop)]
-pub struct DiskSource<'a, R: Files + AllocGlobal + Eprint + Clone + Drop> {
+pub struct DiskSource<'a, R: Files + AllocGlobal + Tell + Clone + Drop> {
     rt: &'a R,
     top: &'a str,
     progress: Progress,
@@ -161,7 +176,7 @@ pub struct DiskSource<'a, R: Files + AllocGlobal + Eprint + Clone + Drop> {
     journal: Option<Journal>,
 }
 
-impl<'a, R: Files + AllocGlobal + Eprint + Clone + Drop> DiskSource<'a, R> {
+impl<'a, R: Files + AllocGlobal + Tell + Clone + Drop> DiskSource<'a, R> {
     /// At a path, with what is known of files below it that were stored before.
     pub fn new(rt: &'a R, top: &'a str, journal: Option<Journal>, progress: Progress) -> Self {
         DiskSource {
@@ -200,10 +215,7 @@ impl<'a, R: Files + AllocGlobal + Eprint + Clone + Drop> DiskSource<'a, R> {
                     is_folder: kind.is_dir(),
                 })?;
             } else {
-                let name = entry.file_name();
-                let _ = eprintln!(self.rt;
-                    "woz: {place:?}: {name:?} is passed over: neither a file nor a folder"
-                );
+                tell_passed_over(self.rt, place, entry.file_name());
                 self.passed_over = true;
             }
         }
@@ -264,7 +276,7 @@ fn stayed(before: Option<Stamp>, after: Option<Stamp>, count: u64) -> Option<Sta
     }
 }
 
-impl<R: Files + AllocGlobal + Eprint + Clone + Drop> Source for DiskSource<'_, R> {
+impl<R: Files + AllocGlobal + Tell + Clone + Drop> Source for DiskSource<'_, R> {
     fn items(&mut self, path: &[Text]) -> Result<Vec<Item>, LocalFault> {
         let place = place_of(self.rt.alloc(), self.top, path)?;
         let items = self.items_at(place.as_str());
@@ -304,28 +316,39 @@ impl<R: Files + AllocGlobal + Eprint + Clone + Drop> Source for DiskSource<'_, R
 
 /// One file that is read from a stream.
 #[derive(Drop)]
-pub struct StreamSource<S: Read + Drop> {
-    alloc: Global,
+pub struct StreamSource<'a, R: AllocGlobal + Tell, S: Read + Drop> {
+    rt: &'a R,
     stream: S,
+    progress: Progress,
 }
 
-impl<S: Read + Drop> StreamSource<S> {
+impl<'a, R: AllocGlobal + Tell, S: Read + Drop> StreamSource<'a, R, S> {
     /// Of a stream from which nothing was read.
-    pub fn new(alloc: Global, stream: S) -> Self {
-        StreamSource { alloc, stream }
+    pub fn new(rt: &'a R, stream: S, progress: Progress) -> Self {
+        StreamSource {
+            rt,
+            stream,
+            progress,
+        }
+    }
+
+    /// Nothing more comes.
+    pub fn end(&self) {
+        self.progress.end(self.rt);
     }
 }
 
-impl<S: Read + Drop> Source for StreamSource<S> {
+impl<R: AllocGlobal + Tell, S: Read + Drop> Source for StreamSource<'_, R, S> {
     fn items(&mut self, _path: &[Text]) -> Result<Vec<Item>, LocalFault> {
         Err(LocalFault)
     }
 
-    fn read_piece(&mut self, _path: &[Text], _is_first: bool) -> Result<Vec<u8>, LocalFault> {
-        match read_part(self.alloc, &mut self.stream) {
-            Ok(bytes) => Ok(bytes),
-            Err(_) => Err(LocalFault),
-        }
+    fn read_piece(&mut self, _path: &[Text], is_first: bool) -> Result<Vec<u8>, LocalFault> {
+        let Ok(bytes) = read_part(self.rt.alloc(), &mut self.stream) else {
+            return Err(LocalFault);
+        };
+        self.progress.count(self.rt, bytes.len(), is_first);
+        Ok(bytes)
     }
 
     fn known(&mut self, _path: &[Text]) -> Result<Option<Cap>, LocalFault> {
@@ -344,29 +367,24 @@ fn read_part<S: Read>(alloc: Global, stream: &mut S) -> io::Result<Vec<u8>> {
     Ok(bytes)
 }
 
-/// A path below a top.
-fn place_of(alloc: Global, top: &str, path: &[Text]) -> Result<String, AllocError> {
+/// A place below a top to which names of files lead, so that it is nowhere else.
+fn place_below(alloc: Global, top: &str, path: &[Text]) -> Result<String, AllocError>
+    requires { AreFileNames path.now }
+    ensures { IfOk result (λ place. IsPlaceBelow top.now path.now (string_bytes place)) }
+{
+    place_of(alloc, top, path)
+}
+
+/// Where names lead below a top: each stands behind a `/`.
+fn place_of(alloc: Global, top: &str, path: &[Text]) -> Result<String, AllocError>
+    ensures { IfOk result (λ place. string_bytes place ≡ place_of_names top.now path.now) }
+{
     let mut place = String::from_str(alloc, top)?;
     for name in path {
         place.push_str("/")?;
         place.push_str(name.as_str())?;
     }
     Ok(place)
-}
-
-/// Tells what failed at a path.
-pub fn told<R: Eprint, T: Drop>(
-    rt: &R,
-    place: &str,
-    outcome: io::Result<T>,
-) -> Result<T, LocalFault> {
-    match outcome {
-        Ok(value) => Ok(value),
-        Err(error) => {
-            let _ = eprintln!(rt; "woz: {place:?}: {error}");
-            Err(LocalFault)
-        }
-    }
 }
 
 /// A name beside a path, at which nothing stands. It is of random digits, so that two programs that write the same path have

@@ -19,6 +19,9 @@ pub enum TaskFault {
     /// The number of connections is none that there can be.
     #[error("--jobs is to be a number from 1 to 64")]
     BadJobs,
+    /// The number of seconds is none for which the gateway may be slow.
+    #[error("--patience is to be a number from 1 to 3600")]
+    BadPatience,
     /// A state was named, or `--verify` given, where nothing can be skipped.
     #[error("--skip-existing is for put -r, and --verify for --skip-existing")]
     BadSkips,
@@ -71,6 +74,7 @@ impl TaskFault {
             TaskFault::Words => 2,
             TaskFault::BadUrl => 2,
             TaskFault::BadJobs => 2,
+            TaskFault::BadPatience => 2,
             TaskFault::BadSkips => 2,
             TaskFault::BadState => 9,
             TaskFault::NoCap => 3,

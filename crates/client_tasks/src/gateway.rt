@@ -1,15 +1,15 @@
 //! The gateway: its URL, and connections to it.
+ghost use Rattle.std.specs.Prelude.{IfOk};
+ghost use Rattle.client_tasks.specs.Urls.{IsPlaceOf};
 
 use crate::fault::TaskFault;
 use client_core::LinkFault;
-use client_link::Dial;
+use client_link::{Dial, Paced, Timer};
 use http_uri::{Uri, UriError};
 use std::alloc::Global;
 use std::net::{Net, OpenStream, TcpStream};
+use std::rt::Clock;
 use std::time::Duration;
-
-/// For how many seconds a gateway may be silent.
-const SILENCE: u64 = 120;
 
 /// Where a gateway is.
 #[derive(Debug, Drop)]
@@ -20,21 +20,23 @@ pub struct Place {
     pub address: String,
 }
 
-/// Reads a gateway's URL: `http://HOST` or `http://HOST:PORT`, with no path.
-pub fn read_url(alloc: Global, url: &str) -> Result<Place, TaskFault> {
+/// Reads a gateway's URL: `http://HOST` or `http://HOST:PORT`, with no path. `BadUrl` where it is none.
+pub fn read_url(alloc: Global, url: &str) -> Result<Place, TaskFault>
+    ensures { IfOk result (IsPlaceOf url.now) }
+{
     let uri = match Uri::from_str(alloc, url) {
         Ok(uri) => uri,
         Err(UriError::OutOfMemory) => return Err(TaskFault::NoMemory),
         Err(_) => return Err(TaskFault::BadUrl),
     };
-    if uri.scheme_str() != Some("http") || uri.query().is_some() || uri.path() != "/" {
+    let Some(scheme) = uri.scheme_str() else {
         return Err(TaskFault::BadUrl);
-    }
+    };
     let Some(authority) = uri.authority() else {
         return Err(TaskFault::BadUrl);
     };
     let text = authority.as_str();
-    if text.contains('@') {
+    if scheme != "http" || uri.path() != "/" || uri.query().is_some() || text.contains('@') {
         return Err(TaskFault::BadUrl);
     }
     let host = String::from_str(alloc, text)?;
@@ -45,31 +47,51 @@ pub fn read_url(alloc: Global, url: &str) -> Result<Place, TaskFault> {
     Ok(Place { host, address })
 }
 
-/// Opens connections to an address.
+/// The clock of a program.
+#[derive(Drop)]
+pub struct Watch<'a, R> {
+    rt: &'a R,
+}
+
+impl<R: Clock> Timer for Watch<'_, R> {
+    fn milliseconds(&self) -> u64 {
+        match self.rt.monotonic() {
+            Ok(time) => u64::try_from(time.as_millis()).unwrap_or(u64::MAX),
+            Err(_) => 0,
+        }
+    }
+}
+
+/// Opens connections to an address, over which a gateway may be slow for so many seconds.
 #[derive(Drop)]
 pub struct Dialer<'a, R> {
     rt: &'a R,
     address: &'a str,
+    patience: u64,
 }
 
 impl<'a, R> Dialer<'a, R> {
-    /// Of this address.
-    pub fn new(rt: &'a R, address: &'a str) -> Self {
-        Dialer { rt, address }
+    /// Of this address, with so many seconds.
+    pub fn new(rt: &'a R, address: &'a str, patience: u64) -> Self {
+        Dialer {
+            rt,
+            address,
+            patience,
+        }
     }
 }
 
-impl<R: Net> Dial for Dialer<'_, R> {
-    type Stream = R::Stream;
+impl<'a, R: Net + Clock> Dial for Dialer<'a, R> {
+    type Stream = Paced<R::Stream, Watch<'a, R>>;
 
-    fn dial(&mut self) -> Result<R::Stream, LinkFault> {
+    fn dial(&mut self) -> Result<Paced<R::Stream, Watch<'a, R>>, LinkFault> {
         let Ok(stream) = TcpStream::connect(self.rt, self.address) else {
             return Err(LinkFault::NoConnection);
         };
-        let silence = Some(Duration::from_secs(SILENCE));
+        let silence = Some(Duration::from_secs(self.patience));
         let _ = stream.set_nodelay(true);
         let _ = stream.set_read_timeout(silence);
         let _ = stream.set_write_timeout(silence);
-        Ok(stream)
+        Ok(Paced::new(stream, Watch { rt: self.rt }, self.patience))
     }
 }

@@ -9,6 +9,7 @@ use client_link::Lanes;
 use client_options::Task;
 use octets::read_number;
 use std::net::Net;
+use std::rt::Clock;
 
 /// How many there are for a folder where none are given.
 const DEFAULT: u64 = 8;
@@ -16,16 +17,18 @@ const DEFAULT: u64 = 8;
 /// How many there may be.
 const MOST: u64 = 64;
 
-/// The gateway of a task at a place, over as many connections as the task is to have at once.
-pub fn lanes_of<'a, R: Net + AllocGlobal>(
+/// The gateway of a task at a place, over as many connections as the task is to have at once, where it may be slow for so many
+/// seconds.
+pub fn lanes_of<'a, R: Net + Clock + AllocGlobal>(
     rt: &'a R,
     place: &'a Place,
     task: &Task<'_>,
+    patience: u64,
 ) -> Result<Lanes<'a, Dialer<'a, R>>, TaskFault>
     ensures { IfOk result (λ gateway. IsJobCount task.now (length gateway.links.items)) }
 {
     let count = count_jobs(task)?;
-    lanes_to(rt, place, count)
+    lanes_to(rt, place, count, patience)
 }
 
 /// How many connections a task is to have at once: as many as `--jobs` says, from 1 to 64, or else 8 where it stores or writes
@@ -75,17 +78,18 @@ fn read_count(text: &str) -> Option<u64>
     if count == 0 { None } else { Some(count) }
 }
 
-/// A gateway at a place, over so many connections.
-fn lanes_to<'a, R: Net + AllocGlobal>(
+/// A gateway at a place, over so many connections, which may be slow for so many seconds.
+fn lanes_to<'a, R: Net + Clock + AllocGlobal>(
     rt: &'a R,
     place: &'a Place,
     count: u64,
+    patience: u64,
 ) -> Result<Lanes<'a, Dialer<'a, R>>, TaskFault>
     ensures { IfOk result (λ gateway. length gateway.links.items ≡ count) }
 {
     let mut dialers = Vec::new(rt.alloc());
     for _ in 0..count {
-        dialers.push(Dialer::new(rt, place.address.as_str()))?;
+        dialers.push(Dialer::new(rt, place.address.as_str(), patience))?;
     }
     Ok(Lanes::new(rt.alloc(), place.host.as_str(), dialers)?)
 }

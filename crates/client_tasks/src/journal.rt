@@ -2,8 +2,9 @@
 ghost use Rattle.std.specs.Prelude.{IfOk, IsTrue};
 ghost use Rattle.cap_binding.specs.Binds.{AreFileOf};
 
-use crate::disk::{new_name, told};
+use crate::disk::new_name;
 use crate::fault::TaskFault;
+use crate::messages::{Tell, told};
 use crate::state::{FIRST_LINE, Known, Stamp, push_line, read_state};
 use cap_binding::bound;
 use caps::Cap;
@@ -122,7 +123,7 @@ impl Journal {
     }
 
     /// Writes what the next put is told: under a new name, which becomes `path` once it is whole and synced.
-    pub fn write<R: Files + AllocGlobal + Eprint + RandomSource>(
+    pub fn write<R: Files + AllocGlobal + Tell + RandomSource>(
         &self,
         rt: &R,
         path: &str,

@@ -6,6 +6,8 @@
 mod fault;
 /// The gateway: its URL, and connections to it.
 mod gateway;
+/// For how long it may be slow.
+mod patience;
 /// How many connections to it there are at once.
 mod jobs;
 /// Caps and paths as they are given.
@@ -14,10 +16,14 @@ mod given;
 mod state;
 /// Files that a put skips because they were stored before.
 mod journal;
-/// Folders and files on a disk.
-mod disk;
+/// What is told on standard error: lines in which no cap is.
+mod messages;
+/// What is printed of what was put: its cap.
+mod printed;
 /// What is told of files that pass.
 mod progress;
+/// Folders and files on a disk.
+mod disk;
 /// Writing what caps are of.
 mod getting;
 /// Storing files and folders.
@@ -29,5 +35,9 @@ mod checking;
 /// Reading the words, and doing what they ask for.
 mod tasks;
 
+/// Laws about what is told.
+pub mod laws;
+
 pub use fault::TaskFault;
-pub use tasks::run;
+pub use messages::tell_fault;
+pub use tasks::{Terminals, run};

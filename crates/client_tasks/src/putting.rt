@@ -5,8 +5,9 @@ use crate::fault::TaskFault;
 use crate::getting::{MOST_DEPTH, MOST_NODES};
 use crate::given::read_cap;
 use crate::journal::Journal;
+use crate::messages::Tell;
+use crate::printed::{PrintCap, Put};
 use crate::progress::Progress;
-use caps::{Cap, print};
 use client_core::Exchange;
 use client_tree::{TreeFault, child_of, directory_of, put_tree, put_whole};
 use octets::Text;
@@ -17,30 +18,34 @@ use std::random::RandomSource;
 use std::rt::Files;
 
 /// Stores a file, or with `-` standard input, and prints its cap. What has more than 16,777,216 bytes is stored in parts.
-pub fn put_one<R: Files + AllocGlobal + Print + Input, E: Exchange>(
+pub fn put_one<R: Files + AllocGlobal + PrintCap + Tell + Input, E: Exchange>(
     rt: &R,
     gateway: &mut E,
     path: &str,
+    is_told: bool,
 ) -> Result<(), TaskFault> {
     if path == "-" {
-        return put_stream(rt, gateway, rt.reader());
+        return put_stream(rt, gateway, rt.reader(), is_told);
     }
     match File::open(rt, path) {
-        Ok(file) => put_stream(rt, gateway, file),
+        Ok(file) => put_stream(rt, gateway, file, is_told),
         Err(error) if error.kind() == ErrorKind::OutOfMemory => Err(TaskFault::NoMemory),
         Err(_) => Err(TaskFault::Unread),
     }
 }
 
 /// Stores what is read from a stream, and prints its cap.
-fn put_stream<R: AllocGlobal + Print, E: Exchange, S: Read + Drop>(
+fn put_stream<R: AllocGlobal + PrintCap + Tell, E: Exchange, S: Read + Drop>(
     rt: &R,
     gateway: &mut E,
     stream: S,
+    is_told: bool,
 ) -> Result<(), TaskFault> {
-    let mut source = StreamSource::new(rt.alloc(), stream);
-    match put_whole(rt.alloc(), gateway, &mut source, &[]) {
-        Ok(cap) => print_cap(rt, &cap),
+    let mut source = StreamSource::new(rt, stream, Progress::new(rt, is_told));
+    let stored = put_whole(rt.alloc(), gateway, &mut source, &[]);
+    source.end();
+    match stored {
+        Ok(cap) => rt.print_cap(&Put { cap }),
         Err(TreeFault::Local(_)) => Err(TaskFault::Unread),
         Err(fault) => Err(TaskFault::Tree(fault)),
     }
@@ -52,7 +57,7 @@ fn put_stream<R: AllocGlobal + Print, E: Exchange, S: Read + Drop>(
 /// Where a state is named, files that it knows as they are aren't stored again, and it is written anew once the cap is
 /// printed.
 pub fn put_folder<
-    R: Files + AllocGlobal + Print + Eprint + RandomSource + Clone + Drop,
+    R: Files + AllocGlobal + PrintCap + Tell + RandomSource + Clone + Drop,
     E: Exchange,
 >(
     rt: &R,
@@ -60,16 +65,16 @@ pub fn put_folder<
     path: &str,
     state: Option<&str>,
     verified: bool,
-    told: bool,
+    is_told: bool,
 ) -> Result<(), TaskFault> {
     let journal = match state {
         Some(state) => Some(Journal::read(rt, state, verified)?),
         None => None,
     };
-    let mut source = DiskSource::new(rt, path, journal, Progress::new(told));
+    let mut source = DiskSource::new(rt, path, journal, Progress::new(rt, is_told));
     let stored = put_tree(rt.alloc(), gateway, &mut source, MOST_DEPTH, MOST_NODES);
     let passed_over = source.end();
-    print_cap(rt, &stored?)?;
+    rt.print_cap(&Put { cap: stored? })?;
     if let (Some(state), Some(journal)) = (state, source.journal()) {
         journal.write(rt, state)?;
     }
@@ -80,7 +85,7 @@ pub fn put_folder<
 }
 
 /// Makes a directory of children that are given as `NAME=CAP`, and prints its cap.
-pub fn make_folder<R: Files + AllocGlobal + Print, E: Exchange>(
+pub fn make_folder<R: Files + AllocGlobal + PrintCap, E: Exchange>(
     rt: &R,
     gateway: &mut E,
     given: &[&str],
@@ -95,19 +100,10 @@ pub fn make_folder<R: Files + AllocGlobal + Print, E: Exchange>(
         children.push(child_of(alloc, &name_of(alloc, name)?, cap)?)?;
     }
     let cap = directory_of(alloc, gateway, &children)?;
-    print_cap(rt, &cap)
+    rt.print_cap(&Put { cap })
 }
 
 /// A name that owns its text.
 fn name_of(alloc: Global, name: &str) -> Result<Text, TaskFault> {
     Ok(Text::from_string(String::from_str(alloc, name)?))
-}
-
-/// Prints a cap on a line of standard output, on which alone caps are printed.
-pub fn print_cap<R: Print + AllocGlobal>(rt: &R, cap: &Cap) -> Result<(), TaskFault> {
-    let text = print(rt.alloc(), cap)?;
-    match println!(rt; "{text}") {
-        Ok(()) => Ok(()),
-        Err(_) => Err(TaskFault::NotPrinted),
-    }
 }

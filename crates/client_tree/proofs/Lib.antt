@@ -4,4 +4,5 @@ pub mod Below
 pub mod PartSizes
 pub mod Joined
 pub mod Read
+pub mod Known
 pub mod UnderWay

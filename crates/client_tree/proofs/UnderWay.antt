@@ -7,10 +7,12 @@ use Rattle.cap_binding.specs.Binds.{AreFileOf}
 use Rattle.client_tree.specs.Runs.{File, AreGroups, Passes}
 use Rattle.client_tree.specs.Parts.{part_bytes}
 use Rattle.client_tree.specs.Stored.{stored_name, IsStoredAt, IsStoredFile, IsStoredBelow, HasChildren}
-use Rattle.client_tree.specs.UnderWay.{IsInHand, IsFilePut, StaysInHand}
+use Rattle.client_tree.specs.Known.{IsIdle, IsKnownBelow, IsKnownFile, IsKnownChild}
+use Rattle.client_tree.specs.UnderWay.{IsInHand, StaysInHand}
 use Rattle.client_tree.specs.declared.children.Child.{Child}
 use Rattle.client_tree.specs.declared.window.Waiting.{Waiting}
-use Rattle.client_tree.proofs.Below.{groups_more, one_group, both_groups, stored_above}
+use Rattle.client_tree.proofs.Below.{groups_more, one_group, both_groups, stored_above, one_more_stored}
+use Rattle.client_tree.proofs.Known.{passed_beside, idle_more, idle_kept, known_more, known_behind, known_last, known_above, known_step}
 use Rattle.client_tree.proofs.Running.{both_passed, passed_then_rested}
 
 -- below more children
@@ -149,14 +151,88 @@ pub on_ok_more : {T E : Type 0} (r : Result T E) (P Q : Type 0) → (P → Q) �
 on_ok_more (Ok x) P Q more known = more known
 on_ok_more (Err e) P Q more known = known
 
--- the files that were in hand, and those of one more name
-pub one_more_put : {A : Type 0} (gave : A → File → A → Type 0) (kept : A → A → Type 0) (knew : A → List (List ℕ) → Cap → A → Type 0)
-    (children more : List Child) (waiting left : List Waiting) (path : List (List ℕ)) (name : List ℕ) (first middle last : A) → StaysInHand children waiting more left
-    → Passes gave kept (AreGroups (IsInHand children waiting path)) first middle → IsFilePut gave kept knew more left path name middle last
-    → Passes gave kept (AreGroups (IsInHand more left path)) first last
-one_more_put gave kept knew children more waiting left path name first middle last still before (inl read) =
-    both_passed gave kept (AreGroups (IsInHand children waiting path)) (IsInHand more left path) (AreGroups (IsInHand more left path)) first middle last
-    (λ fs group are kept_is. one_more_kept children more waiting left path fs group still are kept_is) before read
-one_more_put gave kept knew children more waiting left path name first middle last still before (inr known) =
-    passed_then_rested gave kept (AreGroups (IsInHand children waiting path)) (AreGroups (IsInHand more left path)) first middle last
-    (λ fs are. groups_kept children more waiting left path fs still are) before known.kept_is
+module _ {A : Type 0} (gave : A → File → A → Type 0) (kept : A → A → Type 0) (knew : A → List (List ℕ) → Cap → A → Type 0) where
+  -- the files that were in hand, and those of one more name
+  pub one_more_put : (known children more : List Child) (waiting left : List Waiting) (path : List (List ℕ)) (first middle asked last : A) → StaysInHand children waiting more left
+      → Passes gave (IsIdle kept knew (IsKnownBelow known path)) (AreGroups (IsInHand children waiting path)) first middle → kept middle asked
+      → Passes gave kept (IsInHand more left path) asked last → Passes gave (IsIdle kept knew (IsKnownBelow known path)) (AreGroups (IsInHand more left path)) first last
+  one_more_put known children more waiting left path first middle asked last still before idle read =
+      let rest : A → A → Type 0 = IsIdle kept knew (IsKnownBelow known path) in
+      both_passed gave rest (AreGroups (IsInHand children waiting path)) (IsInHand more left path) (AreGroups (IsInHand more left path)) first asked last
+      (λ fs group are kept_is. one_more_kept children more waiting left path fs group still are kept_is)
+      (passed_then_rested gave rest (AreGroups (IsInHand children waiting path)) (AreGroups (IsInHand children waiting path)) first middle asked (λ fs are. are) before (inl idle))
+      (passed_beside gave kept rest (IsInHand more left path) (IsInHand more left path) asked last (idle_kept kept knew (IsKnownBelow known path)) (λ fs are. are) read)
+
+  -- the same where the source knew its cap
+  pub one_more_known : (known children : List Child) (child : Child) (waiting : List Waiting) (path file : List (List ℕ)) (name : List ℕ) (first middle last : A) → file ≡ path ++ name ∷ []
+      → Passes gave (IsIdle kept knew (IsKnownBelow known path)) (AreGroups (IsInHand children waiting path)) first middle → IsKnownChild knew file name child middle last
+      → Passes gave (IsIdle kept knew (IsKnownBelow (known ++ child ∷ []) path)) (AreGroups (IsInHand children waiting path)) first last
+  one_more_known known children child waiting path file name first middle last place before is =
+      let holds : List File → Type 0 = AreGroups (IsInHand children waiting path) in
+      let less : A → A → Type 0 = IsIdle kept knew (IsKnownBelow known path) in
+      let rest : A → A → Type 0 = IsIdle kept knew (IsKnownBelow (known ++ child ∷ []) path) in
+      passed_then_rested gave rest holds holds first middle last (λ fs are. are)
+      (passed_beside gave less rest holds holds first middle
+      (idle_more kept knew (IsKnownBelow known path) (IsKnownBelow (known ++ child ∷ []) path) (λ other cap below. known_more known (child ∷ []) path other cap below))
+      (λ fs are. are) before)
+      (known_step kept knew known child path file name middle last place is)
+
+  -- all of a folder's files, once none is on its way and the source was told of them
+  pub all_put : (known done children : List Child) (waiting : List Waiting) (path : List (List ℕ)) (first middle last : A)
+      → ((files : List File) → IsInHand children waiting path files → IsStoredBelow done path files)
+      → Passes gave (IsIdle kept knew (IsKnownBelow known path)) (AreGroups (IsInHand children waiting path)) first middle → kept middle last
+      → Passes gave (IsIdle kept knew (IsKnownBelow (done ++ known) path)) (AreGroups (IsStoredBelow (done ++ known) path)) first last
+  all_put known done children waiting path first middle last settled before idle =
+      let all : List Child = done ++ known in
+      let less : A → A → Type 0 = IsIdle kept knew (IsKnownBelow known path) in
+      let rest : A → A → Type 0 = IsIdle kept knew (IsKnownBelow all path) in
+      passed_then_rested gave rest (AreGroups (IsStoredBelow all path)) (AreGroups (IsStoredBelow all path)) first middle last (λ fs are. are)
+      (passed_beside gave less rest (AreGroups (IsInHand children waiting path)) (AreGroups (IsStoredBelow all path)) first middle
+      (idle_more kept knew (IsKnownBelow known path) (IsKnownBelow all path) (λ file cap below. known_behind done known path file cap below))
+      (λ fs are. groups_more (IsInHand children waiting path) (IsStoredBelow all path) fs (λ group hand. below_more done known path group (settled group hand)) are) before)
+      (inl idle)
+
+  -- the files of a folder and of its folders, under a directory that has both
+  pub both_put : (cap : Cap) (children more all : List Child) (path : List (List ℕ)) (first middle last : A) → all ≡ children ++ more → HasChildren all cap
+      → Passes gave (IsIdle kept knew (IsKnownBelow children path)) (AreGroups (IsStoredBelow children path)) first middle
+      → Passes gave (IsIdle kept knew (IsKnownBelow more path)) (AreGroups (IsStoredBelow more path)) middle last
+      → Passes gave (IsIdle kept knew (IsKnownFile cap path)) (AreGroups (IsStoredFile cap path)) first last
+  both_put cap children more all path first middle last same has one other =
+      let has_both : HasChildren (children ++ more) cap = subst (λ (cs : List Child). HasChildren cs cap) same has in
+      let rest : A → A → Type 0 = IsIdle kept knew (IsKnownFile cap path) in
+      both_passed gave rest (AreGroups (IsStoredBelow children path)) (AreGroups (IsStoredBelow more path)) (AreGroups (IsStoredFile cap path)) first middle last
+      (λ fs others are. both_above cap children more all path fs others same has are)
+      (passed_beside gave (IsIdle kept knew (IsKnownBelow children path)) rest (AreGroups (IsStoredBelow children path)) (AreGroups (IsStoredBelow children path)) first middle
+      (idle_more kept knew (IsKnownBelow children path) (IsKnownFile cap path)
+      (λ file k below. known_above cap (children ++ more) path file k has_both (known_more children more path file k below))) (λ fs are. are) one)
+      (passed_beside gave (IsIdle kept knew (IsKnownBelow more path)) rest (AreGroups (IsStoredBelow more path)) (AreGroups (IsStoredBelow more path)) middle last
+      (idle_more kept knew (IsKnownBelow more path) (IsKnownFile cap path)
+      (λ file k below. known_above cap (children ++ more) path file k has_both (known_behind children more path file k below))) (λ fs are. are) other)
+
+  -- what stands below the folders so far, and what stands below one more
+  pub one_more_folder : (children : List Child) (child : Child) (path : List (List ℕ)) (first middle last : A) → child.stored ≡ stored_name child.name
+      → Passes gave (IsIdle kept knew (IsKnownBelow children path)) (AreGroups (IsStoredBelow children path)) first middle
+      → Passes gave (IsIdle kept knew (IsKnownFile child.cap (path ++ child.name ∷ []))) (AreGroups (IsStoredFile child.cap (path ++ child.name ∷ []))) middle last
+      → Passes gave (IsIdle kept knew (IsKnownBelow (children ++ child ∷ []) path)) (AreGroups (IsStoredBelow (children ++ child ∷ []) path)) first last
+  one_more_folder children child path first middle last stored before after =
+      let all : List Child = children ++ child ∷ [] in
+      let rest : A → A → Type 0 = IsIdle kept knew (IsKnownBelow all path) in
+      let one : List File → Type 0 = AreGroups (IsStoredBelow children path) in
+      let other : List File → Type 0 = AreGroups (IsStoredFile child.cap (path ++ child.name ∷ [])) in
+      both_passed gave rest one other (AreGroups (IsStoredBelow all path)) first middle last
+      (λ fs more here there. one_more_stored children child path fs more stored here there)
+      (passed_beside gave (IsIdle kept knew (IsKnownBelow children path)) rest one one first middle
+      (idle_more kept knew (IsKnownBelow children path) (IsKnownBelow all path) (λ file k below. known_more children (child ∷ []) path file k below)) (λ fs are. are) before)
+      (passed_beside gave (IsIdle kept knew (IsKnownFile child.cap (path ++ child.name ∷ []))) rest other other middle last
+      (idle_more kept knew (IsKnownFile child.cap (path ++ child.name ∷ [])) (IsKnownBelow all path) (λ file k led. known_last children child path file k stored led)) (λ fs are. are) after)
+
+  -- the same, as other names have it
+  pub put_moved : (known others children more : List Child) (waiting left : List Waiting) (path : List (List ℕ)) (first middle last : A)
+      → others ≡ known → more ≡ children → left ≡ waiting → last ≡ middle
+      → Passes gave (IsIdle kept knew (IsKnownBelow known path)) (AreGroups (IsInHand children waiting path)) first middle
+      → Passes gave (IsIdle kept knew (IsKnownBelow others path)) (AreGroups (IsInHand more left path)) first last
+  put_moved known others children more waiting left path first middle last knowns childs waits moves before =
+      subst (λ (ks : List Child). Passes gave (IsIdle kept knew (IsKnownBelow ks path)) (AreGroups (IsInHand more left path)) first last) (sym knowns)
+      (subst (λ (cs : List Child). Passes gave (IsIdle kept knew (IsKnownBelow known path)) (AreGroups (IsInHand cs left path)) first last) (sym childs)
+      (subst (λ (ws : List Waiting). Passes gave (IsIdle kept knew (IsKnownBelow known path)) (AreGroups (IsInHand children ws path)) first last) (sym waits)
+      (subst (λ (s : A). Passes gave (IsIdle kept knew (IsKnownBelow known path)) (AreGroups (IsInHand children waiting path)) first s) (sym moves) before)))

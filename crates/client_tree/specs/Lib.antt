@@ -1,4 +1,4 @@
--- Read Parts first, then Joined, Trees, Placed and Stored. Runs is what several files leave, one after the other. UnderWay is of private clauses.
+-- Read Parts first, then Joined, Trees, Placed, Stored and Known. Runs is what several files leave, one after the other. UnderWay is of private clauses.
 pub mod FileNames
 pub mod Runs
 pub mod Parts
@@ -6,4 +6,5 @@ pub mod Joined
 pub mod Trees
 pub mod Placed
 pub mod Stored
+pub mod Known
 pub mod UnderWay

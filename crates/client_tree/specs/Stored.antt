@@ -58,3 +58,8 @@ pub record HasChildren (children : List Child) (cap : Cap) : Type 0 where
   pub entries : List Entry
   pub of_cap : IsDirectoryOf cap entries
   pub named : All (λ (child : Child). cap_named child.stored entries ≡ Some child.cap) children
+
+-- the cap is of a directory
+pub record IsAnyDirectory (cap : Cap) : Type 0 where
+  pub entries : List Entry
+  pub of_cap : IsDirectoryOf cap entries

@@ -6,10 +6,11 @@ ghost use Rattle.client_tree.specs.Stored.{HasChildren, stored_name};
 use crate::fault::TreeFault;
 use caps::{Cap, print};
 use client_core::{Exchange, make_directory};
-use dir_codec::{Directory, from_children_json, is_memory};
+use dir_codec::{DirFault, Directory, decode, from_children_json, is_memory};
 use octets::Text;
-use serde_json::Value;
 use std::alloc::{AllocError, Global};
+use std::collections::BTreeMap;
+use tag_hash::push_netstring;
 use unicode_normalization::to_nfc;
 
 /// What stands under a name, stored.
@@ -34,8 +35,7 @@ pub fn directory_of<E: Exchange>(
 ) -> Result<Cap, TreeFault>
     ensures { IfOk result (HasChildren children.now) }
 {
-    let text = text_of_children(alloc, children)?;
-    let directory = named_directory(alloc, text.as_bytes())?;
+    let directory = directory_with(alloc, children)?;
     all_are_found(alloc, children, &directory)?;
     Ok(make_directory(alloc, gateway, &directory)?)
 }
@@ -44,12 +44,16 @@ pub fn directory_of<E: Exchange>(
 pub(crate) fn named_directory(alloc: Global, text: &[u8]) -> Result<Directory, TreeFault> {
     match from_children_json(alloc, text) {
         Ok(directory) => Ok(directory),
-        Err(fault) => {
-            if is_memory(&fault) {
-                return Err(TreeFault::NoMemory);
-            }
-            Err(TreeFault::BadChildren)
-        }
+        Err(fault) => Err(fault_of(&fault)),
+    }
+}
+
+/// The fault where there is no directory.
+fn fault_of(fault: &DirFault) -> TreeFault {
+    if is_memory(fault) {
+        TreeFault::NoMemory
+    } else {
+        TreeFault::BadChildren
     }
 }
 
@@ -90,30 +94,46 @@ pub(crate) fn are_same(one: &Cap, other: &Cap) -> bool
     }
 }
 
-/// The JSON that names the children.
-fn text_of_children(alloc: Global, children: &[Child]) -> Result<String, AllocError> {
-    let mut text = String::from_str(alloc, "{")?;
-    for (at, child) in children.iter().enumerate() {
-        if at > 0 {
-            text.push_str(",")?;
-        }
-        push_child(alloc, &mut text, child)?;
+/// The directory that has each child under its name, as far as no two have one name: of those it has the last.
+///
+/// It is read from its own text. Read from the JSON of which a gateway makes it, a tree of JSON values would stand beside it.
+fn directory_with(alloc: Global, children: &[Child]) -> Result<Directory, TreeFault> {
+    let text = text_of_children(alloc, children)?;
+    match decode(alloc, &text) {
+        Ok(directory) => Ok(directory),
+        Err(fault) => Err(fault_of(&fault)),
     }
-    text.push_str("}")?;
+}
+
+/// The text of that directory: its entries in order of their names.
+fn text_of_children(alloc: Global, children: &[Child]) -> Result<Vec<u8>, AllocError> {
+    let mut named = BTreeMap::new(alloc);
+    for child in children {
+        named.insert(child.stored.as_str().as_bytes(), &child.cap)?;
+    }
+    let mut text = Vec::new(alloc);
+    let mut inside = Vec::new(alloc);
+    for (name, cap) in named.iter() {
+        push_entry(alloc, &mut text, &mut inside, *name, *cap)?;
+    }
     Ok(text)
 }
 
-/// Appends the member of a child.
-fn push_child(alloc: Global, text: &mut String, child: &Child) -> Result<(), AllocError> {
-    let name = Value::try_from_str(alloc, child.stored.as_str())?.to_string(alloc)?;
-    let cap = print(alloc, &child.cap)?;
-    text.push_str(name.as_str())?;
-    text.push_str(match child.cap {
-        Cap::DirChk(_) | Cap::DirLit(_) => ":[\"dirnode\",{\"ro_uri\":\"",
-        _ => ":[\"filenode\",{\"ro_uri\":\"",
-    })?;
-    text.push_str(cap.as_str())?;
-    text.push_str("\"}]")
+/// Appends the entry of a child, which has no metadata. What `inside` holds is dropped, and its memory used.
+fn push_entry(
+    alloc: Global,
+    text: &mut Vec<u8>,
+    inside: &mut Vec<u8>,
+    name: &[u8],
+    cap: &Cap,
+) -> Result<(), AllocError> {
+    let cap = print(alloc, cap)?;
+    inside.clear();
+    push_netstring(inside, name)?;
+    push_netstring(inside, cap.as_bytes())?;
+    push_netstring(inside, b"")?;
+    push_netstring(inside, b"{}")?;
+    push_netstring(text, inside)
 }
 
 /// The child of a name.

@@ -18,11 +18,11 @@ pub enum TreeFault {
     /// The gateway's side.
     #[error("{0}")]
     Client(ClientFault),
-    /// No file can have this name in a folder.
-    #[error("a name that no file can have")]
+    /// No file can have this name in a folder. The message has it in quotes, its control characters escaped.
+    #[error("a name that no file can have: {:?}", .0.as_str())]
     BadName(Text),
-    /// Two names are one in NFC, of which this is one.
-    #[error("two names are one, but for how they are composed")]
+    /// Two names are one in NFC, of which this is one. The message has it in quotes, its control characters escaped.
+    #[error("two names are one, but for how they are composed: {:?}", .0.as_str())]
     SameName(Text),
     /// What was to be a directory's children is none.
     #[error("bad children")]

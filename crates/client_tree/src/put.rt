@@ -1,8 +1,9 @@
 //! Storing a folder.
-ghost use Rattle.std.specs.Prelude.{◌≡◌, [], ◌∷◌, ◌++◌, IfOk, OnOk};
+ghost use Rattle.std.specs.Prelude.{◌≡◌, [], ◌∷◌, ◌++◌, IfOk, IfNone, IfSome, OnOk};
 ghost use Rattle.client_tree.specs.Runs.{Passes, AreGroups};
-ghost use Rattle.client_tree.specs.Stored.{IsStoredFile, IsStoredBelow};
-ghost use Rattle.client_tree.specs.UnderWay.{IsInHand, IsFilePut, StaysInHand};
+ghost use Rattle.client_tree.specs.Stored.{IsAnyDirectory, IsStoredFile, IsStoredBelow};
+ghost use Rattle.client_tree.specs.Known.{IsIdle, IsKnownBelow, IsKnownChild, IsKnownFile};
+ghost use Rattle.client_tree.specs.UnderWay.{IsInHand, StaysInHand};
 
 use crate::children::{Child, child_of, directory_of};
 use crate::fault::TreeFault;
@@ -24,7 +25,7 @@ pub(crate) const MOST_BESIDE: u64 = 262_144;
 ///
 /// Whatever the gateway answers, for each file that was read under a path, whole or piece after piece, the names of the
 /// path, in NFC, lead from the cap to one that is of all bytes which were read. A file whose cap the source knows isn't
-/// read: that cap stands under its name.
+/// read: the names of its path lead to that cap.
 pub fn put_tree<E: Exchange, S: Source>(
     alloc: Global,
     gateway: &mut E,
@@ -32,8 +33,9 @@ pub fn put_tree<E: Exchange, S: Source>(
     depth: u32,
     most: u64,
 ) -> Result<Cap, TreeFault>
-    ensures { IfOk result (λ cap.
-        Passes S.gave S.kept (AreGroups (IsStoredFile cap [])) source.old source.new) }
+    ensures files { IfOk result (λ cap. Passes S.gave (IsIdle S.kept S.knew (IsKnownFile cap []))
+        (AreGroups (IsStoredFile cap [])) source.old source.new) }
+    ensures directory { IfOk result IsAnyDirectory }
 {
     let path = Vec::new(alloc);
     let mut left = most;
@@ -59,8 +61,10 @@ fn put_folder<E: Exchange, S: Source>(
     depth: u32,
     left: &mut u64,
 ) -> Result<Cap, TreeFault>
-    ensures { IfOk result (λ cap.
-        Passes S.gave S.kept (AreGroups (IsStoredFile cap path.now)) source.old source.new) }
+    ensures files { IfOk result (λ cap.
+        Passes S.gave (IsIdle S.kept S.knew (IsKnownFile cap path.now))
+        (AreGroups (IsStoredFile cap path.now)) source.old source.new) }
+    ensures directory { IfOk result IsAnyDirectory }
 {
     let items = source.items(path)?;
     let mut children = put_files(alloc, gateway, source, path, &items, left)?;
@@ -80,7 +84,8 @@ fn put_folders<E: Exchange, S: Source>(
     depth: u32,
     left: &mut u64,
 ) -> Result<Vec<Child>, TreeFault>
-    ensures { IfOk result (λ children. Passes S.gave S.kept
+    ensures { IfOk result (λ children.
+        Passes S.gave (IsIdle S.kept S.knew (IsKnownBelow children.items path.now))
         (AreGroups (IsStoredBelow children.items path.now)) source.old source.new) }
 {
     let mut children = Vec::new(alloc);
@@ -108,45 +113,52 @@ fn put_files<E: Exchange, S: Source>(
     items: &[Item],
     left: &mut u64,
 ) -> Result<Vec<Child>, TreeFault>
-    ensures { IfOk result (λ children. Passes S.gave S.kept
+    ensures { IfOk result (λ children.
+        Passes S.gave (IsIdle S.kept S.knew (IsKnownBelow children.items path.now))
         (AreGroups (IsStoredBelow children.items path.now)) source.old source.new) }
 {
     let mut window = Window::new(alloc);
+    let mut known = Vec::new(alloc);
     for item in items {
         if item.is_folder {
             continue;
         }
         take_one(left)?;
-        put_file_of(alloc, gateway, source, path, &item.name, &mut window)?;
+        let below = path_below(alloc, path, item.name.as_str())?;
+        match known_child(alloc, source, &below, &item.name)? {
+            Some(child) => known.push(child)?,
+            None => put_unknown(
+                alloc,
+                gateway,
+                source,
+                path,
+                &item.name,
+                &below,
+                &mut window,
+            )?,
+        }
     }
-    let children = window.finish(alloc, gateway)?;
+    let mut children = window.finish(alloc, gateway)?;
+    children.append(&mut known)?;
     source.stored(path, &children)?;
     Ok(children)
 }
 
-/// Has the file of a name below a path among the children, where the source knows its cap; else stores it, or sends it
-/// on its way.
-fn put_file_of<E: Exchange, S: Source>(
+/// The child that the file under a path becomes, whose name is given, if the source knows its cap.
+fn known_child<S: Source>(
     alloc: Global,
-    gateway: &mut E,
     source: &mut S,
-    path: &[Text],
+    below: &[Text],
     name: &Text,
-    window: &mut Window,
-) -> Result<(), TreeFault>
-    ensures put { OnOk result (IsFilePut S.gave S.kept S.knew
-        window.new.children.items window.new.waiting.items path.now name.now
-        source.old source.new) }
-    ensures stays { OnOk result (StaysInHand
-        window.old.children.items window.old.waiting.items
-        window.new.children.items window.new.waiting.items) }
+) -> Result<Option<Child>, TreeFault>
+    ensures some { IfOk result (λ found. IfSome found (λ child.
+        IsKnownChild S.knew below.now name.now child source.old source.new)) }
+    ensures none { IfOk result (λ found. IfNone found (S.kept source.old source.new)) }
 {
-    let below = path_below(alloc, path, name.as_str())?;
-    if let Some(known) = source.known(&below)? {
-        window.children.push(child_of(alloc, name, known)?)?;
-        return Ok(());
+    match source.known(below)? {
+        Some(cap) => Ok(Some(child_of(alloc, name, cap)?)),
+        None => Ok(None),
     }
-    put_unknown(alloc, gateway, source, path, name, &below, window)
 }
 
 /// Stores the file of a name below a path, which are the names `below`, or sends it on its way.

@@ -1,5 +1,5 @@
 //! Folders that files are read from.
-ghost use Rattle.std.specs.Prelude.{IfOk, IfSome, OnErr};
+ghost use Rattle.std.specs.Prelude.{IfOk, IfNone, IfSome, OnErr, MatchResult};
 
 use crate::children::Child;
 use crate::fault::LocalFault;
@@ -47,7 +47,8 @@ pub trait Source {
 
     /// The cap of a file in it that was stored before, if it knows one.
     fn known(&mut self, path: &[Text]) -> Result<Option<Cap>, LocalFault>
-        ensures kept { kept self.old self.new }
+        ensures kept { MatchResult result (λ found. IfNone found (kept self.old self.new))
+            (λ fault. kept self.old self.new) }
         ensures cap { IfOk result (λ found. IfSome found (λ cap.
             knew self.old path.now cap self.new)) };
 

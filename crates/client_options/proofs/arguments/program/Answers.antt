@@ -22,8 +22,11 @@ bare = wanting (versioned (new_app (codes "woz")))
 abbrev with_gateway : App
 with_gateway = with_rule bare (valued (codes "gateway"))
 
+abbrev with_patience : App
+with_patience = with_rule with_gateway (valued (codes "patience"))
+
 abbrev with_options : App
-with_options = with_rule with_gateway (flag (codes "quiet"))
+with_options = with_rule with_patience (flag (codes "quiet"))
 
 pub returns : goal.returns
 returns c =
@@ -32,8 +35,9 @@ returns c =
     let about : app_of c.about.result ≡ versioned (new_app (codes "woz")) = ap app_of_fields c.about.ensures ∙ version in
     let start : app_of c.subcommand_required.result ≡ bare = ap app_of_fields c.subcommand_required.ensures ∙ ap wanting about in
     let first : app_of c.in_ok-arg.field-0 ≡ with_gateway = c.in_ok-arg.ensures.shape c.valued.ensures.1 ∙ ap₂ with_rule start c.valued.ensures.0 in
-    let second : app_of c.in_ok-arg-2.field-0 ≡ with_options = c.in_ok-arg-2.ensures.shape c.flag.ensures.1 ∙ ap₂ with_rule first c.flag.ensures.0 in
-    let put = added _ _ _ _ _ c.in_ok-subcommand.ensures second c.in_ok-putting.ensures in
+    let second : app_of c.in_ok-arg-2.field-0 ≡ with_patience = c.in_ok-arg-2.ensures.shape c.valued-2.ensures.1 ∙ ap₂ with_rule first c.valued-2.ensures.0 in
+    let third : app_of c.in_ok-arg-3.field-0 ≡ with_options = c.in_ok-arg-3.ensures.shape c.flag.ensures.1 ∙ ap₂ with_rule second c.flag.ensures.0 in
+    let put = added _ _ _ _ _ c.in_ok-subcommand.ensures third c.in_ok-putting.ensures in
     let get = added _ _ _ _ _ c.in_ok-subcommand-2.ensures put c.in_ok-getting.ensures in
     let ls = added _ _ _ _ _ c.in_ok-subcommand-3.ensures get c.in_ok-listing.ensures in
     let check = added _ _ _ _ _ c.in_ok-subcommand-4.ensures ls c.in_ok-checking.ensures in

@@ -28,6 +28,7 @@ returns-clause-read c =
     let verb : subcommand_rows_of c.in_ok-matches.matches ≡ subcommand_of woz words = found.1 ∙ ap (λ (a : App). subcommand_of a words) is in
     record {
       gateway = c.find_word.ensures ∙ ap (first_of (codes "gateway")) top;
+      patience = c.find_word-2.ensures ∙ ap (first_of (codes "patience")) top;
       quiet = c.has_flag.ensures ∙ ap (is_set (codes "quiet")) top;
       task = subst (λ (given : Option (Text × List Row)). IsTask given c.in_ok-task.task) verb c.in_ok-task.ensures;
     }

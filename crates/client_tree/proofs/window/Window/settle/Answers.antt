@@ -1,4 +1,4 @@
-use Rattle.std.proofs.Common.{◌≡◌, List, ◌∷◌, [], ◌++◌, ap, ◌∙◌, sym, subst}
+use Rattle.std.proofs.Common.{◌≡◌, List, ap, ◌∙◌, sym, subst}
 use Rattle.cap_binding.specs.Binds.{AreFileOf}
 use Rattle.client_tree.specs.UnderWay.{StaysInHand}
 use Rattle.client_tree.specs.Stored.{stored_name}

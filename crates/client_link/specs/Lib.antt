@@ -1,0 +1,4 @@
+-- Independent of each other.
+pub mod Paces
+pub mod Faults
+pub mod Sent
