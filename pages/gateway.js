@@ -74,6 +74,13 @@ async function fetched(cap, progress, signal) {
   return asked('uri/' + asFile(cap), { signal }, cap.size, progress);
 }
 
+/** Names by whose ends a gateway says a type that browsers show. */
+const OPENED = /\.(txt|md|csv|log|png|jpe?g|gif|webp|avif|mp4|webm|mp3|ogg|wav|flac)$/i;
+
+/** The address at which the gateway gives a file of this name to any browser, which shows it; else null. */
+export const openAddress = (cap, name) =>
+  OPENED.test(name) ? at('uri/' + cap.text + '?filename=' + encodeURIComponent(name)) : null;
+
 /** What the gateway tells of a cap's shares, in JSON. */
 export async function reported(cap, verify, signal) {
   const path = 'uri/' + cap.text + '?t=check&output=JSON&verify=' + verify;

@@ -5,7 +5,7 @@ import { parseCap, verifyCap } from './caps.js';
 import { button, byId, checkedTag, copyButton, count, faultPart, icon, make, named, paragraph, rowOf, shown, sizeText,
   span, tell, timeText } from './elements.js';
 import { Told, wordsOf } from './faults.js';
-import { readBlob, readChildren, readParts } from './gateway.js';
+import { openAddress, readBlob, readChildren, readParts } from './gateway.js';
 import { partsIn } from './parts.js';
 import { sharesPart } from './shares.js';
 import { isMedium, kindOf, viewOf } from './views.js';
@@ -126,6 +126,21 @@ function naming({ place, cap, name, title }, changed) {
 
 const timeIn = metadata => metadata && typeof metadata.mtime === 'number' && span(timeText(metadata.mtime));
 
+/** The link to a file itself, which needs no page and checks nothing, where browsers show what has its name. */
+function openPart(cap, nameNow) {
+  const link = make('a', { className: 'button', id: 'open-file', target: '_blank', rel: 'noreferrer',
+    textContent: 'Open in a tab' });
+  const part = make('div', {}, rowOf(link, copyButton('Copy link for others', () => link.href)),
+    paragraph('That link opens the file without this page: nothing checks its bytes.', 'soft'));
+  const draw = () => {
+    const address = openAddress(cap, nameNow());
+    part.hidden = !address;
+    link.href = address || '';
+  };
+  draw();
+  return { part, draw };
+}
+
 /** Draws a view, unless another one was asked for meanwhile. */
 function drawer(view) {
   let last = 0;
@@ -139,11 +154,15 @@ async function showFile(node) {
   const { body, cap, metadata, signal } = node, state = span('Reading…');
   const view = make('div', { className: 'view', id: 'view' }), draw = drawer(view), actions = rowOf();
   let blob = null;
-  const { nameNow, address, fields } = naming(node, () => blob && draw(nameNow(), blob));
+  const { nameNow, address, fields } = naming(node, () => {
+    open.draw();
+    if (blob) draw(nameNow(), blob);
+  });
+  const open = openPart(cap, nameNow);
   const facts = make('div', { className: 'facts' }, span(cap.form === 'lit' ? 'A file in its cap' : 'A file'),
     span(sizeText(cap.size)), timeIn(metadata), state);
   actions.append(...copyButtons(cap, address));
-  body.replaceChildren(facts, fields || '', actions, view, sharesPart([cap]));
+  body.replaceChildren(facts, fields || '', actions, open.part, view, sharesPart([cap]));
   blob = await readBlob(cap, got => {
     state.textContent = 'Reading: ' + sizeText(got) + ' of ' + sizeText(cap.size);
   }, signal);

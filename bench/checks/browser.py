@@ -6,7 +6,7 @@ usage: bench/checks/browser.py PROGRAM [--woz WOZ] [--only WORD..] [--shots FOLD
 Files and folders are stored, and what is stored is read, shown, saved and checked: by drops, by fields and by the keyboard alone, on
 narrow and dark screens, without WebCrypto, with odd names, 1,000 files, and files in parts, whose caps are those that WOZ makes of them
 where it is named. Times of 16 MiB are printed. What the page has to see through and to refuse is in browser_lies.py: gateways that lie,
-refuse and are gone, documents that would run, caps that are none.
+refuse and are gone, documents that would run, caps that are none. What browsers make of files at their own addresses is in browser_fields.py.
 
 It needs chromium, chromium-driver and python3-selenium, which is of Debian's own Python, and takes three minutes.
 """
@@ -20,6 +20,7 @@ import time
 
 sys.path.insert(0, os.path.join(os.path.dirname(os.path.abspath(__file__)), "../../models"))
 
+import browser_fields
 import browser_lies
 import browser_parts
 import uploads
@@ -527,7 +528,7 @@ TESTS = [
     an_image_is_shown, sixteen_mib_come_and_go, other_numbers_of_shares_are_checked, the_verify_cap_is_the_gateways,
     shares_are_counted_and_verified, spoiled_shares_are_shown, it_works_without_webcrypto,
     it_is_used_by_the_keyboard_alone, everything_has_a_name, it_fits_narrow_screens_and_dark_ones,
-    *browser_lies.TESTS,
+    *browser_fields.TESTS, *browser_lies.TESTS,
 ]
 
 

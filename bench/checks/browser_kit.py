@@ -96,17 +96,19 @@ def reply(handler, status, fields, body):
     handler.send_response_only(status)
     for name, value in fields:
         handler.send_header(name, value)
-    handler.send_header("Content-Length", str(len(body)))
+    if status != 304:
+        handler.send_header("Content-Length", str(len(body)))
     handler.end_headers()
-    if handler.command != "HEAD":
+    if handler.command != "HEAD" and status != 304:
         handler.wfile.write(body)
 
 
 class Relay:
-    """Passes requests on to the server. `change` makes another status and body of a reply: (method, path, status, body)."""
+    """Passes requests on to the server. `change` makes another status and body of a reply: (method, path, status, body); `dress` other fields of
+    one that has a file's bytes: (path, fields)."""
 
     def __init__(self, address):
-        self.address, self.seen, self.change = address, [], None
+        self.address, self.seen, self.statuses, self.change, self.dress = address, [], [], None, None
         self.listener = Listener(self.answer)
         self.url = self.listener.url
 
@@ -114,15 +116,19 @@ class Relay:
         self.seen.append((handler.command, handler.path, dict(handler.headers)))
         behind = http.client.HTTPConnection(*self.address, timeout=PATIENCE)
         try:
-            behind.request(handler.command, handler.path, body=body if handler.command in ("PUT", "POST") else None)
+            own = {name: value for name, value in handler.headers.items() if name.lower() in ("if-none-match", "if-range", "range")}
+            behind.request(handler.command, handler.path, body=body if handler.command in ("PUT", "POST") else None, headers=own)
             got = behind.getresponse()
             fields = [each for each in got.getheaders() if each[0] not in ("Content-Length", "Connection")]
             status, text = got.status, got.read()
         finally:
             behind.close()
-        change = self.change
+        change, dress = self.change, self.dress
         if change:
             status, text = change(handler.command, handler.path, status, text)
+        if dress and handler.path.startswith("/uri/"):
+            fields = dress(handler.path, fields)
+        self.statuses.append((handler.path, status))
         reply(handler, status, fields, text)
 
 
@@ -338,6 +344,6 @@ def run(tests, bench, only=None):
             failed += 1
             print("%-62s FAILED: %s: %s" % (test.__name__, type(error).__name__, error), flush=True)
             bench.shot("failed-" + test.__name__)
-        bench.relay.change = None
+        bench.relay.change = bench.relay.dress = None
         bench.width(1200)
     return failed
