@@ -25,17 +25,17 @@ use Rattle.std.proofs.lemmas.List.{get_or-map, length-map, map-append, take_more
 use Rattle.share_repair.specs.Judged.{found_of}
 use Rattle.share_repair.specs.Kept.{KeepsGood, IsStandingShare, LosesAtMost}
 
-equal : (o : Ordering) → is_eq o ≡ true → o ≡ Equal
+pub equal : (o : Ordering) → is_eq o ≡ true → o ≡ Equal
 equal Less e = cc
 equal Equal e = refl
 equal Greater e = cc
 
 -- what a loss changes, it changes at its place
-lost_at : (server : ℕ) (key : ShareKey) (before : Standing) (s : ℕ) (q : ShareKey) → (without server key before s q ≡ before s q) ⊎ ((s ≡ server) × (q ≡ key))
+lost_at : (server : ℕ) (key : ShareKey) (before : Standing) (s : ℕ) (q : ShareKey) → (without server key before s q ≡ before s q) ⊎ ((without server key before s q ≡ None) × (s ≡ server) × (q ≡ key))
 lost_at server key before s q = by_case (s == server) (eq_by_cmp key_cmp q key) refl refl
   where
-    by_case : (a b : Bool) → (s == server) ≡ a → eq_by_cmp key_cmp q key ≡ b → (without server key before s q ≡ before s q) ⊎ ((s ≡ server) × (q ≡ key))
-    by_case true true h k = inr (eqb-true s server h, key_cmp_exact q key (equal (key_cmp q key) k))
+    by_case : (a b : Bool) → (s == server) ≡ a → eq_by_cmp key_cmp q key ≡ b → (without server key before s q ≡ before s q) ⊎ ((without server key before s q ≡ None) × (s ≡ server) × (q ≡ key))
+    by_case true true h k = inr ((λ i. cond (h i && k i) None (before s q)), eqb-true s server h, key_cmp_exact q key (equal (key_cmp q key) k))
     by_case true false h k = inl ((λ i. cond (h i && k i) None (before s q)))
     by_case false b h k = inl ((λ i. cond (h i && eq_by_cmp key_cmp q key) None (before s q)))
 
@@ -51,10 +51,12 @@ loses_one index judged old new e bad = record {
   each = λ server key. by_case server key (lost_at judged.server (index, judged.number) (stood old) server key);
 }
   where
-    by_case : (server : ℕ) (key : ShareKey) → (without judged.server (index, judged.number) (stood old) server key ≡ stood old server key) ⊎ ((server ≡ judged.server) × (key ≡ (index, judged.number)))
-        → (stood new server key ≡ stood old server key) ⊎ ((server ≡ judged.server) × (key ≡ (index, judged.number)) × ¬ (Verifies judged.number (rc_slice_items judged.bytes)))
+    by_case : (server : ℕ) (key : ShareKey)
+        → (without judged.server (index, judged.number) (stood old) server key ≡ stood old server key)
+        ⊎ ((without judged.server (index, judged.number) (stood old) server key ≡ None) × (server ≡ judged.server) × (key ≡ (index, judged.number)))
+        → (stood new server key ≡ stood old server key) ⊎ ((stood new server key ≡ None) × (server ≡ judged.server) × (key ≡ (index, judged.number)) × ¬ (Verifies judged.number (rc_slice_items judged.bytes)))
     by_case server key (inl same) = inl (ap (λ (f : Standing). f server key) e ∙ same)
-    by_case server key (inr at) = inr (at.0, at.1, bad)
+    by_case server key (inr at) = inr (ap (λ (f : Standing). f server key) e ∙ at.0, at.1, at.2, bad)
 
 pub keeps_same : (index : List ℕ) (g : GridState) → KeepsGood index g g
 keeps_same index g = record { kept = λ server key s here good. here }
@@ -66,14 +68,14 @@ keeps_lost index judged old now new so_far stands step = record {
 }
   where
     by_case : (server : ℕ) (key : ShareKey) (s : List ℕ) → stood old server key ≡ Some s → (key.0 ≡ index → Verifies key.1 s)
-        → (stood new server key ≡ stood now server key) ⊎ ((server ≡ judged.server) × (key ≡ (index, judged.number)) × ¬ (Verifies judged.number (rc_slice_items judged.bytes)))
+        → (stood new server key ≡ stood now server key) ⊎ ((stood new server key ≡ None) × (server ≡ judged.server) × (key ≡ (index, judged.number)) × ¬ (Verifies judged.number (rc_slice_items judged.bytes)))
         → stood new server key ≡ Some s
     by_case server key s here good (inl same) = same ∙ so_far.kept server key s here good
     by_case server key s here good (inr at) =
-        let there : stood old judged.server (index, judged.number) ≡ Some s = subst (λ (k : ℕ × ShareKey). stood old k.0 k.1 ≡ Some s) (λ i. (at.0 i, at.1 i)) here in
+        let there : stood old judged.server (index, judged.number) ≡ Some s = subst (λ (k : ℕ × ShareKey). stood old k.0 k.1 ≡ Some s) (λ i. (at.1 i, at.2 i)) here in
         let same : s ≡ rc_slice_items judged.bytes = (let f = sym there ∙ stands in cc) in
-        let verified : Verifies key.1 s = good (ap (λ (k : ShareKey). k.0) at.1) in
-        absurd (at.2 (subst (λ (k : ℕ × List ℕ). Verifies k.0 k.1) (λ i. ((at.1 i).1, same i)) verified))
+        let verified : Verifies key.1 s = good (ap (λ (k : ShareKey). k.0) at.2) in
+        absurd (at.3 (subst (λ (k : ℕ × List ℕ). Verifies k.0 k.1) (λ i. ((at.2 i).1, same i)) verified))
 
 -- a put keeps what stands
 placed_keeps : (count : ℕ) (index : List ℕ) (shares : List (List ℕ)) (before : Standing) (s : ℕ) (q : ShareKey) (x : List ℕ) → before s q ≡ Some x → placed count index shares before s q ≡ Some x

@@ -4,3 +4,4 @@ mod Givens
 mod Determined
 pub mod Leaving
 pub mod Keeping
+pub mod Putting

@@ -1,5 +1,5 @@
 -- What stands under a storage index, judged; for private clauses.
-use Rattle.std.specs.Prelude.{ℕ, ◌<◌, ◌^◌, List, MatchOption}
+use Rattle.std.specs.Prelude.{◌≡◌, ℕ, ◌<◌, ◌^◌, List, MatchOption}
 use Rattle.std.specs.Rc.{rc_slice_items}
 use Rattle.share_repair.specs.declared.judging.Judged.{Judged}
 use Rattle.share_repair.specs.Files.{FileLabel, IsShareOf}
@@ -14,3 +14,7 @@ IsJudged judged =
 -- its server, its number and its bytes; for private clauses
 abbrev pub found_of : Judged → ℕ × ℕ × List ℕ
 found_of judged = (judged.server, judged.number, rc_slice_items judged.bytes)
+
+-- it has this number and these bytes; for private clauses
+abbrev pub IsTheGiven : ℕ → List ℕ → Judged → Type 0
+IsTheGiven number bytes judged = (judged.number ≡ number) × (rc_slice_items judged.bytes ≡ bytes)

@@ -1,5 +1,5 @@
 -- What a repair keeps of a grid over honest stores.
-use Rattle.std.specs.Prelude.{◌≡◌, ◌⊎◌, ℕ, List, Some}
+use Rattle.std.specs.Prelude.{◌≡◌, ◌⊎◌, ℕ, List, Some, None}
 use Rattle.std.specs.Rc.{rc_slice_items}
 use Rattle.share_store.specs.Shares.{ShareKey}
 use Rattle.grid.specs.GridState.{GridState, stood}
@@ -17,4 +17,4 @@ IsStandingShare grid index judged = stood grid judged.server (index, judged.numb
 -- nothing was changed but that this may be gone, if it is a good share of no file; for private clauses
 pub record LosesAtMost (index : List ℕ) (judged : Judged) (old new : GridState) : Type 0 where
   pub each : (server : ℕ) (key : ShareKey) → (stood new server key ≡ stood old server key)
-      ⊎ ((server ≡ judged.server) × (key ≡ (index, judged.number)) × ¬ (Verifies judged.number (rc_slice_items judged.bytes)))
+      ⊎ ((stood new server key ≡ None) × (server ≡ judged.server) × (key ≡ (index, judged.number)) × ¬ (Verifies judged.number (rc_slice_items judged.bytes)))

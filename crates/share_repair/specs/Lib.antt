@@ -1,6 +1,8 @@
--- Read Files first, then Repaired and Kept. Decoded and Judged are for private clauses.
+-- Read Files first, then Repaired, Kept, Made and Whole. Decoded and Judged are for private clauses.
 pub mod Files
 pub mod Repaired
 pub mod Kept
+pub mod Made
+pub mod Whole
 pub mod Decoded
 pub mod Judged

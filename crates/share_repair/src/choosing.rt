@@ -1,6 +1,9 @@
 //! Which file it is whose shares stand under a storage index, and which of them are where they are to be.
-ghost use Rattle.std.specs.Prelude.{◌≡◌, ◌<◌};
+ghost use Rattle.std.specs.Prelude.{◌≡◌, ◌<◌, ℕ, Some, All, Any, Contains, IfOk, IfSome, IsTrue};
+ghost use Rattle.std.specs.Rc.{rc_slice_items};
 ghost use Rattle.grid.specs.Placement.{server_of};
+ghost use Rattle.share_repair.specs.Judged.{IsTheGiven};
+ghost use Rattle.share_repair.specs.Whole.{IsAtServer};
 
 use crate::judging::Judged;
 use crate::label::Label;
@@ -47,7 +50,9 @@ fn has_enough(judged: &[Judged], label: &Label) -> bool {
 }
 
 /// The first good share of a file with this number.
-fn first_of<'a>(judged: &'a [Judged], label: &Label, number: u16) -> Option<&'a Judged> {
+fn first_of<'a>(judged: &'a [Judged], label: &Label, number: u16) -> Option<&'a Judged>
+    ensures { IfSome result (λ one. Contains judged.now one.now × (one.now.number ≡ number)) }
+{
     for one in judged {
         if one.number == number && is_of(one, label) {
             return Some(one);
@@ -57,7 +62,9 @@ fn first_of<'a>(judged: &'a [Judged], label: &Label, number: u16) -> Option<&'a 
 }
 
 /// Whether a string is a good share of that file.
-fn is_of(one: &Judged, label: &Label) -> bool {
+fn is_of(one: &Judged, label: &Label) -> bool
+    ensures { IsTrue result → one.now.label ≡ Some label.now }
+{
     match &one.label {
         Some(own) => *own == *label,
         None => false,
@@ -69,7 +76,9 @@ pub(crate) fn given(
     alloc: Global,
     judged: &[Judged],
     label: &Label,
-) -> Result<Vec<(u16, RcSlice<u8>)>, AllocError> {
+) -> Result<Vec<(u16, RcSlice<u8>)>, AllocError>
+    ensures { IfOk result (λ given. All (λ g. Any (IsTheGiven g.0 (rc_slice_items g.1)) judged.now) given.items) }
+{
     let mut given = Vec::with_capacity(alloc, label.params.k as usize)?;
     for number in 0..label.params.n {
         if given.len() == label.params.k as usize {
@@ -85,6 +94,8 @@ pub(crate) fn given(
 /// In how many places of a file's shares no good one of it stands, where there are so many servers.
 pub(crate) fn missing(judged: &[Judged], label: &Label, index: &[u8; 16], servers: usize) -> u32
     requires { 0 < servers }
+    ensures none { result ≡ 0 → (number : ℕ) → number < label.now.params.n →
+        Any (IsAtServer label.now (server_of servers index.now number) number) judged.now }
 {
     let mut missing = 0;
     for number in 0..label.params.n {
@@ -96,7 +107,9 @@ pub(crate) fn missing(judged: &[Judged], label: &Label, index: &[u8; 16], server
 }
 
 /// Whether a good share of a file with this number stands at this server.
-fn stands(judged: &[Judged], label: &Label, number: u16, server: usize) -> bool {
+fn stands(judged: &[Judged], label: &Label, number: u16, server: usize) -> bool
+    ensures { IsTrue result → Any (IsAtServer label.now server number) judged.now }
+{
     for one in judged {
         if one.server == server && one.number == number && is_of(one, label) {
             return true;

@@ -1,10 +1,12 @@
 //! The files of a grid, looked at and repaired one by one.
-ghost use Rattle.std.specs.Prelude.{◌≡◌, ◌<◌, ◌≤◌, All, IfOk, length, map};
+ghost use Rattle.std.specs.Prelude.{◌≡◌, ◌<◌, ◌≤◌, ◌^◌, All, IfOk, length, map};
 ghost use Rattle.std.specs.Rc.{rc_slice_items};
 ghost use Rattle.grid.specs.GridState.{IsHonest};
 ghost use Rattle.grid.specs.Leaves.{Leaves, IsUnchanged};
 ghost use Rattle.share_repair.specs.Judged.{IsJudged};
 ghost use Rattle.share_repair.specs.Kept.{KeepsGood, IsStandingShare, LosesAtMost};
+ghost use Rattle.share_repair.specs.Made.{PutsDetermined, PutsOnly, PutsNone};
+ghost use Rattle.share_repair.specs.Whole.{IsMended, IsWholeFile};
 
 use crate::choosing::{chosen, given, has_rival, missing, place_of};
 use crate::fault::RepairFault;
@@ -48,6 +50,9 @@ pub fn repair<S: Store>(
 ) -> Result<Outcome, GridFault>
     ensures leaves { Leaves grid.old grid.new }
     ensures kept { IsHonest grid.old → KeepsGood index grid.old grid.new }
+    ensures puts { IsHonest grid.old → PutsDetermined index grid.old grid.new }
+    ensures whole { IsHonest grid.old → IfOk result (λ outcome.
+        IsMended outcome → IsWholeFile index grid.new) }
 {
     let standing = judged(alloc, grid, index)?;
     let Some(one) = chosen(&standing) else {
@@ -91,7 +96,12 @@ fn mend<S: Store>(
     requires stands { IsHonest grid.old → All (IsStandingShare grid.old index) standing.now }
     ensures leaves { Leaves grid.old grid.new }
     ensures kept { IsHonest grid.old → KeepsGood index grid.old grid.new }
+    ensures puts { IsHonest grid.old → PutsDetermined index grid.old grid.new }
+    ensures whole { IsHonest grid.old → IfOk result (λ outcome.
+        IsMended outcome → IsWholeFile index grid.new) }
 {
+    share_codec::laws::params_are_a_sharing(&label.params);
+    size_fits(label);
     let servers = grid.servers();
     let before = missing(standing, label, &index, servers);
     if before == 0 {
@@ -111,8 +121,17 @@ fn mend<S: Store>(
     }
 }
 
+/// A file has as many bytes as 64 bits count.
+fn size_fits(label: &Label)
+    ensures { label.now.params.size < 2 ^ 64 }
+{
+    let _size = label.params.size;
+}
+
 /// How a file is left of which so many places lacked a share before, and so many after.
-fn outcome_of(before: u32, after: u32) -> Outcome {
+fn outcome_of(before: u32, after: u32) -> Outcome
+    ensures { IsMended result → after ≡ 0 }
+{
     match after {
         0 => Outcome::Repaired(before),
         _ => Outcome::Unfinished(after),
@@ -133,6 +152,8 @@ fn put_back<S: Store>(
     requires some { All (λ share. 0 < length (rc_slice_items share)) shares.now }
     ensures leaves { Leaves grid.old grid.new }
     ensures kept { IsHonest grid.old → KeepsGood index grid.old grid.new }
+    ensures puts { IsHonest grid.old →
+        PutsOnly index (map rc_slice_items shares.now) grid.old grid.new }
 {
     clear(grid, index, standing, shares.len())?;
     grid.put_all(index, shares)
@@ -149,6 +170,7 @@ fn clear<S: Store>(
     requires stands { IsHonest grid.old → All (IsStandingShare grid.old index) standing.now }
     ensures leaves { Leaves grid.old grid.new }
     ensures kept { IsHonest grid.old → KeepsGood index grid.old grid.new }
+    ensures puts { IsHonest grid.old → PutsNone grid.old grid.new }
 {
     for one in standing {
         clear_one(grid, index, one, shares)?;
