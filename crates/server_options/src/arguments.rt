@@ -13,6 +13,7 @@ pub fn program<'a>(alloc: Global) -> Result<Command<'a>, AllocError> {
         .subcommand_required(true)
         .subcommand(serving(alloc)?)?
         .subcommand(checking(alloc)?)?
+        .subcommand(repairing(alloc)?)?
         .subcommand(imaging(alloc)?)?
         .subcommand(restoring(alloc)?)
 }
@@ -89,13 +90,7 @@ fn with_stores<'a>(alloc: Global, command: Command<'a>) -> Result<Command<'a>, A
             "how many bytes each store takes that doesn't say it: digits, and K, M, G or T behind them for powers of 1,024",
         )
         .default_value("1G"))?
-        .arg(option(
-            alloc,
-            "new",
-            "PATH",
-            "the folder of a store that may be begun beside others of its grid; once for each such folder",
-        )
-        .action(ArgAction::Append))?
+        .arg(new_folders(alloc))?
         .arg(no_sync(alloc))?
         .arg(secret_file(alloc))?
         .arg(redis_password_file(alloc))
@@ -167,6 +162,18 @@ fn checking<'a>(alloc: Global) -> Result<Command<'a>, AllocError> {
         .arg(paths(alloc))
 }
 
+/// The command line of `repair`.
+fn repairing<'a>(alloc: Global) -> Result<Command<'a>, AllocError> {
+    Command::new(alloc, "repair")
+        .about(
+            "Puts the shares of a grid that are missing or rotten back into the folders of its servers, which are given in their order, made of the other shares; status 0 only if each is there afterwards.",
+        )
+        .arg(new_folders(alloc))?
+        .arg(no_sync(alloc))?
+        .arg(redis_password_file(alloc))?
+        .arg(paths(alloc).help("a folder, or redis:HOST:PORT[/NAME]"))
+}
+
 /// The command line of `image`.
 fn imaging<'a>(alloc: Global) -> Result<Command<'a>, AllocError> {
     Command::new(alloc, "image")
@@ -230,6 +237,17 @@ fn redis_password_file<'a>(alloc: Global) -> Arg<'a> {
         "PATH",
         "a file whose bytes, without the line's end behind them, are the password of each Redis server",
     )
+}
+
+/// `--new`.
+fn new_folders<'a>(alloc: Global) -> Arg<'a> {
+    option(
+        alloc,
+        "new",
+        "PATH",
+        "the folder of a store that may be begun beside others of its grid; once for each such folder",
+    )
+    .action(ArgAction::Append)
 }
 
 /// `--no-sync`.

@@ -15,6 +15,6 @@ mod logging;
 mod options;
 
 pub use logging::{LogFormat, LogLevel, named_format, named_level};
-pub use options::{Options, Refusal, Restoring, Shares, Task, read_config, read_words};
+pub use options::{Options, Refusal, Repairing, Restoring, Shares, Task, read_config, read_words};
 pub use sizes::read_size;
-pub use store_names::{RedisPlace, StoreWanted, read_store};
+pub use store_names::{RedisPlace, StoreWanted, read_redis_place, read_store};

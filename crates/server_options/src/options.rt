@@ -28,6 +28,8 @@ pub enum Task<'a> {
     Serve(Options<'a>),
     /// To look through these folders.
     Check(Vec<&'a str>),
+    /// To put the shares of a grid back that are missing or rotten.
+    Repair(Repairing<'a>),
     /// To write the image of the grid in these folders.
     Image(Vec<&'a str>),
     /// To lay an image into new folders.
@@ -79,6 +81,19 @@ impl Options<'_> {
             .filter(|store| store.keeps_handle())
             .count()
     }
+}
+
+/// The grid whose files are to be repaired.
+#[derive(Debug, Drop)]
+pub struct Repairing<'a> {
+    /// Where its servers keep their shares, in their order: folders, and `redis:HOST:PORT[/NAME]` for Redis servers.
+    pub places: Vec<&'a str>,
+    /// The folders of stores that may be begun beside the others.
+    pub new: Vec<&'a str>,
+    /// Whether changes in folders are synced.
+    pub synced: bool,
+    /// The file whose bytes are the password of each Redis server.
+    pub redis_password_file: Option<&'a str>,
 }
 
 /// What an image is to be laid into.
@@ -143,6 +158,8 @@ pub fn read_words<'a>(alloc: Global, words: &'a [String]) -> Result<Task<'a>, Re
     let matches = program(alloc)?.try_get_matches_from(words)?;
     if let Some(given) = matches.subcommand_matches("check") {
         Ok(Task::Check(texts_of(alloc, given, "paths")?))
+    } else if let Some(given) = matches.subcommand_matches("repair") {
+        Ok(Task::Repair(read_repairing(alloc, given)?))
     } else if let Some(given) = matches.subcommand_matches("image") {
         Ok(Task::Image(texts_of(alloc, given, "paths")?))
     } else if let Some(given) = matches.subcommand_matches("restore") {
@@ -234,6 +251,28 @@ fn read_options<'a>(alloc: Global, given: &ArgMatches<'a>) -> Result<Options<'a>
         memory,
         log_level: named_level(text_of(given, "log-level")),
         log_format: named_format(text_of(given, "log-format")),
+    })
+}
+
+/// Reads what was given with `repair`.
+fn read_repairing<'a>(alloc: Global, given: &ArgMatches<'a>) -> Result<Repairing<'a>, AllocError>
+    ensures places { IfOk result (λ o. map (λ s. s.now) o.places.items
+        ≡ unwrap_or (given_texts given.now (codes "paths")) []) }
+    ensures new { IfOk result (λ o. map (λ s. s.now) o.new.items
+        ≡ unwrap_or (given_texts given.now (codes "new")) []) }
+    ensures synced { IfOk result (λ o.
+        IsFlagGiven given.now (codes "no-sync") (not o.synced)) }
+    ensures redis_password_file { IfOk result (λ o. option_map (λ s. s.now) o.redis_password_file
+        ≡ given_text given.now (codes "redis-password-file")) }
+{
+    let places = texts_of(alloc, given, "paths")?;
+    let may_be_new = texts_of(alloc, given, "new")?;
+    let password_file = given.get_str("redis-password-file");
+    Ok(Repairing {
+        places,
+        new: may_be_new,
+        synced: !has_flag(given, "no-sync"),
+        redis_password_file: password_file,
     })
 }
 

@@ -85,6 +85,14 @@ pub fn read_store(name: &str, room: u64) -> Option<StoreWanted<'_>> {
     }
 }
 
+/// The place on a Redis server that a word names: `redis:HOST:PORT[/NAME]`. `None` where it names none.
+pub fn read_redis_place(word: &str) -> Option<RedisPlace<'_>> {
+    match read_store(word, 0) {
+        Some(store) => store.redis(),
+        None => None,
+    }
+}
+
 /// A store in memory, by its bytes.
 fn read_memory<'a>(bytes: &str) -> Option<StoreWanted<'a>> {
     match read_size(bytes) {

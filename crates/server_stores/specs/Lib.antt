@@ -6,3 +6,4 @@ pub mod Places
 pub mod Prefix
 pub mod Seen
 pub mod Status
+pub mod Tally

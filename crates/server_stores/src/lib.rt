@@ -29,8 +29,13 @@ mod forgetful_store;
 mod checking;
 /// Images of a grid in folders.
 mod images;
+/// What was found and done in a repair.
+mod repair_tally;
+/// Repair of a grid, by the names of files in its folders.
+mod repairing;
 
 pub use checking::check;
 pub use fault::ProgramFault;
 pub use images::{restore, write_image};
+pub use repairing::repair;
 pub use stores::{ServerStore, open_stores};

@@ -73,6 +73,43 @@ pub fn open_on_redis<R: AllocGlobal + Net + Clock + Clone + Drop + Log + Eprint>
     }
 }
 
+/// Opens a store on a Redis server as [`open_on_redis`] does, but for one that is down: it is refused too, by its name.
+pub fn open_on_answering_redis<R: AllocGlobal + Net + Clock + Clone + Drop + Log + Eprint>(
+    rt: &R,
+    opening: &RedisOpening<'_>,
+) -> Result<OnRedis<R>, ProgramFault>
+    ensures { IfOk result (λ store. IsOpenedAs opening.now.place.name.now opening.now.settings
+        (option_map (λ password. password.now) opening.now.password)
+        store.grid store.longest store.connection.first) }
+{
+    let address = opening.place.address;
+    match reach_any(rt, opening) {
+        Ok(Some(store)) => Ok(store),
+        Ok(None) => Err(told(rt, address, ProgramFault::Redis(ServerFault::Link))),
+        Err(fault) => Err(told(rt, address, fault)),
+    }
+}
+
+/// The store at the first address of a server that answers, if one does.
+fn reach_any<R: AllocGlobal + Net + Clock + Clone + Drop + Log>(
+    rt: &R,
+    opening: &RedisOpening<'_>,
+) -> Result<Option<OnRedis<R>>, ProgramFault>
+    ensures { IfOk result (λ found. IfSome found (λ store. IsOpenedAs opening.now.place.name.now
+        opening.now.settings (option_map (λ password. password.now) opening.now.password)
+        store.grid store.longest store.connection.first)) }
+{
+    let Ok(addresses) = opening.place.address.to_socket_addrs(rt) else {
+        return Err(ProgramFault::RedisUnknown);
+    };
+    for address in addresses {
+        if let Some(store) = reach(rt, address, opening)? {
+            return Ok(Some(store));
+        }
+    }
+    Ok(None)
+}
+
 /// Tells a fault of a Redis server by the server's name on standard error.
 fn told<R: Eprint>(rt: &R, address: &str, fault: ProgramFault) -> ProgramFault {
     if fault.is_of_a_store() {

@@ -2,7 +2,7 @@
 //! servers keep shares.
 #![tactic(auto)]
 
-ghost use Rattle.std.specs.Prelude.{◌≡◌, ◌*◌, ◌<◌, ◌≤◌, ℕ, [], length, vec_len, is_some, false, Some, None, Err, IfOk, IfSome, IsOkUnless};
+ghost use Rattle.std.specs.Prelude.{◌≡◌, ◌*◌, ◌<◌, ◌≤◌, ℕ, [], length, vec_len, is_some, false, true, Some, None, Err, IfOk, IfSome, IsOkUnless};
 ghost use Rattle.std.specs.Duration.{as_nanos};
 ghost use Rattle.std.specs.FinMap as map;
 ghost use Rattle.grid.specs.GridState.{states};
@@ -37,7 +37,9 @@ use log::{Log, info};
 use mio::net::TcpListener;
 use server_board::StatusControl;
 use server_options::{Options, Refusal, Shares, Task, read_words};
-use server_stores::{ProgramFault, ServerStore, check, handles, open_stores, restore, write_image};
+use server_stores::{
+    ProgramFault, ServerStore, check, handles, open_stores, repair, restore, write_image,
+};
 use share_store::Store;
 use std::alloc::Global;
 use std::env;
@@ -72,6 +74,7 @@ pub fn run<
     match read_words(rt.alloc(), &words) {
         Ok(Task::Serve(options)) => serve(rt, &options),
         Ok(Task::Check(folders)) => check(rt, &folders),
+        Ok(Task::Repair(wanted)) => repair(rt, &wanted),
         Ok(Task::Image(folders)) => write_image(rt, &folders),
         Ok(Task::Restore(wanted)) => {
             let secret = Secret::read(rt, wanted.secret_file)?;
@@ -244,7 +247,7 @@ fn limits_of(options: &Options<'_>) -> Limits
     limits
 }
 
-/// A gateway over the stores that are wanted, with the secret that its file has, and these pages.
+/// A gateway over the stores that are wanted, with the secret that its file has, these pages, and replies for browsers.
 fn open_gateway<R: AllocGlobal + Files<File = File> + Net + Clock + Clone + Drop + Log + Eprint>(
     rt: &R,
     options: &Options<'_>,
@@ -257,10 +260,11 @@ fn open_gateway<R: AllocGlobal + Files<File = File> + Net + Clock + Clone + Drop
     ensures none { is_some options.now.secret_file ≡ false →
         IfOk result (λ gateway. gateway.settings.secret ≡ []) }
     ensures pages { IfOk result (λ gateway. gateway.settings.pages ≡ pages) }
+    ensures browsers { IfOk result (λ gateway. gateway.settings.for_browsers ≡ true) }
 {
     match Secret::read(rt, options.secret_file) {
         Ok(secret) => match open_under(rt, options, &secret) {
-            Ok(gateway) => Ok(gateway.with_pages(pages)),
+            Ok(gateway) => Ok(gateway.with_pages(pages).for_browsers()),
             Err(fault) => Err(fault),
         },
         Err(fault) => Err(fault),
@@ -309,6 +313,7 @@ fn gateway_over<S: Store + Drop>(
         secret = secret.now;
         servers = vec_len stores;
         pages = [];
+        for_browsers = false;
       };
       connections = map.empty;
       grid = states S.shares S.room S.held S.failures S.honest S.history stores.items;

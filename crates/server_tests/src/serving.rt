@@ -208,6 +208,16 @@ fn each_verb_is_its_task(rt: HostRuntime) -> Result<(), Fail> {
         return Err(Fail::from("no folders to check"));
     };
     assert_eq!(rt; folders.as_slice(), ["/a", "/b"].as_slice());
+    let words = words_of(
+        rt.alloc(),
+        &["repair", "--new", "/b", "--no-sync", "/a", "/b"],
+    )?;
+    let Ok(Task::Repair(wanted)) = read_words(rt.alloc(), &words) else {
+        return Err(Fail::from("no folders to repair"));
+    };
+    assert_eq!(rt; wanted.places.as_slice(), ["/a", "/b"].as_slice());
+    assert_eq!(rt; wanted.new.as_slice(), ["/b"].as_slice());
+    assert!(rt; !wanted.synced);
     let words = words_of(rt.alloc(), &["image", "/a"])?;
     let Ok(Task::Image(folders)) = read_words(rt.alloc(), &words) else {
         return Err(Fail::from("no folders of an image"));
