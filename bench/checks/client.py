@@ -465,7 +465,8 @@ def names(client, server, folder):
         put = client.run(server.url, "put", "-r", kind, wanted=8)
         if put.stdout or not put.stderr:
             fail("a folder of %s is refused with %r and %r" % (kind, put.stdout, put.stderr))
-        if kind == "one name" and not any(name in put.stderr for name in found):
+        # as std's Debug writes a text: a combining mark is escaped
+        if kind == "one name" and not any(name in put.stderr for name in [*found, b"e\\u{301}"]):
             fail("which names are one isn't told: %r" % put.stderr)
 
 
