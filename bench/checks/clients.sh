@@ -1,15 +1,17 @@
 #!/bin/sh
 # curl and wget against a gateway at 3 of 10: what comes back is compared, JSON by json_replies.py beside this file. Given
-# `gate_main`, it is started for as many connections as there are here, so it ends by itself; given the base URL of a
-# server, that one is asked. It needs curl, wget and python3.
+# `gate_main`, it is started for as many connections as there are here, so it ends by itself; given the base URL of
+# `wozhinnam serve` with five stores, that one is asked, and what it sends for browsers is looked for too. It needs curl,
+# wget and python3.
 # usage: bench/checks/clients.sh PROGRAM | bench/checks/clients.sh http://HOST:PORT
 set -eu
 program=${1:?usage: bench/checks/clients.sh PROGRAM | bench/checks/clients.sh http://HOST:PORT}
 here=$(cd "$(dirname "$0")" && pwd)
 # Where a server is named, there is no program to start: this shell stands for it.
 url=
+servers=
 case $program in
-http://*) url=$program program=/bin/sh ;;
+http://*) url=$program program=/bin/sh servers=5 ;;
 esac
 . "$here/../tools/server.sh"
 
@@ -112,8 +114,13 @@ test "$status $(cat "$folder/back")" = '416 range not satisfiable' || fail "a ra
 test "$(field Content-Range)" = 'bytes */1000000' || fail "a range past the end is told $(field Content-Range)"
 
 # 22, 23: heads alone, of a file and of its JSON
-$curl -I "$base/uri/$cap" > "$folder/back"
-printf 'HTTP/1.1 200 OK\r\nContent-Type: application/octet-stream\r\nContent-Length: 1000000\r\n\r\n' | cmp - "$folder/back" || fail 'the head of a file'
+verify=$(json verify "$cap")
+{
+    printf '%s\r\n' 'HTTP/1.1 200 OK' 'Content-Type: application/octet-stream' 'Content-Length: 1000000'
+    test -z "$url" || printf '%s\r\n' 'Accept-Ranges: bytes' 'X-Content-Type-Options: nosniff' 'Content-Security-Policy: sandbox' "ETag: \"$verify\""
+    printf '\r\n'
+} > "$folder/wanted"
+$curl -I "$base/uri/$cap" | cmp "$folder/wanted" - || fail 'the head of a file'
 $curl -I "$base/uri/URI:LIT:mzxw6ytboi?t=json" > "$folder/back"
 printf 'HTTP/1.1 200 OK\r\nContent-Type: application/json\r\nContent-Length: 69\r\n\r\n' | cmp - "$folder/back" || fail 'the head of JSON'
 
@@ -135,16 +142,15 @@ fetch "$base/uri/$outer/down/short?t=json"
 json file "$folder/back" URI:LIT:mzxw6 || fail 'the JSON of a child'
 
 # 29 to 32: checks of a file, of a directory by its path, of a verify cap, and of what is in its cap
-verify=$(json verify "$cap")
 fetch -X POST "$base/uri/$cap?t=check&output=JSON"
 test "$status $(field Content-Type)" = '200 application/json' || fail "a check is answered $status, $(field Content-Type)"
-json check "$folder/back" "$cap" || fail 'the check of a file'
+json check "$folder/back" "$cap" $servers || fail 'the check of a file'
 fetch -X POST "$base/uri/$outer/down?t=check&output=JSON&verify=true"
-json check "$folder/back" "$inner" || fail 'the check of a directory'
+json check "$folder/back" "$inner" $servers || fail 'the check of a directory'
 fetch -X POST "$base/uri/$verify?t=check&output=JSON&verify=true"
-json check "$folder/back" "$verify" || fail 'the check of a verify cap'
+json check "$folder/back" "$verify" $servers || fail 'the check of a verify cap'
 fetch -X POST "$base/uri/URI:LIT:mzxw6?t=check&output=JSON&verify=true"
-json check "$folder/back" URI:LIT:mzxw6 || fail 'the check of what is in its cap'
+json check "$folder/back" URI:LIT:mzxw6 $servers || fail 'the check of what is in its cap'
 
 # 33: a verify cap gives no bytes
 refused "$base/uri/$verify" '400 not a readable cap'

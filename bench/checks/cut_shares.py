@@ -16,7 +16,7 @@ import subprocess
 import sys
 import tempfile
 
-from script_kit import BIG, BIG_CAP, GONE, LETTERS, OCTETS, Faults, Script, base32, built, checked, escape, fail, image, large_upload, reply, request
+from script_kit import BIG, BIG_CAP, GONE, LETTERS, OCTETS, Faults, Script, base32, built, escape, fail, file_checked, image, large_upload, reply, request
 from server import ROOT, checked_program, wozhinnam
 import shares
 
@@ -119,9 +119,10 @@ class Folders:
                 self.wrong("its file is to be %s" % ("whole" if whole else "cut"))
 
     def told(self, verify, good, bad=False):
-        """A check, with so many numbers good, and the share named or not."""
+        """A check, with so many numbers good, all or all but the share's, and the share named or not."""
         given = self.server.ask("POST", "/uri/%s?t=check&output=JSON%s" % (self.file.cap, "&verify=true" if verify else ""))
-        wanted = checked(self.file.cap, good, [(self.place, self.number)] if bad else [], index=base32(self.file.index)).split(b"\r\n\r\n", 1)[1]
+        numbers = set(range(10)) - ({self.number} if good == 9 else set())
+        wanted = file_checked(self.file, SERVERS, numbers, [(self.place, self.number)] if bad else []).split(b"\r\n\r\n", 1)[1]
         if given != wanted:
             self.wrong("a check is answered %r in place of %r" % (given, wanted))
 

@@ -9,7 +9,8 @@ differs and exits with 1. Usage:
     json_replies.py directory_size NAME=CAP..     prints how many bytes the text of that directory has
     json_replies.py file REPLY CAP                compares the reply to t=json of a file
     json_replies.py directory REPLY CAP NAME=CAP..    the same of a directory of these children
-    json_replies.py check REPLY CAP               compares the reply to a check whose shares are all good
+    json_replies.py check REPLY CAP [SERVERS]     compares the reply to a check whose shares are all good and, where the
+                                                  number of servers is said, that browsers are told where each stands
 """
 import base64
 import hashlib
@@ -91,11 +92,18 @@ def directory(cap, words):
     return node(cap, {"children": listed})
 
 
-def check(cap):
+def sharemap(index, shares, servers):
+    """Share i stands at the server (last byte of the storage index + i) modulo the number of servers."""
+    last = base64.b32decode(index.upper() + "=" * (-len(index) % 8))[-1]
+    return {str(number): [(last + number) % servers] for number in range(shares)}
+
+
+def check(cap, servers):
     verify = verify_cap(cap)
     if verify is None:
         return {"results": {"healthy": True}, "storage-index": ""}
     index, _, needed, shares, _ = verify.split(":")[2:]
+    beside = {} if servers is None else {"sharemap": sharemap(index, int(shares), servers)}
     return {
         "results": {
             "count-corrupt-shares": 0,
@@ -105,6 +113,7 @@ def check(cap):
             "healthy": True,
             "list-corrupt-shares": [],
             "recoverable": True,
+            **beside,
         },
         "storage-index": index,
     }
@@ -158,8 +167,8 @@ def main(words):
             compare_reply(reply, node(cap, {}))
         case ["directory", reply, cap, *entries]:
             compare_reply(reply, directory(cap, entries))
-        case ["check", reply, cap]:
-            compare_reply(reply, check(cap))
+        case ["check", reply, cap, *servers]:
+            compare_reply(reply, check(cap, int(servers[0]) if servers else None))
         case _:
             sys.exit(__doc__)
 

@@ -11,7 +11,7 @@ import os
 import subprocess
 import tempfile
 
-from script_kit import base32, built, checked, fail, image, large_upload
+from script_kit import built, fail, file_checked, image, large_upload
 from server import wozhinnam
 
 LARGEST = 16_777_216
@@ -41,7 +41,7 @@ def read(program, file, folder, kind):
             fail("the bytes from %d to %d are given %d, %r" % (first, last, given[0], given[2]))
     for verify in ("", "&verify=true"):
         told = server.ask("POST", "/uri/%s?t=check&output=JSON%s" % (file.verify_cap, verify))
-        if told != checked(file.cap, file.n, k=file.k, n=file.n, index=base32(file.index)).split(b"\r\n\r\n", 1)[1]:
+        if told != file_checked(file, 1).split(b"\r\n\r\n", 1)[1]:
             fail("a check is answered %r" % told)
     if server.ask("PUT", "/uri", file.text) != file.cap.encode():
         fail("an upload is given another cap")

@@ -1,6 +1,6 @@
 #!/bin/sh
 # nginx and HAProxy before `wozhinnam serve`, by the examples of install/, on free ports and with all they write in a
-# folder of this script's: the longest body put and got, one byte more refused, the longest heads, ranges,
+# folder of this script's: the longest body put and got, one byte more refused, the longest heads and names, ranges,
 # connections that are kept, the control requests out of reach, a gateway that is away, and no cap in any log. It needs
 # curl, wget, nginx, haproxy, openssl and python3.
 # usage: bench/checks/proxies.sh WOZHINNAM
@@ -123,6 +123,15 @@ for kind in nginx haproxy; do
     long=$(head -c 15900 /dev/zero | tr '\0' x)
     test "$(answers "$front/uri/URI:LIT:my?unknown=$long")" = 200 || fail "$kind: a head of 16,000 bytes is refused"
     test "$(answers "$front/uri/URI%3ALIT%3Amy")" = 200 || fail "$kind: an escaped cap is refused"
+
+    # a name of 1,000 letters that aren't ASCII, and one that fills the head: the reply tells each twice, of what isn't
+    # plain a `_` for each byte first
+    for letters in "$(printf '%%E6%%97%%A5%.0s' $(seq 1000))" "$long"; do
+        plain=$(echo "$letters" | sed 's/%../_/g')
+        test "$(answers -D "$folder/head" "$front/uri/URI:LIT:my?filename=$letters")" = 200 || fail "$kind: a name of ${#plain} bytes is refused"
+        test "$(tr -d '\r' < "$folder/head" | sed -n 's/^content-disposition: //Ip')" = "inline; filename=\"$plain\"; filename*=UTF-8''$letters" ||
+            fail "$kind: a name of ${#plain} bytes is told in another way"
+    done
 
     # connections are kept, on both sides
     before=$(opened)

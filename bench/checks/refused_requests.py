@@ -20,7 +20,7 @@ import unicodedata
 import urllib.parse
 
 from refused_serving import FaultyServer, exchanged
-from script_kit import BIG, BIG_CAP, JSON, LETTERS, OCTETS, TEXT, Faults, Upload, base32, built, checked, fail, large_upload, reply, request
+from script_kit import BIG, BIG_CAP, JSON, LETTERS, TEXT, Faults, Upload, built, fail, file_checked, file_reply, large_upload, reply, request
 from whole_scripts import LITERAL, entry
 
 SERVERS = 5
@@ -32,6 +32,7 @@ NAME = unicodedata.normalize("NFC", LOOSE)
 # Made by another program: the reply to t=json of the directory of the file `f`.
 LITERAL_JSON = ('["dirnode",{"children":{"a":["filenode",{"metadata":{},"mutable":false,"ro_uri":"URI:LIT:my","size":1}]},"mutable":false,'
                 '"ro_uri":"URI:DIR2-LIT:gi3dumj2mewdcmb2kvjesosmjfkdu3lzfqydulbshj5x2lbm"}]')
+SHORT = Upload(3, 10, b"", b"f")
 BOTH = large_upload(3, 10, b"", BIG)
 # One byte more than a file that is kept after it was read.
 LARGE = large_upload(3, 10, b"", bytes((at * at >> 8) % 253 for at in range(1_048_577)))
@@ -39,8 +40,8 @@ FOLDER = Upload(3, 10, b"", entry(b"letters", LETTERS.cap) + entry(NAME.encode()
 CHILDREN = json.dumps({LOOSE: ["dirnode", {"ro_uri": LITERAL}], "letters": ["filenode", {"ro_uri": LETTERS.cap}]}).encode()
 
 
-def got(cap, data):
-    return request("GET", "/uri/" + cap), reply(200, OCTETS, data)
+def got(path, file):
+    return request("GET", "/uri/" + path), file_reply(file)
 
 
 def put(file):
@@ -49,26 +50,26 @@ def put(file):
 
 def ranged(file, said, first, last):
     fields = b"Content-Range: bytes %d-%d/%d\r\n" % (first, last, len(file.text))
-    return request("GET", "/uri/" + file.cap, fields="Range: bytes=%s\r\n" % said), reply(206, OCTETS, file.text[first:last + 1], fields)
+    return request("GET", "/uri/" + file.cap, fields="Range: bytes=%s\r\n" % said), file_reply(file, file.text[first:last + 1], 206, fields)
 
 
 def health(file, verify):
     target = "/uri/%s?t=check&output=JSON%s" % (file.cap, "&verify=true" if verify else "")
-    return request("POST", target), checked(file.cap, 10, index=base32(file.index))
+    return request("POST", target), file_checked(file, SERVERS)
 
 
 MAKE = request("POST", "/uri?t=mkdir-immutable", CHILDREN), reply(200, TEXT, FOLDER.cap.encode())
 BELOW = FOLDER.cap + "/" + urllib.parse.quote(LOOSE)
-WALK = [got(BELOW + "/a", b"f"), (request("GET", "/uri/" + BELOW + "?t=json"), reply(200, JSON, LITERAL_JSON.encode())),
-        got(FOLDER.cap + "/letters", LETTERS.text), got(FOLDER.cap + "/" + urllib.parse.quote(NAME) + "/a", b"f")]
+WALK = [got(BELOW + "/a", SHORT), (request("GET", "/uri/" + BELOW + "?t=json"), reply(200, JSON, LITERAL_JSON.encode())),
+        got(FOLDER.cap + "/letters", LETTERS), got(FOLDER.cap + "/" + urllib.parse.quote(NAME) + "/a", SHORT)]
 CASES = {
     "make": [MAKE],
     "walk": WALK,
     "check": [health(file, verify) for file in (BOTH, FOLDER) for verify in (False, True)],
     "range": [ranged(LARGE, "131070-131074", 131_070, 131_074), ranged(LARGE, "900000-1030000", 900_000, 1_030_000), ranged(LARGE, "-2", 1_048_575, 1_048_576)],
-    "download": [got(LARGE.cap, LARGE.text)],
+    "download": [got(LARGE.cap, LARGE)],
 }
-WAITS = [got(LETTERS.cap, LETTERS.text), health(LETTERS, True)]
+WAITS = [got(LETTERS.cap, LETTERS), health(LETTERS, True)]
 STORES = {"memory": None, "folders and memory": "", "folders": ":1000000000,disk"}
 
 
@@ -78,7 +79,7 @@ def files_of(case):
 
 def reads_of(case):
     """What is read and verified after a case, and made again where it was cut."""
-    return [exchange for file in files_of(case) for exchange in (got(file.cap, file.text), health(file, True))] + [MAKE, health(FOLDER, True), *WALK]
+    return [exchange for file in files_of(case) for exchange in (got(file.cap, file), health(file, True))] + [MAKE, health(FOLDER, True), *WALK]
 
 
 def joined(exchanges):

@@ -12,12 +12,15 @@ import concurrent.futures
 import socket
 import subprocess
 
-from script_kit import GONE, LETTERS, OCTETS, TEXT, Faults, Upload, base32, built, checked, fail, reply, request
+from script_kit import LETTERS, NOT_KEPT, TEXT, Faults, Upload, built, fail, file_checked, file_reply, refusal, reply, request
 from server import Server, serve_words
 
+SERVERS = 5
 OTHER = Upload(3, 10, b"", b"b" * 57)
 END = (10, b"out of memory\n")
-WAITING = request("GET", "/uri/URI:LIT:mzxw6")
+FOO = Upload(3, 10, b"", b"foo")
+WAITING = request("GET", "/uri/" + FOO.cap)
+GONE = refusal(410, b"not enough shares", NOT_KEPT)
 
 
 class FaultyServer(Server):
@@ -64,7 +67,7 @@ def exchanged(stream, data):
 
 def exchange(file):
     sent = request("PUT", "/uri", file.text) + request("GET", "/uri/" + file.cap)
-    return sent, reply(200, TEXT, file.cap.encode()) + reply(200, OCTETS, file.text)
+    return sent, reply(200, TEXT, file.cap.encode()) + file_reply(file)
 
 
 def asked_last():
@@ -72,10 +75,10 @@ def asked_last():
 
 
 def given_last(standing):
-    """What the client that waited is given where so many shares of the two files stand."""
-    given = reply(200, OCTETS, b"foo")
+    """What the client that waited is given where so many shares of the two files stand: the first ones."""
+    given = file_reply(FOO)
     for file, good in zip((LETTERS, OTHER), standing):
-        given += checked(file.cap, good, index=base32(file.index)) + (reply(200, OCTETS, file.text) if good >= 3 else GONE)
+        given += file_checked(file, SERVERS, range(good)) + (file_reply(file) if good >= 3 else GONE)
     return given
 
 

@@ -1,5 +1,6 @@
-"""Scripts for `gate_main replay` with the answers that docs/FORMATS.md asks for. Caps and images are those of models/uploads.py and of other programs,
-never the program's own. The scripts that let memory, readers and writers fail run these, and hostile.py runs rows of its own."""
+"""Scripts for `gate_main replay` with the answers that docs/FORMATS.md asks for, and what `wozhinnam` sends beside these for browsers. Caps and images are
+those of models/uploads.py and of other programs, never the program's own. The scripts that let memory, readers and writers fail run these, and hostile.py
+runs rows of its own."""
 
 import os
 import subprocess
@@ -62,18 +63,36 @@ def refusal(status, words, fields=b""):
     return reply(status, TEXT, words + b"\n", fields)
 
 
+# What `wozhinnam` has in replies with bytes of a file, and in refusals of a request.
+OF_FILES = b"Accept-Ranges: bytes\r\nX-Content-Type-Options: nosniff\r\nContent-Security-Policy: sandbox\r\n"
+NOT_KEPT = b"Cache-Control: no-store\r\n"
+
+
+def file_reply(file, data=None, status=200, fields=b""):
+    """A reply of `wozhinnam` with the bytes of an upload, or with these of them."""
+    tag = b'ETag: "%s"\r\n' % file.verify_cap.encode() if file.shares else b""
+    return reply(status, OCTETS, file.text if data is None else data, fields + OF_FILES + tag)
+
+
 GONE = refusal(410, b"not enough shares")
 FULL = refusal(503, b"store full")
 BAD_REQUEST = refusal(400, b"bad request", b"Connection: close\r\n")
 
 
-def checked(cap, good, bad=(), k=3, n=10, index=None):
+def checked(cap, good, bad=(), k=3, n=10, index=None, beside=""):
     """The reply to a check of a cap: how many numbers are good, and the shares that aren't, by server and number."""
     index = index or cap.split(":")[2]
     listed = ",".join('[%d,"%s",%d]' % (server, index, number) for server, number in bad)
     return reply(200, JSON, ('{"results":{"count-corrupt-shares":%d,"count-shares-expected":%d,"count-shares-good":%d,"count-shares-needed":%d,"healthy":%s,'
-                             '"list-corrupt-shares":[%s],"recoverable":%s},"storage-index":"%s"}' % (
-                                 len(bad), n, good, k, str(good == n).lower(), listed, str(good >= k).lower(), index)).encode())
+                             '"list-corrupt-shares":[%s],"recoverable":%s%s},"storage-index":"%s"}' % (
+                                 len(bad), n, good, k, str(good == n).lower(), listed, str(good >= k).lower(), beside, index)).encode())
+
+
+def file_checked(file, servers, numbers=None, bad=()):
+    """The reply of `wozhinnam` to a check of an upload, of which the shares of these numbers are good, or all, each at its own server alone."""
+    places = sorted((number, server) for server, _, number in file.placed(servers) if numbers is None or number in numbers)
+    told = ',"sharemap":{%s}' % ",".join('"%d":[%d]' % place for place in places)
+    return checked(file.cap, len(places), bad, file.k, file.n, base32(file.index), told)
 
 
 class Script:

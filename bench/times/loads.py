@@ -25,7 +25,9 @@ sys.path.insert(0, os.path.join(os.path.dirname(os.path.abspath(__file__)), "../
 from server import fail, wozhinnam
 
 SMALL = b"GET /uri/URI:LIT:mzxw6 HTTP/1.1\r\nHost: g\r\n\r\n"
-REPLY = b"HTTP/1.1 200 OK\r\nContent-Type: application/octet-stream\r\nContent-Length: 3\r\n\r\nfoo"
+# docs/FORMATS.md, "For browsers": what stands in a reply behind the length of a file.
+OF_FILES = b"Accept-Ranges: bytes\r\nX-Content-Type-Options: nosniff\r\nContent-Security-Policy: sandbox\r\n"
+REPLY = b"HTTP/1.1 200 OK\r\nContent-Type: application/octet-stream\r\nContent-Length: 3\r\n" + OF_FILES + b"\r\nfoo"
 LONG = 4_194_304
 SECONDS = 120
 
@@ -65,7 +67,9 @@ def stored(server, number=0):
         while got := stream.recv(65536):
             reply += got
     cap = reply.split(b"\r\n\r\n", 1)[1]
-    head = b"HTTP/1.1 200 OK\r\nContent-Type: application/octet-stream\r\nContent-Length: %d\r\n\r\n" % LONG
+    # The tag is as long as the text of the verify cap, in which the storage index has the place of the key, and as many letters.
+    tag = b'ETag: "%s"\r\n' % cap.replace(b"URI:CHK:", b"URI:CHK-Verifier:")
+    head = b"HTTP/1.1 200 OK\r\nContent-Type: application/octet-stream\r\nContent-Length: %d\r\n" % LONG + OF_FILES + tag + b"\r\n"
     return b"GET /uri/%s HTTP/1.1\r\nHost: g\r\n\r\n" % cap, len(head) + LONG
 
 
