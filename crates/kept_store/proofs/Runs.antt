@@ -4,15 +4,15 @@ use Rattle.std.proofs.Math.Seq.{take-length}
 use Rattle.std.specs.Prelude.{IsTrue, IsErr, OnOk, OnErr}
 use Rattle.share_store.specs.Shares.{Shares}
 use Rattle.share_store.specs.declared.fault.StoreFault.{StoreFault}
-use Rattle.share_shelf.specs.Left.{IsEither, LeavesOnly}
+use Rattle.share_shelf.specs.CrashStates.{IsEither, LeavesOnly}
 use Rattle.kept_store.specs.Step.{Crashes}
-use Rattle.kept_store.specs.Calls.{done, answered, after, MayBeLeft, IsRun}
+use Rattle.kept_store.specs.Calls.{done, after_call, after_calls, MayBeLeft, IsRun}
 use Rattle.kept_store.specs.declared.calls.Call.{Call}
 
 -- how a call was answered
-pub answered_is : (call : Call) (m n : Shares) (r : Result Bool StoreFault) (ok : Bool) → ok ≡ is_ok r → OnOk r (n ≡ done call m) → OnErr r (n ≡ m) → n ≡ answered call ok m
-answered_is call m n (Ok x) ok is did not_done = did ∙ ap (λ b. answered call b m) (sym is)
-answered_is call m n (Err e) ok is did not_done = not_done ∙ ap (λ b. answered call b m) (sym is)
+pub answered_is : (call : Call) (m n : Shares) (r : Result Bool StoreFault) (ok : Bool) → ok ≡ is_ok r → OnOk r (n ≡ done call m) → OnErr r (n ≡ m) → n ≡ after_call call ok m
+answered_is call m n (Ok x) ok is did not_done = did ∙ ap (λ b. after_call call b m) (sym is)
+answered_is call m n (Err e) ok is did not_done = not_done ∙ ap (λ b. after_call call b m) (sym is)
 
 -- the first call, and those after it
 pub first_call : (calls : List Call) (x : Call) → 1 ≤ length calls → x ≡ get_or calls 0 x → calls ≡ x ∷ take (length calls - 1) (drop 1 calls)
@@ -49,10 +49,10 @@ module _ {H : Type 0} (moment : H → ℕ) (left_since : H → ℕ → Shares �
   }
 
   pub more_run : (call : Call) (calls : List Call) (ok : Bool) (oks : List Bool) (down then : Bool) (a b d : H) (m n e : Shares)
-      → Crashes moment left_since honest down a b m (done call m) → n ≡ answered call ok m → (down ≡ true → then ≡ true) → IsRun moment left_since honest calls oks then b d n e
+      → Crashes moment left_since honest down a b m (done call m) → n ≡ after_call call ok m → (down ≡ true → then ≡ true) → IsRun moment left_since honest calls oks then b d n e
       → IsRun moment left_since honest (call ∷ calls) (ok ∷ oks) down a d m e
   more_run call calls ok oks down then a b d m n e step is stays run = record {
-    stands = run.stands ∙ ap (after calls oks) is;
+    stands = run.stands ∙ ap (after_calls calls oks) is;
     crash = λ up h. by_case (step.up up h) h then refl;
     left_alone = λ off. run.left_alone (stays off) ∙ step.left_alone off;
   }
@@ -79,7 +79,7 @@ module _ {H : Type 0} (moment : H → ℕ) (left_since : H → ℕ → Shares �
 
   -- a run of the first call and then the others
   pub cut_run : (calls : List Call) (call : Call) (rest : List Call) (ok : Bool) (oks : List Bool) (down then : Bool) (a b d : H) (m n e : Shares) → calls ≡ call ∷ rest
-      → Crashes moment left_since honest down a b m (done call m) → n ≡ answered call ok m → (down ≡ true → then ≡ true) → IsRun moment left_since honest rest oks then b d n e
+      → Crashes moment left_since honest down a b m (done call m) → n ≡ after_call call ok m → (down ≡ true → then ≡ true) → IsRun moment left_since honest rest oks then b d n e
       → IsRun moment left_since honest calls (ok ∷ oks) down a d m e
   cut_run calls call rest ok oks down then a b d m n e cut step is stays run =
       subst (λ (l : List Call). IsRun moment left_since honest l (ok ∷ oks) down a d m e) (sym cut) (more_run call rest ok oks down then a b d m n e step is stays run)

@@ -1,8 +1,6 @@
 //! Calls of a store that change it, and runs of them.
-ghost use Rattle.std.specs.Prelude.{◌≡◌, ◌<◌, ◌≤◌, ◌+◌, ◌++◌, List, Bool, true, false, length, IsTrue, OnOk, OnErr};
-ghost use Rattle.std.specs.Rc.{rc_slice_items};
+ghost use Rattle.std.specs.Prelude.{◌≡◌, ◌<◌, ◌≤◌, ◌+◌, ◌++◌, List, Bool, length, OnOk};
 ghost use Rattle.kept_store.specs.Calls.{done, IsRun};
-ghost use Rattle.kept_store.specs.Step.{Crashes};
 
 use crate::KeptStore;
 use share_shelf::Shelf;
@@ -22,22 +20,13 @@ pub enum Call {
 }
 
 impl<H: Shelf> KeptStore<H> {
+    ghost use Rattle.kept_store.specs.Changed.{shares_in_memory, DoesOrRefuses, WritesThrough, IsDownOnceFailed};
+
     /// Makes a call. A put of no bytes is refused.
     fn call(&mut self, call: &Call) -> Result<bool, StoreFault>
-        ensures shares { OnOk result (⟦<MemStore as Store>⟧.shares self.new.memory
-            ≡ done call.now (⟦<MemStore as Store>⟧.shares self.old.memory)) }
-        ensures err { OnErr result (⟦<MemStore as Store>⟧.shares self.new.memory
-            ≡ ⟦<MemStore as Store>⟧.shares self.old.memory) }
-        ensures crash { Crashes H.moment H.left_since H.honest
-            self.old.down self.old.shelf self.new.shelf
-            (⟦<MemStore as Store>⟧.shares self.old.memory)
-            (done call.now (⟦<MemStore as Store>⟧.shares self.old.memory)) }
-        ensures stays_down { self.old.down ≡ true → self.new.down ≡ true }
-        ensures rises { self.old.failures ≤ self.new.failures }
-        ensures room { ⟦<MemStore as Store>⟧.room self.new.memory
-            + ⟦<MemStore as Store>⟧.held self.new.memory
-            ≡ ⟦<MemStore as Store>⟧.room self.old.memory
-            + ⟦<MemStore as Store>⟧.held self.old.memory }
+        ensures done { DoesOrRefuses (done call.now) result self.old self.new }
+        ensures through { WritesThrough (done call.now) self.old self.new }
+        ensures failing { IsDownOnceFailed result self.old self.new }
     {
         match call {
             Call::Put(index, number, bytes) => {
@@ -45,10 +34,10 @@ impl<H: Shelf> KeptStore<H> {
                     return Err(StoreFault::Full);
                 }
                 let lent = bytes.clone()?;
-                self.keep(*index, *number, lent)
+                self.put_share(*index, *number, lent)
             }
-            Call::Lose(index, number) => self.give_up(*index, *number),
-            Call::Toggle(index, number, place) => self.alter(*index, *number, *place),
+            Call::Lose(index, number) => self.lose_share(*index, *number),
+            Call::Toggle(index, number, place) => self.flip_bit(*index, *number, *place),
         }
     }
 
@@ -56,14 +45,13 @@ impl<H: Shelf> KeptStore<H> {
     /// Refused where there was no memory for an answer; the calls up to there were made.
     ///
     /// What stands then is what stood, with the calls done that were granted, and the bytes that fit in all stay as many.
-    /// A crash at any moment leaves on an honest
-    /// shelf what stood after some of them, as they were answered, and the next one done or not.
+    /// A crash at any moment leaves on an honest shelf what stood after some of them, as they were answered, and the next
+    /// one done or not.
     pub fn run(&mut self, calls: &[Call], answers: &mut Vec<bool>) -> Result<(), AllocError>
         ensures ran { (oks : List Bool) × OnOk result ((answers.new.items ≡ answers.old.items ++ oks)
             × (length oks ≡ length calls.now))
             × IsRun H.moment H.left_since H.honest calls.now oks self.old.down self.old.shelf
-            self.new.shelf (⟦<MemStore as Store>⟧.shares self.old.memory)
-            (⟦<MemStore as Store>⟧.shares self.new.memory) }
+            self.new.shelf (shares_in_memory self.old) (shares_in_memory self.new) }
         ensures rises { self.old.failures ≤ self.new.failures }
         ensures room { ⟦<MemStore as Store>⟧.room self.new.memory
             + ⟦<MemStore as Store>⟧.held self.new.memory

@@ -1,16 +1,16 @@
 //! A store in memory with a shelf beside it.
-ghost use Rattle.std.specs.Prelude.{◌≡◌, ◌<◌, ◌≤◌, ◌+◌, ◌-◌, ◌^◌, ◌==◌, ◌↔◌, ◌⊎◌, [], true, false, not, length, IsTrue, IfOk, IsOkAnd, OnOk, OnErr, IsErrOf, if◌then◌else◌, None, slice_get};
+ghost use Rattle.std.specs.Prelude.{◌≡◌, ◌<◌, ◌≤◌, ◌+◌, ◌-◌, ◌^◌, ◌==◌, ◌↔◌, [], true, false, not, length, IsTrue, IfOk, IsOkAnd, OnOk, OnErr, IsErrOf, if◌then◌else◌, None, slice_get};
 ghost use Rattle.std.specs.Option.{option_map};
 ghost use Rattle.std.specs.FinMap as map;
 ghost use Rattle.std.specs.Rc.{rc_slice_items};
 ghost use Rattle.share_store.specs.History.{IsEither, GoesOnBy};
 ghost use Rattle.share_store.specs.Looked.{Looked};
 ghost use Rattle.share_store.specs.MapLaws.{held_fits};
-ghost use Rattle.share_store.specs.Numbers.{numbers_of};
+ghost use Rattle.share_store.specs.Numbers.{numbers_for};
 ghost use Rattle.share_store.specs.Put.{put_once};
 ghost use Rattle.share_store.specs.Stored.{entry_of, shares_in};
 ghost use Rattle.share_store.specs.Toggle.{has_byte, with_toggle};
-ghost use Rattle.kept_store.specs.Step.{IsInStep, IsInStep-prop, Crashes};
+ghost use Rattle.kept_store.specs.Step.{IsInStep, IsInStep-prop};
 
 use share_shelf::{Shelf, ShelfFault};
 use share_store::laws::toggle_laws;
@@ -34,6 +34,8 @@ pub struct KeptStore<H: Shelf> {
 }
 
 impl<H: Shelf> KeptStore<H> {
+    ghost use Rattle.kept_store.specs.Changed.{shares_in_memory, DoesOrRefuses, WritesThrough, IsDownOnceFailed, GrantsOnlyKept};
+
     /// The shelf beside it: until it failed, an honest one keeps the store's shares. What an honest one tells of its past
     /// is what the store tells.
     pub fn shelf(&self) -> &H
@@ -69,53 +71,26 @@ impl<H: Shelf> KeptStore<H> {
 
     /// Puts a share where none stands: in memory, and then on the shelf. Where the shelf refuses, it is taken out of
     /// memory again.
-    pub fn keep(
+    pub fn put_share(
         &mut self,
         index: [u8; 16],
         number: u16,
         bytes: RcSlice<u8>,
     ) -> Result<bool, StoreFault>
         requires { 0 < length (rc_slice_items bytes) }
-        ensures rises { self.old.failures ≤ self.new.failures }
-        ensures down { IsErrOf result StoreFault.Down ↔ (self.old.failures < self.new.failures) }
         ensures full { IsErrOf result StoreFault.Full →
-            (⟦<MemStore as Store>⟧.room self.old.memory < length (rc_slice_items bytes))
-            × (⟦<MemStore as Store>⟧.room self.new.memory
-            ≡ ⟦<MemStore as Store>⟧.room self.old.memory) }
+            (self.old.memory.room < length (rc_slice_items bytes))
+            × (self.new.memory.room ≡ self.old.memory.room) }
         ensures full_only { IsErrOf result StoreFault.Full →
-            map.get (⟦<MemStore as Store>⟧.shares self.old.memory) (index, number) ≡ None }
+            map.get (shares_in_memory self.old) (index, number) ≡ None }
         ensures put { IfOk result (λ put. put
-            ≡ not (map.contains_key (⟦<MemStore as Store>⟧.shares self.old.memory)
-            (index, number))) }
-        ensures shares { OnOk result (⟦<MemStore as Store>⟧.shares self.new.memory
-            ≡ put_once (⟦<MemStore as Store>⟧.shares self.old.memory) (index, number)
-            (rc_slice_items bytes)) }
-        ensures err { OnErr result (⟦<MemStore as Store>⟧.shares self.new.memory
-            ≡ ⟦<MemStore as Store>⟧.shares self.old.memory) }
-        ensures room { ⟦<MemStore as Store>⟧.room self.new.memory
-            + ⟦<MemStore as Store>⟧.held self.new.memory
-            ≡ ⟦<MemStore as Store>⟧.room self.old.memory
-            + ⟦<MemStore as Store>⟧.held self.old.memory }
-        ensures crash { Crashes H.moment H.left_since H.honest
-            self.old.down self.old.shelf self.new.shelf
-            (⟦<MemStore as Store>⟧.shares self.old.memory)
-            (put_once (⟦<MemStore as Store>⟧.shares self.old.memory) (index, number)
-            (rc_slice_items bytes)) }
-        ensures history { IsTrue (H.honest self.old.shelf) →
-            GoesOnBy (IsEither (⟦<MemStore as Store>⟧.shares self.old.memory)
-            (put_once (⟦<MemStore as Store>⟧.shares self.old.memory) (index, number)
-            (rc_slice_items bytes)))
-            (H.history self.old.shelf) (H.history self.new.shelf) }
-        ensures stays_down { self.old.down ≡ true → self.new.down ≡ true }
-        ensures goes_down { H.failures self.old.shelf < H.failures self.new.shelf →
-            self.new.down ≡ true }
-        ensures stays_up { self.old.down ≡ false →
-            H.failures self.new.shelf ≡ H.failures self.old.shelf →
-            (self.new.down ≡ false) × (IsErrOf result StoreFault.Down → ⊥) }
-        ensures refused { H.failures self.old.shelf < H.failures self.new.shelf → OnOk result ⊥ }
-        ensures granted { OnOk result ((self.new.down ≡ false)
-            ⊎ (⟦<MemStore as Store>⟧.shares self.new.memory
-            ≡ ⟦<MemStore as Store>⟧.shares self.old.memory)) }
+            ≡ not (map.contains_key (shares_in_memory self.old) (index, number))) }
+        ensures done { DoesOrRefuses (λ m. put_once m (index, number) (rc_slice_items bytes))
+            result self.old self.new }
+        ensures through { WritesThrough (λ m. put_once m (index, number) (rc_slice_items bytes))
+            self.old self.new }
+        ensures failing { IsDownOnceFailed result self.old self.new }
+        ensures granting { GrantsOnlyKept result self.old self.new }
     {
         if self.memory.has(index, number)? {
             return Ok(false);
@@ -140,38 +115,14 @@ impl<H: Shelf> KeptStore<H> {
     }
 
     /// Takes a share away: from the shelf, and then from memory.
-    pub fn give_up(&mut self, index: [u8; 16], number: u16) -> Result<bool, StoreFault>
-        ensures rises { self.old.failures ≤ self.new.failures }
-        ensures down { IsErrOf result StoreFault.Down ↔ (self.old.failures < self.new.failures) }
+    pub fn lose_share(&mut self, index: [u8; 16], number: u16) -> Result<bool, StoreFault>
         ensures not_full { IsErrOf result StoreFault.Full → ⊥ }
         ensures lost { IfOk result (λ lost. lost
-            ≡ map.contains_key (⟦<MemStore as Store>⟧.shares self.old.memory) (index, number)) }
-        ensures shares { OnOk result (⟦<MemStore as Store>⟧.shares self.new.memory
-            ≡ map.remove (⟦<MemStore as Store>⟧.shares self.old.memory) (index, number)) }
-        ensures err { OnErr result (⟦<MemStore as Store>⟧.shares self.new.memory
-            ≡ ⟦<MemStore as Store>⟧.shares self.old.memory) }
-        ensures room { ⟦<MemStore as Store>⟧.room self.new.memory
-            + ⟦<MemStore as Store>⟧.held self.new.memory
-            ≡ ⟦<MemStore as Store>⟧.room self.old.memory
-            + ⟦<MemStore as Store>⟧.held self.old.memory }
-        ensures crash { Crashes H.moment H.left_since H.honest
-            self.old.down self.old.shelf self.new.shelf
-            (⟦<MemStore as Store>⟧.shares self.old.memory)
-            (map.remove (⟦<MemStore as Store>⟧.shares self.old.memory) (index, number)) }
-        ensures history { IsTrue (H.honest self.old.shelf) →
-            GoesOnBy (IsEither (⟦<MemStore as Store>⟧.shares self.old.memory)
-            (map.remove (⟦<MemStore as Store>⟧.shares self.old.memory) (index, number)))
-            (H.history self.old.shelf) (H.history self.new.shelf) }
-        ensures stays_down { self.old.down ≡ true → self.new.down ≡ true }
-        ensures goes_down { H.failures self.old.shelf < H.failures self.new.shelf →
-            self.new.down ≡ true }
-        ensures stays_up { self.old.down ≡ false →
-            H.failures self.new.shelf ≡ H.failures self.old.shelf →
-            (self.new.down ≡ false) × (IsErrOf result StoreFault.Down → ⊥) }
-        ensures refused { H.failures self.old.shelf < H.failures self.new.shelf → OnOk result ⊥ }
-        ensures granted { OnOk result ((self.new.down ≡ false)
-            ⊎ (⟦<MemStore as Store>⟧.shares self.new.memory
-            ≡ ⟦<MemStore as Store>⟧.shares self.old.memory)) }
+            ≡ map.contains_key (shares_in_memory self.old) (index, number)) }
+        ensures done { DoesOrRefuses (λ m. map.remove m (index, number)) result self.old self.new }
+        ensures through { WritesThrough (λ m. map.remove m (index, number)) self.old self.new }
+        ensures failing { IsDownOnceFailed result self.old self.new }
+        ensures granting { GrantsOnlyKept result self.old self.new }
     {
         if !self.memory.has(index, number)? {
             return Ok(false);
@@ -190,38 +141,16 @@ impl<H: Shelf> KeptStore<H> {
     }
 
     /// Changes the lowest bit of one byte of a share: on the shelf, and then in memory.
-    pub fn alter(&mut self, index: [u8; 16], number: u16, place: u64) -> Result<bool, StoreFault>
-        ensures rises { self.old.failures ≤ self.new.failures }
-        ensures down { IsErrOf result StoreFault.Down ↔ (self.old.failures < self.new.failures) }
+    pub fn flip_bit(&mut self, index: [u8; 16], number: u16, place: u64) -> Result<bool, StoreFault>
         ensures not_full { IsErrOf result StoreFault.Full → ⊥ }
         ensures toggled { IfOk result (λ toggled. toggled
-            ≡ has_byte (⟦<MemStore as Store>⟧.shares self.old.memory) (index, number) place) }
-        ensures shares { OnOk result (⟦<MemStore as Store>⟧.shares self.new.memory
-            ≡ with_toggle (⟦<MemStore as Store>⟧.shares self.old.memory) (index, number) place) }
-        ensures err { OnErr result (⟦<MemStore as Store>⟧.shares self.new.memory
-            ≡ ⟦<MemStore as Store>⟧.shares self.old.memory) }
-        ensures room { ⟦<MemStore as Store>⟧.room self.new.memory
-            + ⟦<MemStore as Store>⟧.held self.new.memory
-            ≡ ⟦<MemStore as Store>⟧.room self.old.memory
-            + ⟦<MemStore as Store>⟧.held self.old.memory }
-        ensures crash { Crashes H.moment H.left_since H.honest
-            self.old.down self.old.shelf self.new.shelf
-            (⟦<MemStore as Store>⟧.shares self.old.memory)
-            (with_toggle (⟦<MemStore as Store>⟧.shares self.old.memory) (index, number) place) }
-        ensures history { IsTrue (H.honest self.old.shelf) →
-            GoesOnBy (IsEither (⟦<MemStore as Store>⟧.shares self.old.memory)
-            (with_toggle (⟦<MemStore as Store>⟧.shares self.old.memory) (index, number) place))
-            (H.history self.old.shelf) (H.history self.new.shelf) }
-        ensures stays_down { self.old.down ≡ true → self.new.down ≡ true }
-        ensures goes_down { H.failures self.old.shelf < H.failures self.new.shelf →
-            self.new.down ≡ true }
-        ensures stays_up { self.old.down ≡ false →
-            H.failures self.new.shelf ≡ H.failures self.old.shelf →
-            (self.new.down ≡ false) × (IsErrOf result StoreFault.Down → ⊥) }
-        ensures refused { H.failures self.old.shelf < H.failures self.new.shelf → OnOk result ⊥ }
-        ensures granted { OnOk result ((self.new.down ≡ false)
-            ⊎ (⟦<MemStore as Store>⟧.shares self.new.memory
-            ≡ ⟦<MemStore as Store>⟧.shares self.old.memory)) }
+            ≡ has_byte (shares_in_memory self.old) (index, number) place) }
+        ensures done { DoesOrRefuses (λ m. with_toggle m (index, number) place)
+            result self.old self.new }
+        ensures through { WritesThrough (λ m. with_toggle m (index, number) place)
+            self.old self.new }
+        ensures failing { IsDownOnceFailed result self.old self.new }
+        ensures granting { GrantsOnlyKept result self.old self.new }
     {
         toggle_laws();
         let Some(bytes) = self.memory.get(index, number)? else {
@@ -250,6 +179,8 @@ impl<H: Shelf> KeptStore<H> {
 }
 
 impl<H: Shelf> Store for KeptStore<H> {
+    ghost use Rattle.kept_store.specs.Changed.{GrantsOnlyKept};
+
     ghost honest = { λ store. true };
 
     ghost history = { λ store.
@@ -295,7 +226,7 @@ impl<H: Shelf> Store for KeptStore<H> {
             ⟦<KeptStore<H> as Store>⟧.failures self.new
             ≡ ⟦<KeptStore<H> as Store>⟧.failures self.old →
             IfOk result (λ numbers. numbers.items
-            ≡ numbers_of (⟦<KeptStore<H> as Store>⟧.shares self.old) index) }
+            ≡ numbers_for (⟦<KeptStore<H> as Store>⟧.shares self.old) index) }
         ensures same_down { self.new.down ≡ self.old.down }
         ensures same_shelf { self.new.shelf ≡ self.old.shelf }
     {
@@ -376,12 +307,9 @@ impl<H: Shelf> Store for KeptStore<H> {
             (rc_slice_items bytes)))
             (⟦<KeptStore<H> as Store>⟧.history self.old)
             (⟦<KeptStore<H> as Store>⟧.history self.new) }
-        ensures refused { H.failures self.old.shelf < H.failures self.new.shelf → OnOk result ⊥ }
-        ensures granted { OnOk result ((self.new.down ≡ false)
-            ⊎ (⟦<KeptStore<H> as Store>⟧.shares self.new
-            ≡ ⟦<KeptStore<H> as Store>⟧.shares self.old)) }
+        ensures granting { GrantsOnlyKept result self.old self.new }
     {
-        self.keep(index, number, bytes)
+        self.put_share(index, number, bytes)
     }
 
     fn lose(&mut self, index: [u8; 16], number: u16) -> Result<bool, StoreFault>
@@ -411,12 +339,9 @@ impl<H: Shelf> Store for KeptStore<H> {
             (map.remove (⟦<KeptStore<H> as Store>⟧.shares self.old) (index, number)))
             (⟦<KeptStore<H> as Store>⟧.history self.old)
             (⟦<KeptStore<H> as Store>⟧.history self.new) }
-        ensures refused { H.failures self.old.shelf < H.failures self.new.shelf → OnOk result ⊥ }
-        ensures granted { OnOk result ((self.new.down ≡ false)
-            ⊎ (⟦<KeptStore<H> as Store>⟧.shares self.new
-            ≡ ⟦<KeptStore<H> as Store>⟧.shares self.old)) }
+        ensures granting { GrantsOnlyKept result self.old self.new }
     {
-        self.give_up(index, number)
+        self.lose_share(index, number)
     }
 
     fn toggle(&mut self, index: [u8; 16], number: u16, place: u64) -> Result<bool, StoreFault>
@@ -446,12 +371,9 @@ impl<H: Shelf> Store for KeptStore<H> {
             (with_toggle (⟦<KeptStore<H> as Store>⟧.shares self.old) (index, number) place))
             (⟦<KeptStore<H> as Store>⟧.history self.old)
             (⟦<KeptStore<H> as Store>⟧.history self.new) }
-        ensures refused { H.failures self.old.shelf < H.failures self.new.shelf → OnOk result ⊥ }
-        ensures granted { OnOk result ((self.new.down ≡ false)
-            ⊎ (⟦<KeptStore<H> as Store>⟧.shares self.new
-            ≡ ⟦<KeptStore<H> as Store>⟧.shares self.old)) }
+        ensures granting { GrantsOnlyKept result self.old self.new }
     {
-        self.alter(index, number, place)
+        self.flip_bit(index, number, place)
     }
 
     fn room(&self) -> u64 {

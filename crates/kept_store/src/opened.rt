@@ -3,8 +3,8 @@ ghost use Rattle.std.specs.Prelude.{◌≡◌, ◌<◌, ◌+◌, ℕ, [], List, 
 ghost use Rattle.std.specs.FinMap as map;
 ghost use Rattle.share_store.specs.Put.{put_once};
 ghost use Rattle.share_store.specs.Shares.{Shares, ShareKey, bytes_of};
-ghost use Rattle.share_shelf.specs.Left.{Keeps, IsQuiet};
-ghost use Rattle.kept_store.specs.Filled.{IsTooLong};
+ghost use Rattle.share_shelf.specs.CrashStates.{Keeps, IsQuiet};
+ghost use Rattle.kept_store.specs.Filled.{IsShareTooLong};
 ghost use Rattle.share_shelf.specs.declared.open_fault.OpenFault.TheVariants.{Store as StoreRefused};
 
 use crate::KeptStore;
@@ -38,7 +38,7 @@ fn take_in<H: Shelf>(
     ensures full { IsErrOf result (StoreRefused StoreFault.Full) → IsTrue (H.honest shelf.old) →
         (m : Shares) → Keeps H.moment H.left_since shelf.old m →
         (bytes : List ℕ) → map.get m (index, number) ≡ Some bytes →
-        IsTooLong (⟦<MemStore as Store>⟧.shares memory.old) (⟦<MemStore as Store>⟧.room memory.old)
+        IsShareTooLong (⟦<MemStore as Store>⟧.shares memory.old) (⟦<MemStore as Store>⟧.room memory.old)
         (index, number) bytes }
 {
     let Some(bytes) = shelf.read(index, number)? else {

@@ -4,7 +4,7 @@ use Rattle.std.specs.Rc.{rc_slice_items}
 use Rattle.std.proofs.lemmas.Option.{slice_get-get_or}
 use Rattle.share_store.specs.Shares.{ShareKey}
 use Rattle.share_store.specs.Stored.{shares_in}
-use Rattle.share_shelf.specs.Left.{IsQuiet}
+use Rattle.share_shelf.specs.CrashStates.{IsQuiet}
 use Rattle.share_store.specs.declared.fault.StoreFault.TheVariants.{Full}
 use Rattle.share_shelf.specs.declared.open_fault.OpenFault.TheVariants.{Empty, Store as StoreRefused}
 use Rattle.kept_store.proofs.Steps.{quiet_trans, quiet_keeps}
