@@ -1,4 +1,5 @@
 //! Connections over sockets of the loopback, within limits of time and number.
+ghost use Rattle.std.specs.Prelude.{option_map};
 
 use gate_core::Gateway;
 use gate_flow::Lobby;
@@ -6,6 +7,7 @@ use gate_poll::*;
 use http_edge::{Head, Status};
 use log::Log;
 use mio::net::TcpListener;
+use octets::Bytes;
 use share_store::MemStore;
 use std::alloc::{AllocError, Global};
 use std::io::{Read, Write};
@@ -32,6 +34,16 @@ fn listen(rt: &impl Net) -> Result<TcpListener, Fail> {
         Ok(address) => Ok(TcpListener::bind(rt, address)?),
         Err(_) => Err(Fail::from("no address")),
     }
+}
+
+/// One listener, without a secret of its own.
+fn only(rt: &impl AllocGlobal, socket: TcpListener) -> Result<Vec<Listener>, Fail> {
+    let mut listeners = Vec::new(rt.alloc());
+    listeners.push(Listener {
+        socket,
+        secret: None,
+    })?;
+    Ok(listeners)
 }
 
 /// What a client sends, whether it ends its side, and what it is given.
@@ -64,7 +76,7 @@ fn counts_on<R: Net<Stream = TcpStream> + Clock + CpuClock + AllocGlobal + Log>(
     limits: &Limits,
     lobby: &mut Lobby<MemStore>,
 ) -> Result<Counts, Fail> {
-    match serve_on(rt, listener, None, limits, lobby, &mut NoControl) {
+    match serve_on(rt, only(rt, listener)?, None, limits, lobby, &mut NoControl) {
         Ok(counts) => Ok(counts),
         Err(_) => Err(Fail::from("serving ended")),
     }
@@ -247,13 +259,30 @@ fn is_first_refused<R: Net<Stream = TcpStream> + Clock + CpuClock + AllocGlobal 
     Ok(counts.refused == 1 && counts.over == 1 && given.as_slice() == FOO)
 }
 
-/// Asks that serving stop, whatever is asked.
+/// Asks that serving stop, whatever is asked by those who bring the token.
 #[derive(Drop)]
 struct Stops {
     asked: u32,
+    token: Option<&'static [u8]>,
+}
+
+impl Stops {
+    /// One that was asked nothing, and wants no token.
+    fn new() -> Stops {
+        Stops {
+            asked: 0,
+            token: None,
+        }
+    }
 }
 
 impl Control<MemStore> for Stops {
+    ghost wanted = { λ stops. option_map (λ token. token.now) stops.token };
+
+    fn token(&self) -> Option<&[u8]> {
+        self.token
+    }
+
     fn answer(
         &mut self,
         alloc: Global,
@@ -311,11 +340,105 @@ fn are_stopped<R: Net<Stream = TcpStream> + Clock + CpuClock + AllocGlobal + Log
     many: &mut Lobby<MemStore>,
 ) -> Result<bool, Fail> {
     let limits = Limits::new(10, Duration::from_secs(20));
-    let mut answers = Stops { asked: 0 };
-    match serve_on(rt, listener, Some(control), &limits, many, &mut answers) {
+    let mut answers = Stops::new();
+    match serve_on(
+        rt,
+        only(rt, listener)?,
+        Some(control),
+        &limits,
+        many,
+        &mut answers,
+    ) {
         Ok(counts) => Ok(answers.asked == 1 && counts.opened == 2 && counts.stopped == 2),
         Err(_) => Err(Fail::from("serving ended")),
     }
+}
+
+/// A file of 60 bytes, which is too long to stand in its cap.
+const PUT: &[u8] =
+    b"PUT /uri HTTP/1.1\r\nHost: g\r\nConnection: close\r\nContent-Length: 60\r\n\r\nsixty bytes, which two groups put, each under its own secret";
+
+#[test]
+fn equal_files_have_two_caps_at_two_listeners(rt: HostRuntime) -> Result<(), Fail> {
+    let plain = listen(&rt)?;
+    let apart = listen(&rt)?;
+    let mut one = client(&rt, plain.local_addr()?, PUT, false)?;
+    let mut other = client(&rt, apart.local_addr()?, PUT, false)?;
+    let mut listeners = only(&rt, plain)?;
+    listeners.push(Listener {
+        socket: apart,
+        secret: Some(Bytes::from_slice(rt.alloc(), b"own")?),
+    })?;
+    served_all(&rt, listeners, 2, &mut lobby(rt.alloc())?)?;
+    let one = all_of(rt.alloc(), &mut one)?;
+    let other = all_of(rt.alloc(), &mut other)?;
+    assert!(rt; one.starts_with(b"HTTP/1.1 200") && other.starts_with(b"HTTP/1.1 200"));
+    assert!(rt; one.as_slice() != other.as_slice());
+    Ok(())
+}
+
+/// Serves so many connections.
+fn served_all<R: Net<Stream = TcpStream> + Clock + CpuClock + AllocGlobal + Log>(
+    rt: &R,
+    listeners: Vec<Listener>,
+    count: u64,
+    many: &mut Lobby<MemStore>,
+) -> Result<(), Fail> {
+    let mut limits = Limits::new(10, Duration::from_secs(20));
+    limits.served = Some(count);
+    match serve_on(rt, listeners, None, &limits, many, &mut NoControl) {
+        Ok(_) => Ok(()),
+        Err(_) => Err(Fail::from("serving ended")),
+    }
+}
+
+/// The same request with a part of the token, and with the token.
+const STOP_BY_A_PART: &[u8] = b"POST /stop HTTP/1.0\r\nAuthorization: Bearer secre\r\n\r\n";
+
+const STOP_BY_THE_TOKEN: &[u8] = b"POST /stop HTTP/1.0\r\nauthorization: bearer secret\r\n\r\n";
+
+const WITHOUT_THE_TOKEN: &[u8] =
+    b"HTTP/1.1 401 Unauthorized\r\nContent-Type: text/plain; charset=utf-8\r\nContent-Length: 51\r\nWWW-Authenticate: Bearer\r\nConnection: close\r\n\r\nrefused: Authorization: Bearer TOKEN is to be sent\n";
+
+#[test]
+fn only_the_token_stops_the_loop(rt: HostRuntime) -> Result<(), Fail> {
+    assert!(rt; is_stopped_by_the_token(&rt, &mut lobby(rt.alloc())?)?);
+    Ok(())
+}
+
+/// Whether the loop answers nothing but 401 to those who don't bring the token, and is stopped by one who does.
+fn is_stopped_by_the_token<R: Net<Stream = TcpStream> + Clock + CpuClock + AllocGlobal + Log>(
+    rt: &R,
+    many: &mut Lobby<MemStore>,
+) -> Result<bool, Fail> {
+    let listener = listen(rt)?;
+    let control = listen(rt)?;
+    let address = control.local_addr()?;
+    let mut stranger = client(rt, address, STOP, true)?;
+    let mut guesser = client(rt, address, STOP_BY_A_PART, true)?;
+    let mut operator = client(rt, address, STOP_BY_THE_TOKEN, true)?;
+    let limits = Limits::new(10, Duration::from_secs(20));
+    let mut answers = Stops::new();
+    answers.token = Some(b"secret".as_slice());
+    let Ok(_) = serve_on(
+        rt,
+        only(rt, listener)?,
+        Some(control),
+        &limits,
+        many,
+        &mut answers,
+    ) else {
+        return Err(Fail::from("serving ended"));
+    };
+    let to_stranger = all_of(rt.alloc(), &mut stranger)?;
+    let to_guesser = all_of(rt.alloc(), &mut guesser)?;
+    let to_operator = all_of(rt.alloc(), &mut operator)?;
+    Ok(
+        answers.asked == 1
+            && to_stranger.as_slice() == WITHOUT_THE_TOKEN
+            && to_guesser.as_slice() == WITHOUT_THE_TOKEN
+            && to_operator.as_slice() == STOPPED,
+    )
 }
 
 /// A request for a head alone, and what it is answered.
@@ -357,8 +480,17 @@ fn answer_past<R: Net<Stream = TcpStream> + Clock + CpuClock + AllocGlobal + Log
     }
     let mut caller = client(rt, address, request, true)?;
     let limits = Limits::new(10, Duration::from_secs(20));
-    let mut answers = Stops { asked: 0 };
-    if serve_on(rt, listener, Some(control), &limits, many, &mut answers).is_err() {
+    let mut answers = Stops::new();
+    if serve_on(
+        rt,
+        only(rt, listener)?,
+        Some(control),
+        &limits,
+        many,
+        &mut answers,
+    )
+    .is_err()
+    {
         return Err(Fail::from("serving ended"));
     }
     drop(silent);

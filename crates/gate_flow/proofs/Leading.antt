@@ -15,17 +15,17 @@ use Rattle.gate_core.specs.declared.stage.Stage.TheVariants as stage
 use Rattle.gate_core.specs.declared.fault.GatewayFault.{GatewayFault}
 use Rattle.gate_core.specs.declared.fault.GatewayFault.TheVariants.{Known, NotOpen, Cut, BadParameters, StillOpen, NoMemory}
 use Rattle.gate_core.specs.declared.tally.Tally.{Tally}
-use Rattle.gate_core.specs.Settings.{Settings}
-use Rattle.gate_core.specs.Events.{Event, Open, Bytes, End, Take, caller_of, piece_of, given_by, is_caller, is_of, calls_of, bytes_of_calls, handed}
+use Rattle.gate_core.specs.Settings.{GatewaySettings}
+use Rattle.gate_core.specs.Events.{Event, Open, Bytes, End, Take, caller_of, piece_in, bytes_given_by, is_caller, is_event_of, calls_of, bytes_of_calls, handed}
 use Rattle.gate_core.specs.ConnectionState.{ConnectionState, State, connection_at, waiting, waiting_in, is_over, is_closed_in, stage_refusal, cut_refusal, open_refusal, bytes_refusal, take_refusal}
-use Rattle.gate_core.specs.AfterCall.{with_held, with_grid, with_tally, opened, taken, ended, cut}
+use Rattle.gate_core.specs.AfterCall.{with_held, with_grid, with_tally, opened, taken, ended_state, cut_state}
 use Rattle.gate_core.specs.Served.{IsReceived}
 use Rattle.gate_core.specs.Came.{Opening, Came, IsRoomy, GoesOn}
 use Rattle.gate_core.specs.Faithful.{Faithful, FaithfulAt}
 use Rattle.gate_flow.specs.declared.fault.FlowFault.{FlowFault}
 use Rattle.gate_flow.specs.Faults.{flow_of, IsCallFault}
-use Rattle.http_edge.specs.Left.{rest, is_closed as is_left_closed}
-use Rattle.gate_flow.specs.Led.{TakesBytes, IsLed, IsLedCalmly, IsUnclosed}
+use Rattle.http_edge.specs.FramingState.{rest, is_closed as is_left_closed}
+use Rattle.gate_flow.specs.Led.{TakesBytes, IsLed, IsLedAsWritten, IsUnclosed}
 
 -- ---- what grids leave
 
@@ -38,19 +38,19 @@ none_between a b c first second none s = between (failures_at a s) (failures_at 
 -- ---- bytes of calls
 
 pub joined_more : (id : ℕ) (a b : List Event) → bytes_of_calls id (a ++ b) ≡ bytes_of_calls id a ++ bytes_of_calls id b
-joined_more id a b = ap (flat_map piece_of) (filter-append (is_of id) a b) ∙ flat_map-append piece_of (calls_of id a) (calls_of id b)
+joined_more id a b = ap (flat_map piece_in) (filter-append (is_event_of id) a b) ∙ flat_map-append piece_in (calls_of id a) (calls_of id b)
 
 pub handed_more : (id : ℕ) (a b : List Event) → handed id (a ++ b) ≡ handed id a ++ handed id b
-handed_more id a b = ap (flat_map given_by) (filter-append (is_of id) a b) ∙ flat_map-append given_by (calls_of id a) (calls_of id b)
+handed_more id a b = ap (flat_map bytes_given_by) (filter-append (is_event_of id) a b) ∙ flat_map-append bytes_given_by (calls_of id a) (calls_of id b)
 
 pub calls_of_one : (id : ℕ) (e : Event) → caller_of e ≡ Some id → calls_of id (e ∷ []) ≡ e ∷ []
 calls_of_one id e mine = ap (λ b. cond b (e ∷ []) []) (ap (is_caller id) mine ∙ eq-eqb id id refl)
 
-pub joined_one : (id : ℕ) (e : Event) → caller_of e ≡ Some id → bytes_of_calls id (e ∷ []) ≡ piece_of e
-joined_one id e mine = ap (flat_map piece_of) (calls_of_one id e mine) ∙ append-nil (piece_of e)
+pub joined_one : (id : ℕ) (e : Event) → caller_of e ≡ Some id → bytes_of_calls id (e ∷ []) ≡ piece_in e
+joined_one id e mine = ap (flat_map piece_in) (calls_of_one id e mine) ∙ append-nil (piece_in e)
 
-pub handed_one : (id : ℕ) (e : Event) → caller_of e ≡ Some id → handed id (e ∷ []) ≡ given_by e
-handed_one id e mine = ap (flat_map given_by) (calls_of_one id e mine) ∙ append-nil (given_by e)
+pub handed_one : (id : ℕ) (e : Event) → caller_of e ≡ Some id → handed id (e ∷ []) ≡ bytes_given_by e
+handed_one id e mine = ap (flat_map bytes_given_by) (calls_of_one id e mine) ∙ append-nil (bytes_given_by e)
 
 -- ---- calls one after the other
 
@@ -62,7 +62,7 @@ led_none id g = record {
   told = λ events told. subst (Faithful g) (sym (append-nil events)) told;
 }
 
-pub calm_none : (g : State) → IsLedCalmly [] g g
+pub calm_none : (g : State) → IsLedAsWritten [] g g
 calm_none g opening events came roomy none = subst (Came opening g) (sym (append-nil events)) came
 
 pub led_more : (id : ℕ) (a b : List Event) (g h k : State) → IsLed id a g h → IsLed id b h k → IsLed id (a ++ b) g k
@@ -74,9 +74,9 @@ led_more id a b g h k first second = record {
 }
 
 abbrev pub Beginnings : Type 0
-Beginnings = (settings : Settings) (opening : Opening) (events more : List Event) → IsRoomy settings opening (events ++ more) → IsRoomy settings opening events
+Beginnings = (settings : GatewaySettings) (opening : Opening) (events more : List Event) → IsRoomy settings opening (events ++ more) → IsRoomy settings opening events
 
-pub calm_more : Beginnings → (id : ℕ) (a b : List Event) (g h k : State) → IsLed id a g h → IsLed id b h k → IsLedCalmly a g h → IsLedCalmly b h k → IsLedCalmly (a ++ b) g k
+pub calm_more : Beginnings → (id : ℕ) (a b : List Event) (g h k : State) → IsLed id a g h → IsLed id b h k → IsLedAsWritten a g h → IsLedAsWritten b h k → IsLedAsWritten (a ++ b) g k
 calm_more begins id a b g h k first second one two opening events came roomy none =
     let room : IsRoomy g.settings opening ((events ++ a) ++ b) = subst (IsRoomy g.settings opening) (sym (append_assoc events a b)) roomy in
     subst (Came opening k) (append_assoc events a b)
@@ -85,7 +85,7 @@ calm_more begins id a b g h k first second one two opening events came roomy non
     (subst (λ t. IsRoomy t opening ((events ++ a) ++ b)) (sym first.settings) room)
     (λ s. (none_between g.grid h.grid k.grid first.leaves second.leaves none s).1))
 
-pub calm_on : (g h : State) (e : Event) → GoesOn g h e → IsLedCalmly (e ∷ []) g h
+pub calm_on : (g h : State) (e : Event) → GoesOn g h e → IsLedAsWritten (e ∷ []) g h
 calm_on g h e on opening events came roomy none = on opening events came
 
 -- ---- single calls
@@ -153,23 +153,23 @@ taken_led law id max given g h P Q never answer is left others =
     led_held id (Take id given ∷ []) g h (taken max was.0) (left was.0 was.1) others
     (λ events told. subst (λ bs. Faithful (with_held g id (taken max was.0)) (events ++ Take id bs ∷ [])) (sym given_is) (law g events id max was.0 told was.1 was.2))
 
-pub ended_led : ((g : State) (events : List Event) (id : ℕ) (held : ConnectionState) → Faithful g events → connection_at g id ≡ Some held → held.stage ≡ stage.Open → Faithful (with_held g id (ended held)) (events ++ End id ∷ []))
+pub ended_led : ((g : State) (events : List Event) (id : ℕ) (held : ConnectionState) → Faithful g events → connection_at g id ≡ Some held → held.stage ≡ stage.Open → Faithful (with_held g id (ended_state held)) (events ++ End id ∷ []))
     → (id : ℕ) (g h : State) (P : Type 0) (Q : GatewayFault → Type 0) → ((e : GatewayFault) → Q e → ⊥) → MatchOption (bytes_refusal (connection_at g id)) P Q
-    → ((held : ConnectionState) → connection_at g id ≡ Some held → h ≡ with_held g id (ended held)) → ((other : ℕ) → other ≢ id → connection_at h other ≡ connection_at g other)
+    → ((held : ConnectionState) → connection_at g id ≡ Some held → h ≡ with_held g id (ended_state held)) → ((other : ℕ) → other ≢ id → connection_at h other ≡ connection_at g other)
     → IsLed id (End id ∷ []) g h
 ended_led law id g h P Q never answer left others =
     let was = taking (connection_at g id) P Q never answer in
-    led_held id (End id ∷ []) g h (ended was.0) (left was.0 was.1) others (λ events told. law g events id was.0 told was.1 was.2)
+    led_held id (End id ∷ []) g h (ended_state was.0) (left was.0 was.1) others (λ events told. law g events id was.0 told was.1 was.2)
 
 no_memory : (r : Result (Unit {0}) GatewayFault) (fault : GatewayFault) → r ≡ Err fault → IsOkUnless r NoMemory → r ≡ Err NoMemory
 no_memory (Ok u) fault is only = cc
 no_memory (Err e) fault is only = cc
 
 -- bytes that were refused are no call, nor are those for which memory ran out
-pub refused_led : ((g : State) (events : List Event) (id : ℕ) (held : ConnectionState) (grid : GridState) (tally : Tally) → Faithful g events → connection_at g id ≡ Some held → Faithful (with_tally (with_grid (with_held g id cut) grid) tally) events)
+pub refused_led : ((g : State) (events : List Event) (id : ℕ) (held : ConnectionState) (grid : GridState) (tally : Tally) → Faithful g events → connection_at g id ≡ Some held → Faithful (with_tally (with_grid (with_held g id cut_state) grid) tally) events)
     → (id : ℕ) (fault : GatewayFault) (r : Result (Unit {0}) GatewayFault) (g h : State) → r ≡ Err fault
     → MatchOption (bytes_refusal (connection_at g id)) (IsOkUnless r NoMemory) (λ e. (r ≡ Err e) × (h ≡ g))
-    → (r ≡ Err NoMemory → h ≡ with_tally (with_grid (with_held g id cut) h.grid) h.tally) → ((other : ℕ) → other ≢ id → connection_at h other ≡ connection_at g other) → Leaves g.grid h.grid
+    → (r ≡ Err NoMemory → h ≡ with_tally (with_grid (with_held g id cut_state) h.grid) h.tally) → ((other : ℕ) → other ≢ id → connection_at h other ≡ connection_at g other) → Leaves g.grid h.grid
     → IsLed id [] g h
 refused_led law id fault r g h is answer left others leaves = by (connection_at g id) refl answer
   where
@@ -183,7 +183,7 @@ refused_led law id fault r g h is answer left others leaves = by (connection_at 
           settings = ap (λ (s : State). s.settings) now;
           leaves = leaves;
           others = others;
-          told = λ events told. subst (λ s. Faithful s (events ++ [])) (sym now) (subst (Faithful (with_tally (with_grid (with_held g id cut) h.grid) h.tally)) (sym (append-nil events)) (law g events id held h.grid h.tally told found));
+          told = λ events told. subst (λ s. Faithful s (events ++ [])) (sym now) (subst (Faithful (with_tally (with_grid (with_held g id cut_state) h.grid) h.tally)) (sym (append-nil events)) (law g events id held h.grid h.tally told found));
         }
 
     at : (st : Stage) (held : ConnectionState) → connection_at g id ≡ Some held → MatchOption (stage_refusal st) (IsOkUnless r NoMemory) (λ e. (r ≡ Err e) × (h ≡ g)) → IsLed id [] g h
@@ -212,10 +212,10 @@ end_same g h r fault None is answer = absurd (no_end r fault is answer)
 end_same g h r fault (Some e) is answer = answer.1
 
 pub end_waits : (id : ℕ) (g h : State) (P : Type 0) (Q : GatewayFault → Type 0) → ((e : GatewayFault) → Q e → ⊥) → MatchOption (bytes_refusal (connection_at g id)) P Q
-    → ((held : ConnectionState) → connection_at g id ≡ Some held → h ≡ with_held g id (ended held)) → waiting h id ≡ waiting g id
+    → ((held : ConnectionState) → connection_at g id ≡ Some held → h ≡ with_held g id (ended_state held)) → waiting h id ≡ waiting g id
 end_waits id g h P Q never answer left =
     let was = taking (connection_at g id) P Q never answer in
-    waiting_held g h id (ended was.0) (left was.0 was.1) ∙ sym (ap waiting_in was.1)
+    waiting_held g h id (ended_state was.0) (left was.0 was.1) ∙ sym (ap waiting_in was.1)
 
 -- ---- what is held after a call
 
@@ -278,10 +278,10 @@ take_refused held fault r Q is other answer takes =
 
 -- after its end the gateway takes no bytes of a connection
 pub end_over : (id : ℕ) (g h : State) (P : Type 0) (Q : GatewayFault → Type 0) → ((e : GatewayFault) → Q e → ⊥) → MatchOption (bytes_refusal (connection_at g id)) P Q
-    → ((held : ConnectionState) → connection_at g id ≡ Some held → h ≡ with_held g id (ended held)) → bytes_refusal (connection_at h id) ≢ None
+    → ((held : ConnectionState) → connection_at g id ≡ Some held → h ≡ with_held g id (ended_state held)) → bytes_refusal (connection_at h id) ≢ None
 end_over id g h P Q never answer left =
     let was = taking (connection_at g id) P Q never answer in
-    let closed : bytes_refusal (connection_at h id) ≡ Some NotOpen = ap bytes_refusal (held_after g h id (ended was.0) (left was.0 was.1)) in
+    let closed : bytes_refusal (connection_at h id) ≡ Some NotOpen = ap bytes_refusal (held_after g h id (ended_state was.0) (left was.0 was.1)) in
     λ takes. cc
 
 -- an end is refused only where the gateway takes no bytes

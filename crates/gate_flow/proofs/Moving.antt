@@ -4,16 +4,16 @@ use Rattle.std.specs.Prelude.{◌||◌, Result, Ok, Err, OnOk, OnErr}
 use Rattle.gate_flow.specs.declared.fault.FlowFault.{FlowFault}
 use Rattle.std.proofs.lemmas.List.{append-nil}
 use Rattle.std.proofs.lemmas.List.Elements.{All-append, All-nil, All-cons, All-head, All-tail}
-use Rattle.gate_core.specs.Events.{Event, Open, Bytes, End, Take, Lose, Spoil, caller_of, piece_of, given_by, is_end, is_of, calls_of, bytes_of_calls, handed, has_ended}
+use Rattle.gate_core.specs.Events.{Event, Open, Bytes, End, Take, Lose, Spoil, caller_of, piece_in, bytes_given_by, is_end, is_event_of, calls_of, bytes_of_calls, handed, has_ended}
 use Rattle.std.specs.List.{list_any}
 use Rattle.std.proofs.lemmas.List.Elements.{filter-append}
 use Rattle.std.proofs.lemmas.List.Folds.{list_any-append}
 use Rattle.gate_core.specs.ConnectionState.{State, connection_at, waiting, bytes_refusal, is_closed_in}
 use Rattle.gate_core.specs.Came.{GoesOn}
 use Rattle.gate_core.specs.Faithful.{Faithful}
-use Rattle.gate_flow.specs.Parts.{IsPart}
+use Rattle.gate_flow.specs.Parts.{IsFeedPart}
 use Rattle.gate_flow.specs.Brought.{AreBrought, AreInParts}
-use Rattle.gate_flow.specs.Led.{AreOf, IsMove, AreMoves, TakesBytes, IsTimely, AreTimely, IsLed, IsLedCalmly, IsMoved, IsMovedCalmly, IsGivenUp}
+use Rattle.gate_flow.specs.Led.{AreOf, IsMove, AreMoves, TakesBytes, IsTimely, AreTimely, IsLed, IsLedAsWritten, IsMoved, IsMovedAsWritten, IsGivenUp}
 use Rattle.gate_flow.proofs.Leading.{Beginnings, led_none, led_more, calm_none, calm_more, calm_on, joined_more, handed_more, joined_one, handed_one, calls_of_one, unclosed}
 
 own_none : (id : ℕ) → AreMoves id []
@@ -54,7 +54,7 @@ going_one id e mine none = ap (list_any is_end) (calls_of_one id e mine) ∙ or_
 
 going_more : (id : ℕ) (a b : List Event) → has_ended id a ≡ false → has_ended id b ≡ false → has_ended id (a ++ b) ≡ false
 going_more id a b first second =
-    ap (list_any is_end) (filter-append (is_of id) a b) ∙ list_any-append is_end (calls_of id a) (calls_of id b) ∙ ap (λ r. r || has_ended id b) first ∙ second
+    ap (list_any is_end) (filter-append (is_event_of id) a b) ∙ list_any-append is_end (calls_of id a) (calls_of id b) ∙ ap (λ r. r || has_ended id b) first ∙ second
 
 -- bytes of calls come while no item closed, and so do those of others after them
 pub timely_more : (id : ℕ) (before a b : List Event) → AreTimely id before a → AreTimely id (before ++ a) b → AreTimely id before (a ++ b)
@@ -63,7 +63,7 @@ timely_more id before (e ∷ a) b first second =
     (first.0, timely_more id (before ++ e ∷ []) a b first.1 (subst (λ es. AreTimely id es b) (sym (append_assoc before (e ∷ []) a)) second))
 
 -- nothing was called
-pub moved_none : (id : ℕ) (g h : State) (piece left portion more : List ℕ) → h ≡ g → left ≡ piece → more ≡ portion → IsMovedCalmly id g h piece left portion more
+pub moved_none : (id : ℕ) (g h : State) (piece left portion more : List ℕ) → h ≡ g → left ≡ piece → more ≡ portion → IsMovedAsWritten id g h piece left portion more
 moved_none id g h piece left portion more same still kept = record {
   moved = record {
     calls = [];
@@ -74,7 +74,7 @@ moved_none id g h piece left portion more same still kept = record {
     brought = sym still;
     handed_out = kept ∙ sym (append-nil portion);
   };
-  calm = subst (IsLedCalmly [] g) (sym same) (calm_none g);
+  as_written = subst (IsLedAsWritten [] g) (sym same) (calm_none g);
   takes = λ takes. subst (λ (s : State). TakesBytes (connection_at s id)) (sym same) takes;
 }
 
@@ -92,8 +92,8 @@ moved_still id g h piece left portion more led still kept = record {
 
 -- one call
 moved_one : (id : ℕ) (e : Event) (g h : State) (piece left portion more : List ℕ) → IsMove id e → is_end e ≡ false
-    → ((events : List Event) → Faithful g events → IsTimely id events e) → (TakesBytes (connection_at g id) → TakesBytes (connection_at h id)) → IsLed id (e ∷ []) g h → IsLedCalmly (e ∷ []) g h
-    → piece ≡ piece_of e ++ left → more ≡ portion ++ given_by e → IsMovedCalmly id g h piece left portion more
+    → ((events : List Event) → Faithful g events → IsTimely id events e) → (TakesBytes (connection_at g id) → TakesBytes (connection_at h id)) → IsLed id (e ∷ []) g h → IsLedAsWritten (e ∷ []) g h
+    → piece ≡ piece_in e ++ left → more ≡ portion ++ bytes_given_by e → IsMovedAsWritten id g h piece left portion more
 moved_one id e g h piece left portion more mine none timely takes led calm brought given = record {
   moved = record {
     calls = e ∷ [];
@@ -104,18 +104,18 @@ moved_one id e g h piece left portion more mine none timely takes led calm broug
     brought = brought ∙ ap (λ r. r ++ left) (sym (joined_one id e (move_own id e mine)));
     handed_out = given ∙ ap (λ r. portion ++ r) (sym (handed_one id e (move_own id e mine)));
   };
-  calm = calm;
+  as_written = calm;
   takes = takes;
 }
 
 -- the first bytes of a piece were brought
 pub moved_bytes : (id n : ℕ) (g h : State) (piece left part : List ℕ) → part ≡ take n piece → left ≡ drop n piece
-    → is_closed_in (connection_at g id) ≡ false → TakesBytes (connection_at h id) → IsLed id (Bytes id part ∷ []) g h → IsLedCalmly (Bytes id part ∷ []) g h → IsMovedCalmly id g h piece left [] []
+    → is_closed_in (connection_at g id) ≡ false → TakesBytes (connection_at h id) → IsLed id (Bytes id part ∷ []) g h → IsLedAsWritten (Bytes id part ∷ []) g h → IsMovedAsWritten id g h piece left [] []
 moved_bytes id n g h piece left part first rest none takes led calm =
     moved_one id (Bytes id part) g h piece left [] [] refl refl (λ events told. unclosed g id events none told) (λ was. takes) led calm
     (sym (take-append-drop n piece) ∙ ap (λ r. r ++ drop n piece) (sym first) ∙ ap (λ r. part ++ r) (sym rest)) refl
 
-pub moved_take : (id : ℕ) (g h : State) (piece portion given : List ℕ) → bytes_refusal (connection_at h id) ≡ bytes_refusal (connection_at g id) → IsLed id (Take id given ∷ []) g h → GoesOn g h (Take id given) → portion ≡ [] → IsMovedCalmly id g h piece piece portion given
+pub moved_take : (id : ℕ) (g h : State) (piece portion given : List ℕ) → bytes_refusal (connection_at h id) ≡ bytes_refusal (connection_at g id) → IsLed id (Take id given ∷ []) g h → GoesOn g h (Take id given) → portion ≡ [] → IsMovedAsWritten id g h piece piece portion given
 moved_take id g h piece portion given stays led on none =
     moved_one id (Take id given) g h piece piece portion given refl refl (λ events told. tt) (λ takes. stays ∙ takes) led (calm_on g h (Take id given) on) refl (ap (λ r. r ++ given) (sym none))
 
@@ -134,11 +134,11 @@ module _ (id : ℕ) (g h k : State) (a b c p q r : List ℕ) where
         ∙ ap (λ s. p ++ s) (sym (handed_more id first.calls second.calls));
   }
 
-  pub moved_more : Beginnings → IsMovedCalmly id g h a b p q → IsMovedCalmly id h k b c q r → IsMovedCalmly id g k a c p r
+  pub moved_more : Beginnings → IsMovedAsWritten id g h a b p q → IsMovedAsWritten id h k b c q r → IsMovedAsWritten id g k a c p r
   unfolding moved_then
   moved_more begins first second = record {
     moved = moved_then first.moved second.moved;
-    calm = calm_more begins id first.moved.calls second.moved.calls g h k first.moved.led second.moved.led first.calm second.calm;
+    as_written = calm_more begins id first.moved.calls second.moved.calls g h k first.moved.led second.moved.led first.as_written second.as_written;
     takes = λ takes. second.takes (first.takes takes);
   }
 
@@ -154,9 +154,9 @@ moved_behind id g h a b p was = record {
   handed_out = sym (append-nil p) ∙ ap (λ r. p ++ r) was.handed_out;
 }
 
-pub moved_calmly_behind : (id : ℕ) (g h : State) (a b p : List ℕ) → IsMovedCalmly id g h a b [] [] → IsMovedCalmly id g h a b p p
+pub moved_calmly_behind : (id : ℕ) (g h : State) (a b p : List ℕ) → IsMovedAsWritten id g h a b [] [] → IsMovedAsWritten id g h a b p p
 unfolding moved_behind
-moved_calmly_behind id g h a b p was = record { moved = moved_behind id g h a b p was.moved; calm = was.calm; takes = was.takes }
+moved_calmly_behind id g h a b p was = record { moved = moved_behind id g h a b p was.moved; as_written = was.as_written; takes = was.takes }
 
 -- ---- a piece is brought in parts
 
@@ -170,13 +170,13 @@ in_parts : (id : ℕ) (a b : List Event) (g m h : State) (p q : List ℕ) → Ar
 in_parts id a b g m h p q brought after bare = record { parts = a; others = b; all = refl; at = m; brought = brought; after = after; bare = bare }
 
 -- one part
-pub part_moves : (id n : ℕ) (g h : State) (piece left part : List ℕ) → part ≡ take n piece → left ≡ drop n piece → IsPart piece n → waiting g id ≡ []
-    → is_closed_in (connection_at g id) ≡ false → TakesBytes (connection_at h id) → IsLed id (Bytes id part ∷ []) g h → IsLedCalmly (Bytes id part ∷ []) g h
-    → (now : IsMovedCalmly id g h piece left [] []) × AreBrought id now.moved.calls g h piece left
+pub part_moves : (id n : ℕ) (g h : State) (piece left part : List ℕ) → part ≡ take n piece → left ≡ drop n piece → IsFeedPart piece n → waiting g id ≡ []
+    → is_closed_in (connection_at g id) ≡ false → TakesBytes (connection_at h id) → IsLed id (Bytes id part ∷ []) g h → IsLedAsWritten (Bytes id part ∷ []) g h
+    → (now : IsMovedAsWritten id g h piece left [] []) × AreBrought id now.moved.calls g h piece left
 unfolding moved_bytes moved_one
 part_moves id n g h piece left part first rest cut quiet none takes led calm = (
   moved_bytes id n g h piece left part first rest none takes led calm,
-  (h, left, record { size = n; cut = cut; call = ap (Bytes id) first; rest = rest; quiet = quiet; going = none; led = led; calm = calm }, (refl, refl)),
+  (h, left, record { size = n; cut = cut; call = ap (Bytes id) first; rest = rest; quiet = quiet; going = none; led = led; as_written = calm }, (refl, refl)),
 )
 
 -- no part, where it was refused
@@ -184,17 +184,17 @@ pub part_fails : (id : ℕ) (g h : State) (piece left : List ℕ) → IsLed id [
 unfolding moved_still
 part_fails id g h piece left led still = (moved_still id g h piece left [] [] led still refl, in_parts id [] [] g g h piece left (refl, still) led refl)
 
-pub parts_none : (id : ℕ) (g : State) (piece : List ℕ) → (now : IsMovedCalmly id g g piece piece [] []) × AreBrought id now.moved.calls g g piece piece
+pub parts_none : (id : ℕ) (g : State) (piece : List ℕ) → (now : IsMovedAsWritten id g g piece piece [] []) × AreBrought id now.moved.calls g g piece piece
 unfolding moved_none
 parts_none id g piece = (moved_none id g g piece piece [] [] refl refl refl, (refl, refl))
 
 module _ (id : ℕ) (g m h : State) (p q r : List ℕ) where
-  pub parts_more : Beginnings → ((was : IsMovedCalmly id g m p q [] []) × AreBrought id was.moved.calls g m p q) → ((now : IsMovedCalmly id m h q r [] []) × AreBrought id now.moved.calls m h q r)
-      → (all : IsMovedCalmly id g h p r [] []) × AreBrought id all.moved.calls g h p r
+  pub parts_more : Beginnings → ((was : IsMovedAsWritten id g m p q [] []) × AreBrought id was.moved.calls g m p q) → ((now : IsMovedAsWritten id m h q r [] []) × AreBrought id now.moved.calls m h q r)
+      → (all : IsMovedAsWritten id g h p r [] []) × AreBrought id all.moved.calls g h p r
   unfolding moved_more moved_then
   parts_more begins (was, first) (now, second) = (moved_more id g m h p q r [] [] [] begins was now, brought_more id was.moved.calls now.moved.calls g m h p q r first second)
 
-  pub parts_fail : ((was : IsMovedCalmly id g m p q [] []) × AreBrought id was.moved.calls g m p q) → ((now : IsMoved id m h q r [] []) × AreInParts id now.calls m h q r)
+  pub parts_fail : ((was : IsMovedAsWritten id g m p q [] []) × AreBrought id was.moved.calls g m p q) → ((now : IsMoved id m h q r [] []) × AreInParts id now.calls m h q r)
       → (all : IsMoved id g h p r [] []) × AreInParts id all.calls g h p r
   unfolding moved_then
   parts_fail (was, first) (now, second) = (
@@ -216,9 +216,9 @@ module _ (id : ℕ) (g m : State) (piece left portion : List ℕ) where
   unfolding moved_behind
   failing_behind (was, parts) = (moved_behind id g m piece left portion was, parts)
 
-  module _ (is : (was : IsMovedCalmly id g m piece left [] []) × AreBrought id was.moved.calls g m piece left) where
+  module _ (is : (was : IsMovedAsWritten id g m piece left [] []) × AreBrought id was.moved.calls g m piece left) where
     -- nothing was called behind the parts
-    pub parts_behind : (now : IsMovedCalmly id g m piece left portion portion) × ((parts : AreInParts id now.moved.calls g m piece left) × (parts.at ≡ m))
+    pub parts_behind : (now : IsMovedAsWritten id g m piece left portion portion) × ((parts : AreInParts id now.moved.calls g m piece left) × (parts.at ≡ m))
     unfolding moved_calmly_behind moved_behind
     parts_behind = (
       moved_calmly_behind id g m piece left portion is.0,
@@ -227,7 +227,7 @@ module _ (id : ℕ) (g m : State) (piece left portion : List ℕ) where
 
     -- what waits was taken
     pub parts_taken : Beginnings → (h : State) (given : List ℕ) → bytes_refusal (connection_at h id) ≡ bytes_refusal (connection_at m id) → IsLed id (Take id given ∷ []) m h → GoesOn m h (Take id given) → portion ≡ []
-        → (now : IsMovedCalmly id g h piece left portion given) × ((parts : AreInParts id now.moved.calls g h piece left) × (parts.at ≡ m))
+        → (now : IsMovedAsWritten id g h piece left portion given) × ((parts : AreInParts id now.moved.calls g h piece left) × (parts.at ≡ m))
     unfolding moved_more moved_then moved_calmly_behind moved_behind moved_take moved_one in_parts
     parts_taken begins h given stays led on none = (
       moved_more id g m h piece left left portion portion given begins (moved_calmly_behind id g m piece left portion is.0) (moved_take id m h left portion given stays led on none),
@@ -243,7 +243,7 @@ nothing_called id g h same was over = record {
   own = own_none id;
   timely = λ events. tt;
   led = subst (IsLed id [] g) (sym same) (led_none id g);
-  calm = subst (IsLedCalmly [] g) (sym same) (calm_none g);
+  as_written = subst (IsLedAsWritten [] g) (sym same) (calm_none g);
   brings = refl;
   gives = refl;
   waits = ap (λ (s : State). waiting s id) same;
@@ -251,13 +251,13 @@ nothing_called id g h same was over = record {
   over = over;
 }
 
-end_called : (id : ℕ) (g h : State) → waiting h id ≡ waiting g id → IsLed id (End id ∷ []) g h → IsLedCalmly (End id ∷ []) g h → bytes_refusal (connection_at h id) ≢ None → IsGivenUp id g h
+end_called : (id : ℕ) (g h : State) → waiting h id ≡ waiting g id → IsLed id (End id ∷ []) g h → IsLedAsWritten (End id ∷ []) g h → bytes_refusal (connection_at h id) ≢ None → IsGivenUp id g h
 end_called id g h same led calm over = record {
   calls = End id ∷ [];
   own = move_one id (End id) refl;
   timely = λ events. (tt, tt);
   led = led;
-  calm = calm;
+  as_written = calm;
   brings = joined_one id (End id) refl;
   gives = handed_one id (End id) refl;
   waits = same;
@@ -265,7 +265,7 @@ end_called id g h same led calm over = record {
   over = over;
 }
 
-pub end_gives : (id : ℕ) (g m : State) (r : Result (Unit {0}) FlowFault) → OnOk r (IsLed id (End id ∷ []) g m) → OnOk r (IsLedCalmly (End id ∷ []) g m) → OnErr r (m ≡ g) → waiting m id ≡ waiting g id
+pub end_gives : (id : ℕ) (g m : State) (r : Result (Unit {0}) FlowFault) → OnOk r (IsLed id (End id ∷ []) g m) → OnOk r (IsLedAsWritten (End id ∷ []) g m) → OnErr r (m ≡ g) → waiting m id ≡ waiting g id
     → OnErr r (bytes_refusal (connection_at g id) ≢ None) → bytes_refusal (connection_at m id) ≢ None → IsGivenUp id g m
 end_gives id g m (Ok u) led calm same waits was over = end_called id g m waits led calm over
 end_gives id g m (Err e) led calm same waits was over = nothing_called id g m same was over

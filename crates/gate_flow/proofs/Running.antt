@@ -7,29 +7,29 @@ use Rattle.std.proofs.KnownBytes.{Consumes-nil, Consumes-trans, Appends-nil, App
 use Rattle.std.proofs.lemmas.List.{append-nil}
 use Rattle.std.proofs.lemmas.List.Elements.{filter-append}
 use Rattle.std.proofs.lemmas.List.Folds.{list_any-append}
-use Rattle.http_edge.specs.Left.{rest, is_closed as is_left_closed}
+use Rattle.http_edge.specs.FramingState.{rest, is_closed as is_left_closed}
 use Rattle.gate_core.specs.declared.stage.Stage.{Stage}
 use Rattle.gate_core.specs.declared.stage.Stage.TheVariants as stage
-use Rattle.gate_core.specs.Events.{Event, Open, is_end, is_of, calls_of, bytes_of_calls, handed, has_ended}
+use Rattle.gate_core.specs.Events.{Event, Open, is_end, is_event_of, calls_of, bytes_of_calls, handed, has_ended}
 use Rattle.gate_core.specs.ConnectionState.{ConnectionState, State, connection_at, waiting, waiting_in, is_over, is_closed_in, stage_refusal}
 use Rattle.gate_core.specs.Faithful.{Faithful, FaithfulAt}
 use Rattle.gate_flow.specs.declared.fault.FlowFault.{FlowFault}
 use Rattle.gate_flow.specs.declared.fault.FlowFault.TheVariants.{Refused, ReadFailed, WriteFailed, NoMemory}
 use Rattle.gate_flow.specs.declared.want.Want.{Want}
 use Rattle.gate_flow.specs.declared.want.Want.TheVariants as want
-use Rattle.gate_flow.specs.State.{FlowState, IsSound, Stands, opened_flow}
-use Rattle.gate_flow.specs.Led.{AreOf, TakesBytes, AreTimely, IsLed, IsLedCalmly, IsGivenUp}
-use Rattle.gate_flow.specs.Steps.{IsRead, IsWritten, Advances, AdvancesCalmly, Rests, RestsAt}
-use Rattle.gate_flow.specs.Run.{HasRun, HasRunCalmly}
-use Rattle.gate_flow.specs.Served.{HasStopped, IsServed, IsStopped, StopsAt}
+use Rattle.gate_flow.specs.State.{FlowState, IsSoundFlow, Stands, opened_flow}
+use Rattle.gate_flow.specs.Led.{AreOf, TakesBytes, AreTimely, IsLed, IsLedAsWritten, IsGivenUp}
+use Rattle.gate_flow.specs.Steps.{AreBytesRead, AreBytesWritten, Advances, AdvancesAsWritten, Rests, RestsAt}
+use Rattle.gate_flow.specs.Run.{HasRun, HasRunAsWritten}
+use Rattle.gate_flow.specs.Served.{HasStopped, IsServed, IsFlowStopped, FlowStopsAt}
 use Rattle.gate_flow.proofs.Leading.{Beginnings, led_more, calm_more, joined_more, handed_more, joined_one, handed_one}
 use Rattle.gate_flow.proofs.Moving.{own_one, own_more, moves_own, timely_more}
 use Rattle.gate_flow.proofs.Standing.{read_stands, wrote_stands, advanced_stands}
 
 -- ---- it is opened
 
-pub run_begins : (id : ℕ) (secret : List ℕ) (g h : State) (r w : Option (List ℕ)) → IsLed id (Open id secret ∷ []) g h → IsLedCalmly (Open id secret ∷ []) g h → TakesBytes (connection_at h id)
-    → HasRunCalmly id secret g h (opened_flow id) r r w w
+pub run_begins : (id : ℕ) (secret : List ℕ) (g h : State) (r w : Option (List ℕ)) → IsLed id (Open id secret ∷ []) g h → IsLedAsWritten (Open id secret ∷ []) g h → TakesBytes (connection_at h id)
+    → HasRunAsWritten id secret g h (opened_flow id) r r w w
 run_begins id secret g h r w led calm takes = record {
   run = record {
     same = refl;
@@ -45,14 +45,14 @@ run_begins id secret g h r w led calm takes = record {
     put = Appends-nil w;
     input = λ over. cc;
   };
-  calm = calm;
+  as_written = calm;
   takes = takes;
 }
 
 -- ---- it is called
 
 module _ (id : ℕ) (secret : List ℕ) (g h : State) (old new : FlowState) (read left before after : Option (List ℕ)) where
-  run_reads : (left2 : Option (List ℕ)) → HasRun id secret g h old read left before after → IsRead old new left left2 → HasRun id secret g h new read left2 before after
+  run_reads : (left2 : Option (List ℕ)) → HasRun id secret g h old read left before after → AreBytesRead old new left left2 → HasRun id secret g h new read left2 before after
   run_reads left2 run now = record {
     same = now.id ∙ run.same;
     calls = run.calls;
@@ -68,11 +68,11 @@ module _ (id : ℕ) (secret : List ℕ) (g h : State) (old new : FlowState) (rea
     input = now.at_end;
   }
 
-  pub reads : (left2 : Option (List ℕ)) → HasRunCalmly id secret g h old read left before after → IsRead old new left left2 → HasRunCalmly id secret g h new read left2 before after
+  pub reads : (left2 : Option (List ℕ)) → HasRunAsWritten id secret g h old read left before after → AreBytesRead old new left left2 → HasRunAsWritten id secret g h new read left2 before after
   unfolding run_reads
-  reads left2 was now = record { run = run_reads left2 was.run now; calm = was.calm; takes = was.takes }
+  reads left2 was now = record { run = run_reads left2 was.run now; as_written = was.as_written; takes = was.takes }
 
-  run_writes : (after2 : Option (List ℕ)) → HasRun id secret g h old read left before after → IsWritten old new after after2 → HasRun id secret g h new read left before after2
+  run_writes : (after2 : Option (List ℕ)) → HasRun id secret g h old read left before after → AreBytesWritten old new after after2 → HasRun id secret g h new read left before after2
   run_writes after2 run now = record {
     same = now.id ∙ run.same;
     calls = run.calls;
@@ -88,9 +88,9 @@ module _ (id : ℕ) (secret : List ℕ) (g h : State) (old new : FlowState) (rea
     input = λ over. run.input (sym now.ended ∙ over);
   }
 
-  pub writes : (after2 : Option (List ℕ)) → HasRunCalmly id secret g h old read left before after → IsWritten old new after after2 → HasRunCalmly id secret g h new read left before after2
+  pub writes : (after2 : Option (List ℕ)) → HasRunAsWritten id secret g h old read left before after → AreBytesWritten old new after after2 → HasRunAsWritten id secret g h new read left before after2
   unfolding run_writes
-  writes after2 was now = record { run = run_writes after2 was.run now; calm = was.calm; takes = was.takes }
+  writes after2 was now = record { run = run_writes after2 was.run now; as_written = was.as_written; takes = was.takes }
 
   module _ (k : State) (run : HasRun id secret g h old read left before after) where
     pub run_advances : Advances old new h k → HasRun id secret g k new read left before after
@@ -112,16 +112,16 @@ module _ (id : ℕ) (secret : List ℕ) (g h : State) (old new : FlowState) (rea
           input = λ over. run.input (sym now.ended ∙ over);
         }
 
-  plainly : (k : State) → AdvancesCalmly old new h k → Advances old new h k
+  plainly : (k : State) → AdvancesAsWritten old new h k → Advances old new h k
   plainly k now = record { id = now.id; ended = now.ended; moved = now.moved.moved; parts = now.parts }
 
-  pub advances : Beginnings → (k : State) → HasRunCalmly id secret g h old read left before after → AdvancesCalmly old new h k → HasRunCalmly id secret g k new read left before after
+  pub advances : Beginnings → (k : State) → HasRunAsWritten id secret g h old read left before after → AdvancesAsWritten old new h k → HasRunAsWritten id secret g k new read left before after
   unfolding run_advances plainly
   advances begins k was now =
       let calls = now.moved.moved.calls in
       record {
         run = run_advances k was.run (plainly k now);
-        calm = calm_more begins id was.run.calls calls g h k was.run.led (subst (λ (i : ℕ). IsLed i calls h k) was.run.same now.moved.moved.led) was.calm now.moved.calm;
+        as_written = calm_more begins id was.run.calls calls g h k was.run.led (subst (λ (i : ℕ). IsLed i calls h k) was.run.same now.moved.moved.led) was.as_written now.moved.as_written;
         takes = subst (λ (i : ℕ). TakesBytes (connection_at k i)) was.run.same (now.moved.takes (subst (λ (i : ℕ). TakesBytes (connection_at h i)) (sym was.run.same) was.takes));
       }
 
@@ -184,7 +184,7 @@ closed_by g id events takes closed told = at (connection_at g id) takes closed (
         sym (ap is_left_closed (told.read (open_is held.stage going))) ∙ left_so (is_left_closed held.conn) (is_over held.stage) going closed
 
 module _ (id : ℕ) (secret : List ℕ) (g h k : State) (f : FlowState) (read left before after : Option (List ℕ)) where
-  pub served : Beginnings → HasRunCalmly id secret g h f read left before after → IsSound f → Rests f h → f.want ≢ want.Write → IsGivenUp f.id h k → IsServed id secret g k read left before after
+  pub served : Beginnings → HasRunAsWritten id secret g h f read left before after → IsSoundFlow f → Rests f h → f.want ≢ want.Write → IsGivenUp f.id h k → IsServed id secret g k read left before after
   unfolding stopped
   served begins was sound rests other gave =
       let run = was.run in
@@ -193,8 +193,8 @@ module _ (id : ℕ) (secret : List ℕ) (g h k : State) (f : FlowState) (read le
       record {
         unbrought = f.piece;
         stopped = stopped id secret g h k f read left before after run given [] still.0;
-        calm = calm_more begins id run.calls given.calls g h k run.led given.led was.calm given.calm;
-        ended = ap (list_any is_end) (filter-append (is_of id) run.calls given.calls) ∙ list_any-append is_end (calls_of id run.calls) (calls_of id given.calls)
+        as_written = calm_more begins id run.calls given.calls g h k run.led given.led was.as_written given.as_written;
+        ended = ap (list_any is_end) (filter-append (is_event_of id) run.calls given.calls) ∙ list_any-append is_end (calls_of id run.calls) (calls_of id given.calls)
             ∙ ap (λ r. has_ended id run.calls || r) (given.ends was.takes) ∙ or_true (has_ended id run.calls);
         behind = ⊎_elim (λ piece. inl piece)
             (λ closed. inr (λ events told.
@@ -204,7 +204,7 @@ module _ (id : ℕ) (secret : List ℕ) (g h k : State) (f : FlowState) (read le
         all = given.waits ∙ ap (λ (i : ℕ). waiting h i) (sym run.same) ∙ still.1;
       }
 
-  pub stops : (fault : FlowFault) → HasRun id secret g h f read left before after → IsSound f → StopsAt fault f h → IsGivenUp f.id h k → IsStopped fault id secret g k read left before after
+  pub stops : (fault : FlowFault) → HasRun id secret g h f read left before after → IsSoundFlow f → FlowStopsAt fault f h → IsGivenUp f.id h k → IsFlowStopped fault id secret g k read left before after
   stops Refused run sound at gave = absurd at
   stops ReadFailed run sound at gave =
       let given : IsGivenUp id h k = subst (λ (i : ℕ). IsGivenUp i h k) run.same gave in

@@ -2,20 +2,20 @@
 use Rattle.std.specs.Prelude.{◌≡◌, ◌≢◌, ◌⊎◌, ℕ, List, [], ◌∷◌, ◌++◌, take, drop, false, IsTrue, Option}
 use Rattle.gate_core.specs.Events.{Event, Bytes, bytes_of_calls}
 use Rattle.gate_core.specs.ConnectionState.{ConnectionState, State, connection_at, waiting, waiting_in, is_closed_in}
-use Rattle.gate_flow.specs.Parts.{IsPart}
-use Rattle.gate_flow.specs.Led.{IsLed, IsLedCalmly}
+use Rattle.gate_flow.specs.Parts.{IsFeedPart}
+use Rattle.gate_flow.specs.Led.{IsLed, IsLedAsWritten}
 
--- A call brought a part: the first bytes of what was left of a piece, cut where IsPart says. It came while nothing waited
+-- A call brought a part: the first bytes of what was left of a piece, cut where IsFeedPart says. It came while nothing waited
 -- for the connection and more bytes counted, and it led from one state of a gateway to another.
 pub record IsBrought (id : ℕ) (e : Event) (g h : State) (piece left : List ℕ) : Type 0 where
   pub size : ℕ
-  pub cut : IsPart piece size
+  pub cut : IsFeedPart piece size
   pub call : e ≡ Bytes id (take size piece)
   pub rest : left ≡ drop size piece
   pub quiet : waiting g id ≡ []
   pub going : is_closed_in (connection_at g id) ≡ false
   pub led : IsLed id (e ∷ []) g h
-  pub calm : IsLedCalmly (e ∷ []) g h
+  pub as_written : IsLedAsWritten (e ∷ []) g h
 
 -- so did each of these, one after the other
 abbrev pub AreBrought : ℕ → List Event → State → State → List ℕ → List ℕ → Type 0

@@ -2,7 +2,7 @@
 use Rattle.std.specs.Prelude.{◌≡◌, ◌≢◌, ℕ, List, [], ◌∷◌, ◌++◌, All, ⊤, Option, Some, None, true, false}
 use Rattle.grid.specs.GridState.{NoneFailed}
 use Rattle.grid.specs.Leaves.{Leaves}
-use Rattle.http_edge.specs.Left.{rest, is_closed as is_left_closed}
+use Rattle.http_edge.specs.FramingState.{rest, is_closed as is_left_closed}
 use Rattle.gate_core.specs.Events.{Event, Open, Bytes, End, Take, Lose, Spoil, caller_of, bytes_of_calls, handed, has_ended}
 use Rattle.gate_core.specs.ConnectionState.{ConnectionState, State, connection_at, waiting, bytes_refusal}
 use Rattle.gate_core.specs.Came.{Opening, Came, IsRoomy}
@@ -37,8 +37,8 @@ pub record IsLed (id : ℕ) (calls : List Event) (old new : State) : Type 0 wher
   pub told : (events : List Event) → Faithful old events → Faithful new (events ++ calls)
 
 -- They led there also where each reply is the written answer: over honest stores that have the room and don't fail.
-abbrev pub IsLedCalmly : List Event → State → State → Type 0
-IsLedCalmly calls old new = (opening : Opening) (events : List Event) → Came opening old events → IsRoomy old.settings opening (events ++ calls) → NoneFailed old.grid new.grid → Came opening new (events ++ calls)
+abbrev pub IsLedAsWritten : List Event → State → State → Type 0
+IsLedAsWritten calls old new = (opening : Opening) (events : List Event) → Came opening old events → IsRoomy old.settings opening (events ++ calls) → NoneFailed old.grid new.grid → Came opening new (events ++ calls)
 
 -- no item that closes was completed by the bytes that came on a connection
 abbrev pub IsUnclosed : ℕ → List Event → Type 0
@@ -71,9 +71,9 @@ pub record IsMoved (id : ℕ) (old new : State) (piece left portion more : List 
   pub handed_out : more ≡ portion ++ handed id calls
 
 -- Each reply is the written answer too, and a connection of which the gateway took bytes is one still.
-pub record IsMovedCalmly (id : ℕ) (old new : State) (piece left portion more : List ℕ) : Type 0 where
+pub record IsMovedAsWritten (id : ℕ) (old new : State) (piece left portion more : List ℕ) : Type 0 where
   pub moved : IsMoved id old new piece left portion more
-  pub calm : IsLedCalmly moved.calls old new
+  pub as_written : IsLedAsWritten moved.calls old new
   pub takes : TakesBytes (connection_at old id) → TakesBytes (connection_at new id)
 
 -- A connection was given up: no more bytes are taken of it. Its end came, if it was still to come. Nothing was handed out,
@@ -83,7 +83,7 @@ pub record IsGivenUp (id : ℕ) (old new : State) : Type 0 where
   pub own : AreMoves id calls
   pub timely : (events : List Event) → AreTimely id events calls
   pub led : IsLed id calls old new
-  pub calm : IsLedCalmly calls old new
+  pub as_written : IsLedAsWritten calls old new
   pub brings : bytes_of_calls id calls ≡ []
   pub gives : handed id calls ≡ []
   pub waits : waiting new id ≡ waiting old id

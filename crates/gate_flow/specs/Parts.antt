@@ -8,7 +8,7 @@ least_part = 128
 
 -- The first n bytes are brought at once: they end with the first blank line that ends behind at least 128 bytes, or they
 -- are all bytes, where none ends so.
-pub record IsPart (bytes : List ℕ) (n : ℕ) : Type 0 where
+pub record IsFeedPart (bytes : List ℕ) (n : ℕ) : Type 0 where
   pub some : 0 < n
   pub within : n ≤ length bytes
   pub first : (m : ℕ) → least_part ≤ m → m < n → ends_in_empty_line (take m bytes) ≡ false

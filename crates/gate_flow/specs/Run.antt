@@ -5,7 +5,7 @@ use Rattle.gate_core.specs.Events.{Event, Open}
 use Rattle.gate_core.specs.ConnectionState.{State, connection_at}
 use Rattle.gate_core.specs.Faithful.{Faithful}
 use Rattle.gate_flow.specs.State.{FlowState}
-use Rattle.gate_flow.specs.Led.{AreOf, TakesBytes, AreTimely, IsLed, IsLedCalmly}
+use Rattle.gate_flow.specs.Led.{AreOf, TakesBytes, AreTimely, IsLed, IsLedAsWritten}
 use Rattle.gate_flow.specs.Flowed.{Flowed}
 
 -- these calls begin with the one that opened a connection, with this secret
@@ -30,7 +30,7 @@ pub record HasRun (id : ℕ) (secret : List ℕ) (g h : State) (f : FlowState) (
   pub input : f.ended ≡ true → IsAtEnd left
 
 -- No call was refused: each reply is the written answer too, and the gateway takes bytes of the connection still.
-pub record HasRunCalmly (id : ℕ) (secret : List ℕ) (g h : State) (f : FlowState) (read left before after : Option (List ℕ)) : Type 0 where
+pub record HasRunAsWritten (id : ℕ) (secret : List ℕ) (g h : State) (f : FlowState) (read left before after : Option (List ℕ)) : Type 0 where
   pub run : HasRun id secret g h f read left before after
-  pub calm : IsLedCalmly run.calls g h
+  pub as_written : IsLedAsWritten run.calls g h
   pub takes : TakesBytes (connection_at h id)

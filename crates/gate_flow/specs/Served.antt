@@ -1,7 +1,7 @@
 -- What serving a connection by a flow comes to.
 use Rattle.std.specs.Prelude.{◌≡◌, ◌≢◌, ℕ, List, [], ◌++◌, ◌⊎◌, ⊤, true, Option, None}
 use Rattle.std.specs.Io.KnownBytes.{Consumes, Appends}
-use Rattle.http_edge.specs.Left.{rest, is_closed as is_left_closed}
+use Rattle.http_edge.specs.FramingState.{rest, is_closed as is_left_closed}
 use Rattle.gate_core.specs.Events.{Event, bytes_of_calls, handed, has_ended}
 use Rattle.gate_core.specs.ConnectionState.{State, connection_at, waiting, bytes_refusal}
 use Rattle.gate_core.specs.Faithful.{Faithful}
@@ -9,7 +9,7 @@ use Rattle.gate_flow.specs.declared.fault.FlowFault.{FlowFault}
 use Rattle.gate_flow.specs.declared.fault.FlowFault.TheVariants.{Refused, ReadFailed, WriteFailed, NoMemory}
 use Rattle.gate_flow.specs.declared.want.Want.TheVariants.{Read}
 use Rattle.gate_flow.specs.State.{FlowState}
-use Rattle.gate_flow.specs.Led.{AreOf, AreTimely, IsLed, IsLedCalmly}
+use Rattle.gate_flow.specs.Led.{AreOf, AreTimely, IsLed, IsLedAsWritten}
 use Rattle.gate_flow.specs.Steps.{Rests}
 use Rattle.gate_flow.specs.Run.{Opens}
 
@@ -37,7 +37,7 @@ IsClosedBy id old calls = (events : List Event) → Faithful old events → is_l
 pub record IsServed (id : ℕ) (secret : List ℕ) (old new : State) (read left before after : Option (List ℕ)) : Type 0 where
   pub unbrought : List ℕ
   pub stopped : HasStopped id secret old new read left before after unbrought []
-  pub calm : IsLedCalmly stopped.calls old new
+  pub as_written : IsLedAsWritten stopped.calls old new
   pub ended : has_ended id stopped.calls ≡ true
   pub behind : (unbrought ≡ []) ⊎ IsClosedBy id old stopped.calls
   pub all : waiting new id ≡ []
@@ -48,17 +48,17 @@ IsUntouched old new read left before after = (new ≡ old) × (left ≡ read) ×
 
 -- It was served until a fault. Where the connection was refused, nothing was done. Where it could not be read further, all
 -- that was read was brought and all that was handed out was written; where it could not be written to, some of that wasn't.
-abbrev pub IsStopped : FlowFault → ℕ → List ℕ → State → State → Option (List ℕ) → Option (List ℕ) → Option (List ℕ) → Option (List ℕ) → Type 0
-IsStopped Refused id secret old new read left before after = IsUntouched old new read left before after
-IsStopped ReadFailed id secret old new read left before after = HasStopped id secret old new read left before after [] []
-IsStopped WriteFailed id secret old new read left before after =
+abbrev pub IsFlowStopped : FlowFault → ℕ → List ℕ → State → State → Option (List ℕ) → Option (List ℕ) → Option (List ℕ) → Option (List ℕ) → Type 0
+IsFlowStopped Refused id secret old new read left before after = IsUntouched old new read left before after
+IsFlowStopped ReadFailed id secret old new read left before after = HasStopped id secret old new read left before after [] []
+IsFlowStopped WriteFailed id secret old new read left before after =
     (unbrought : List ℕ) × (unwritten : List ℕ) × (unwritten ≢ []) × HasStopped id secret old new read left before after unbrought unwritten
-IsStopped NoMemory id secret old new read left before after =
+IsFlowStopped NoMemory id secret old new read left before after =
     IsUntouched old new read left before after ⊎ ((unbrought : List ℕ) × (unwritten : List ℕ) × HasStopped id secret old new read left before after unbrought unwritten)
 
 -- where a flow that runs stops at a fault: no call of its own is refused
-abbrev pub StopsAt : FlowFault → FlowState → State → Type 0
-StopsAt Refused f g = ⊥
-StopsAt ReadFailed f g = (f.want ≡ Read) × Rests f g
-StopsAt WriteFailed f g = f.portion ≢ []
-StopsAt NoMemory f g = ⊤
+abbrev pub FlowStopsAt : FlowFault → FlowState → State → Type 0
+FlowStopsAt Refused f g = ⊥
+FlowStopsAt ReadFailed f g = (f.want ≡ Read) × Rests f g
+FlowStopsAt WriteFailed f g = f.portion ≢ []
+FlowStopsAt NoMemory f g = ⊤

@@ -4,7 +4,7 @@ ghost use Rattle.gate_core.specs.Events.{Open, Bytes, End, Take};
 ghost use Rattle.gate_core.specs.ConnectionState.{connection_at, waiting, is_closed_in, bytes_refusal, open_refusal};
 ghost use Rattle.gate_core.specs.Came.{GoesOn};
 ghost use Rattle.gate_flow.specs.Faults.{IsCallFault};
-ghost use Rattle.gate_flow.specs.Led.{TakesBytes, IsLed, IsLedCalmly, IsMoved, IsMovedCalmly, IsGivenUp};
+ghost use Rattle.gate_flow.specs.Led.{TakesBytes, IsLed, IsLedAsWritten, IsMoved, IsMovedAsWritten, IsGivenUp};
 ghost use Rattle.gate_flow.specs.Brought.{AreBrought, AreInParts, IsEnough};
 
 use crate::fault::FlowFault;
@@ -28,7 +28,7 @@ pub fn begin<S: Store>(
     ensures led { OnOk result (IsLed id (Open id
         (unwrap_or (option_copied secret.entry) gateway.old.settings.secret)
         ∷ []) gateway.old gateway.new) }
-    ensures calm { OnOk result (IsLedCalmly (Open id
+    ensures as_written { OnOk result (IsLedAsWritten (Open id
         (unwrap_or (option_copied secret.entry) gateway.old.settings.secret)
         ∷ []) gateway.old gateway.new) }
     ensures nothing { OnOk result (waiting gateway.new id ≡ []) }
@@ -47,7 +47,7 @@ pub fn begin<S: Store>(
 /// Brings bytes that were read.
 fn feed<S: Store>(gateway: &mut Gateway<S>, id: u64, piece: &[u8]) -> Result<(), FlowFault>
     ensures led { OnOk result (IsLed id (Bytes id piece.now ∷ []) gateway.old gateway.new) }
-    ensures calm { OnOk result (IsLedCalmly (Bytes id piece.now ∷ []) gateway.old gateway.new) }
+    ensures as_written { OnOk result (IsLedAsWritten (Bytes id piece.now ∷ []) gateway.old gateway.new) }
     ensures takes { OnOk result (TakesBytes (connection_at gateway.new id)) }
     ensures err { OnErr result (IsLed id [] gateway.old gateway.new) }
     ensures faults { IfErr result (IsCallFault (connection_at gateway.old id)) }
@@ -68,7 +68,7 @@ pub fn take_first<S: Store>(
     ensures given { IfOk result (λ given. given.items ≡ take max (waiting gateway.old id)) }
     ensures led { IfOk result (λ given. IsLed id (Take id given.items
         ∷ []) gateway.old gateway.new) }
-    ensures calm { IfOk result (λ given. GoesOn gateway.old gateway.new (Take id given.items)) }
+    ensures as_written { IfOk result (λ given. GoesOn gateway.old gateway.new (Take id given.items)) }
     ensures rest { IfOk result (λ given.
         waiting gateway.old id ≡ given.items ++ waiting gateway.new id) }
     ensures stays { OnOk result
@@ -93,7 +93,7 @@ pub fn waits<S: Store>(gateway: &Gateway<S>, id: u64) -> bool
 /// Brings the end of a connection.
 fn bring_end<S: Store>(gateway: &mut Gateway<S>, id: u64) -> Result<(), FlowFault>
     ensures led { OnOk result (IsLed id (End id ∷ []) gateway.old gateway.new) }
-    ensures calm { OnOk result (IsLedCalmly (End id ∷ []) gateway.old gateway.new) }
+    ensures as_written { OnOk result (IsLedAsWritten (End id ∷ []) gateway.old gateway.new) }
     ensures same { waiting gateway.new id ≡ waiting gateway.old id }
     ensures over { bytes_refusal (connection_at gateway.new id) ≢ None }
     ensures err { OnErr result (gateway.new ≡ gateway.old) }
@@ -116,7 +116,7 @@ fn feed_part<S: Store>(
     requires quiet { waiting gateway.old id ≡ [] }
     requires going { is_closed_in (connection_at gateway.old id) ≡ false }
     ensures ok { OnOk result (
-        (now : IsMovedCalmly id gateway.old gateway.new piece.old piece.new [] [])
+        (now : IsMovedAsWritten id gateway.old gateway.new piece.old piece.new [] [])
         × AreBrought id now.moved.calls gateway.old gateway.new piece.old piece.new) }
     ensures err { OnErr result (
         (now : IsMoved id gateway.old gateway.new piece.old piece.new [] [])
@@ -139,7 +139,7 @@ pub fn feed_parts<S: Store>(
     piece: &mut Stretch,
 ) -> Result<(), FlowFault>
     ensures ok { OnOk result (
-        (now : IsMovedCalmly id gateway.old gateway.new piece.old piece.new [] [])
+        (now : IsMovedAsWritten id gateway.old gateway.new piece.old piece.new [] [])
         × AreBrought id now.moved.calls gateway.old gateway.new piece.old piece.new) }
     ensures err { OnErr result (
         (now : IsMoved id gateway.old gateway.new piece.old piece.new [] [])

@@ -4,9 +4,9 @@ ghost use Rattle.std.specs.IoError.{error_kind};
 ghost use Rattle.gate_core.specs.Events.{Open};
 ghost use Rattle.gate_core.specs.ConnectionState.{connection_at, open_refusal};
 ghost use Rattle.gate_flow.specs.Faults.{IsCallFault, IsReadFault, IsWriteFault};
-ghost use Rattle.gate_flow.specs.State.{IsSound, opened_flow};
-ghost use Rattle.gate_flow.specs.Led.{TakesBytes, IsLed, IsLedCalmly, IsGivenUp};
-ghost use Rattle.gate_flow.specs.Steps.{IsRead, IsWritten, Advances, AdvancesCalmly, Rests};
+ghost use Rattle.gate_flow.specs.State.{IsSoundFlow, opened_flow};
+ghost use Rattle.gate_flow.specs.Led.{TakesBytes, IsLed, IsLedAsWritten, IsGivenUp};
+ghost use Rattle.gate_flow.specs.Steps.{AreBytesRead, AreBytesWritten, Advances, AdvancesAsWritten, Rests};
 
 use crate::calls::{PORTION, begin, feed_parts, give_up, take_first, waits};
 use crate::fault::FlowFault;
@@ -36,7 +36,7 @@ pub struct Flow {
 }
 
 impl Model for Flow {
-    ghost use Rattle.gate_flow.specs.State.{FlowState, IsSound};
+    ghost use Rattle.gate_flow.specs.State.{FlowState, IsSoundFlow};
     ghost use Rattle.std.specs.Prelude.{◌≤◌, ◌<◌};
 
     ghost Value = { FlowState };
@@ -44,7 +44,7 @@ impl Model for Flow {
     ghost view = { λ f. record { id = f.id; piece = f.piece; portion = f.portion; ended = f.ended; want = f.want } };
 
     ghost invariant = { λ f. (0 < f.room) × (f.room ≤ 65536)
-        × IsSound (record { id = f.id; piece = f.piece; portion = f.portion; ended = f.ended; want = f.want }) };
+        × IsSoundFlow (record { id = f.id; piece = f.piece; portion = f.portion; ended = f.ended; want = f.want }) };
 }
 
 impl Flow {
@@ -64,7 +64,7 @@ impl Flow {
         ensures led { OnOk result (IsLed id (Open id
             (unwrap_or (option_copied secret.entry) gateway.old.settings.secret)
             ∷ []) gateway.old gateway.new) }
-        ensures calm { OnOk result (IsLedCalmly (Open id
+        ensures as_written { OnOk result (IsLedAsWritten (Open id
             (unwrap_or (option_copied secret.entry) gateway.old.settings.secret)
             ∷ []) gateway.old gateway.new) }
         ensures rests { IfOk result (λ flow. Rests flow gateway.new) }
@@ -87,7 +87,7 @@ impl Flow {
     /// What it waits for.
     pub fn want(&self) -> Want
         ensures want { result ≡ self.now.want }
-        ensures sound { IsSound self.now }
+        ensures sound { IsSoundFlow self.now }
     {
         self.want
     }
@@ -106,11 +106,18 @@ impl Flow {
         self.id
     }
 
+    /// The bytes that were read and that the gateway wasn't given yet.
+    pub fn at_hand(&self) -> &[u8]
+        ensures { result.now ≡ self.now.piece }
+    {
+        self.piece.as_slice()
+    }
+
     /// Reads once, at most 65,536 bytes. `ReadFailed` where the reader failed, and `NoMemory` where memory was refused
     /// for the bytes, before anything was read.
     pub fn read_from<R: Read>(&mut self, reader: &mut R) -> Result<Step, FlowFault>
         requires { self.old.want ≡ Want.Read }
-        ensures read { IsRead self.old self.new (R.remaining reader.old) (R.remaining reader.new) }
+        ensures read { AreBytesRead self.old self.new (R.remaining reader.old) (R.remaining reader.new) }
         ensures next { (self.new.want ≡ Want.Advance) ⊎ (self.new ≡ self.old) }
         ensures count { (n : ℕ) → result ≡ Ok (Step.Went n) →
             length self.new.piece ≡ length self.old.piece + n }
@@ -143,7 +150,7 @@ impl Flow {
     /// gateway didn't take of the piece is still at hand. `Refused` only where the gateway takes no bytes of it.
     pub fn advance<S: Store>(&mut self, gateway: &mut Gateway<S>) -> Result<(), FlowFault>
         requires { self.old.want ≡ Want.Advance }
-        ensures ok { OnOk result (AdvancesCalmly self.old self.new gateway.old gateway.new) }
+        ensures ok { OnOk result (AdvancesAsWritten self.old self.new gateway.old gateway.new) }
         ensures err { OnErr result (Advances self.old self.new gateway.old gateway.new) }
         ensures rests { OnOk result (Rests self.new gateway.new) }
         ensures faults { IfErr result (IsCallFault (connection_at gateway.old self.old.id)) }
@@ -167,7 +174,7 @@ impl Flow {
     /// Writes once. `WriteFailed` where the writer failed or took no byte.
     pub fn write_to<W: Write>(&mut self, writer: &mut W) -> Result<Step, FlowFault>
         requires { self.old.want ≡ Want.Write }
-        ensures wrote { IsWritten self.old self.new (W.contents writer.old) (W.contents writer.new) }
+        ensures wrote { AreBytesWritten self.old self.new (W.contents writer.old) (W.contents writer.new) }
         ensures next { (self.new.want ≡ Want.Advance) ⊎ (self.new.want ≡ Want.Write) }
         ensures count { (n : ℕ) → result ≡ Ok (Step.Went n) →
             length self.old.portion ≡ n + length self.new.portion }
@@ -193,7 +200,7 @@ impl Flow {
     /// What waits for it is left, and nothing of it is decoded: `Gateway::forget` gives it up.
     pub fn close<S: Store>(self, gateway: &mut Gateway<S>)
         ensures given_up { IsGivenUp self.id gateway.old gateway.new }
-        ensures sound { IsSound self }
+        ensures sound { IsSoundFlow self }
     {
         give_up(gateway, self.id);
     }

@@ -1,13 +1,13 @@
 //! A gateway as a loop over sockets sees it.
-ghost use Rattle.std.specs.Prelude.{◌≡◌, ◌≢◌, ◌+◌, ◌-◌, ◌^◌, min, [], ◌∷◌, length, OnOk, OnErr, IfOk, IfErr, IsOkUnless, MatchOption, None};
+ghost use Rattle.std.specs.Prelude.{◌≡◌, ◌≢◌, ◌+◌, ◌-◌, ◌^◌, min, [], ◌∷◌, length, OnOk, OnErr, IfOk, IfErr, IsOkUnless, MatchOption, None, unwrap_or, option_copied};
 ghost use Rattle.gate_core.specs.Events.{Open};
 ghost use Rattle.gate_core.specs.ConnectionState.{connection_at, open_refusal, OthersSame};
 ghost use Rattle.gate_core.specs.Kept.{kept_in};
 ghost use Rattle.gate_flow.specs.Faults.{IsCallFault};
 ghost use Rattle.gate_flow.specs.State.{opened_flow};
-ghost use Rattle.gate_flow.specs.Led.{TakesBytes, IsLed, IsLedCalmly, IsGivenUp};
-ghost use Rattle.gate_flow.specs.Steps.{Advances, AdvancesCalmly, Rests};
-ghost use Rattle.gate_flow.specs.Hosted.{IsForgotten, IsHosted};
+ghost use Rattle.gate_flow.specs.Led.{TakesBytes, IsLed, IsLedAsWritten, IsGivenUp};
+ghost use Rattle.gate_flow.specs.Steps.{Advances, AdvancesAsWritten, Rests};
+ghost use Rattle.gate_flow.specs.Hosted.{IsForgotten, IsHosted, IsHostedWith};
 ghost use Rattle.gate_flow.specs.declared.want.Want.TheVariants as want;
 
 use crate::fault::FlowFault;
@@ -17,8 +17,8 @@ use share_store::Store;
 use std::alloc::Global;
 use std::marker::Model;
 
-/// A gateway that can be called only for connections of one's own: one is opened under the gateway's own secret, and goes
-/// on, is closed and is forgotten. Nothing else of it can be changed, and all of it may be looked at.
+/// A gateway that can be called only for connections of one's own: one is opened, goes on, is closed and is forgotten.
+/// Nothing else of it can be changed, and all of it may be looked at.
 #[derive(Drop)]
 pub struct Lobby<S: Store> {
     gateway: Gateway<S>,
@@ -31,14 +31,14 @@ impl<S: Store> Model for Lobby<S> {
     ghost use Rattle.grid.specs.GridState.{GridState, grid_code};
     ghost use Rattle.gate_core.specs.contracts.connection.Connection as held;
     ghost use Rattle.gate_core.specs.contracts.pages.Page as page;
-    ghost use Rattle.gate_core.specs.Settings.{Settings, settings_code};
+    ghost use Rattle.gate_core.specs.Settings.{GatewaySettings, settings_code};
     ghost use Rattle.gate_core.specs.ConnectionState.{Connections, State};
     ghost use Rattle.gate_core.specs.declared.tally.Tally.{Tally};
     ghost use Rattle.gate_core.specs.Tallies.{tally_code};
 
     ghost Value = { State };
 
-    ghost coded = { code_by (Settings × (Connections × (GridState × Tally)))
+    ghost coded = { code_by (GatewaySettings × (Connections × (GridState × Tally)))
         (coded× (settings_code page.the_row.coded)
         (coded× (map.code coded_ℕ held.the_row.coded) (coded× grid_code tally_code)))
         (λ s. (s.settings, (s.connections, (s.grid, s.tally))))
@@ -82,28 +82,34 @@ impl<S: Store> Lobby<S> {
         self.gateway.kept(flow.id())
     }
 
-    /// Opens a connection under the gateway's own secret. What `Flow::open` says holds of it.
-    pub fn open(&mut self, alloc: Global, id: u64) -> Result<Flow, FlowFault>
-        ensures answer { MatchOption (open_refusal (connection_at self.old id) 0)
+    /// Opens a connection, under the gateway's own secret where it brings none. What `Flow::open` says holds of it.
+    pub fn open(&mut self, alloc: Global, id: u64, secret: Option<&[u8]>) -> Result<Flow, FlowFault>
+        ensures answer { MatchOption (open_refusal (connection_at self.old id)
+            (length (unwrap_or (option_copied secret.entry) [])))
             (IsOkUnless result FlowFault.NoMemory) (λ _. result ≡ Err FlowFault.Refused) }
         ensures opened { IfOk result (λ flow. flow ≡ opened_flow id) }
-        ensures led { OnOk result (IsLed id (Open id self.old.settings.secret ∷ []) self.old self.new) }
-        ensures calm { OnOk result (IsLedCalmly (Open id self.old.settings.secret
+        ensures led { OnOk result (IsLed id (Open id
+            (unwrap_or (option_copied secret.entry) self.old.settings.secret)
+            ∷ []) self.old self.new) }
+        ensures as_written { OnOk result (IsLedAsWritten (Open id
+            (unwrap_or (option_copied secret.entry) self.old.settings.secret)
             ∷ []) self.old self.new) }
         ensures rests { IfOk result (λ flow. Rests flow self.new) }
         ensures takes { OnOk result (TakesBytes (connection_at self.new id)) }
         ensures fresh { OnOk result (connection_at self.old id ≡ None) }
         ensures err { OnErr result (self.new ≡ self.old) }
-        ensures hosted { IsHosted id (id + 1) self.old self.new }
+        ensures hosted { OnOk result (IsHostedWith id (id + 1)
+            ((id, unwrap_or (option_copied secret.entry) self.old.settings.secret)
+            ∷ []) self.old self.new) }
     {
         crate::laws::gateways_are_hosted();
-        Flow::open(alloc, &mut self.gateway, id, None)
+        Flow::open(alloc, &mut self.gateway, id, secret)
     }
 
     /// Lets a flow go on, as `Flow::advance` does.
     pub fn advance(&mut self, flow: &mut Flow) -> Result<(), FlowFault>
         requires { flow.old.want ≡ want.Advance }
-        ensures ok { OnOk result (AdvancesCalmly flow.old flow.new self.old self.new) }
+        ensures ok { OnOk result (AdvancesAsWritten flow.old flow.new self.old self.new) }
         ensures err { OnErr result (Advances flow.old flow.new self.old self.new) }
         ensures rests { OnOk result (Rests flow.new self.new) }
         ensures faults { IfErr result (IsCallFault (connection_at self.old flow.old.id)) }

@@ -1,5 +1,5 @@
 -- What was called of a gateway, one connection after the other.
-use Rattle.std.proofs.Common.{◌≡◌, ℕ, ◌+◌, ◌≤◌, ◌<◌, List, Option, Some, None, refl, sym, subst, ◌∙◌, arith}
+use Rattle.std.proofs.Common.{◌≡◌, ℕ, ◌+◌, ◌≤◌, List, Option, Some, None, sym, subst, ◌∙◌, arith}
 use Rattle.gate_core.specs.ConnectionState.{State}
 use Rattle.gate_flow.specs.Hosted.{IsHosted, IsOwnId}
 use Rattle.gate_turns.specs.declared.seat.End.{End}

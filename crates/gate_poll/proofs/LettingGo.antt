@@ -1,5 +1,5 @@
 -- Connections that are kept no more were closed and forgotten.
-use Rattle.std.proofs.Common.{◌≡◌, ◌≢◌, ℕ, ◌+◌, ◌≤◌, ◌<◌, ◌⊎◌, List, [], Option, Some, None, refl, sym, ap, subst, ◌∙◌, arith, inl, inr}
+use Rattle.std.proofs.Common.{◌≡◌, ◌≢◌, ℕ, ◌+◌, ◌≤◌, ◌<◌, ◌⊎◌, List, Option, Some, None, refl, sym, ap, subst, ◌∙◌, arith, inl, inr}
 use Rattle.std.specs.Prelude.{IfSome, IfNone}
 use Rattle.std.specs.Option.{option_map}
 use Rattle.std.proofs.lemmas.Bool.{cases_eq}
@@ -37,22 +37,32 @@ apart id other ne = elim (cases_lt other id) [
   | inr more ↦ elim (eq-or-lt_of_le more) [ inl same ↦ absurd (ne (sym same)) | inr past ↦ inr (omega (arith, past)) ]
 ]
 
--- one was let go, or is kept
-pub one_gone : (was now : ℕ → Type 0) (id : ℕ) (ps qs : List (ℕ × Peer)) (g h : State) → ((other : ℕ) → was other → now other) → OthersKept id ps qs → IsHosted id (id + 1) g h
+-- one was let go, or is kept, and no other connection changed
+pub one_gone_by : (was now : ℕ → Type 0) (id : ℕ) (ps qs : List (ℕ × Peer)) (g h : State) → ((other : ℕ) → was other → now other) → OthersKept id ps qs
+    → ((other : ℕ) → (other < id) ⊎ (id + 1 ≤ other) → connection_at h other ≡ connection_at g other)
     → (peer_in qs id ≡ None → HasGone (now id) id (peer_in ps id) g h) → AreLetGo was now ps qs g h
-one_gone was now id ps qs g h still kept hosted own = record { still = still; each = λ other none. each other none (cases_eq other id) }
+one_gone_by was now id ps qs g h still kept others own = record { still = still; each = λ other none. each other none (cases_eq other id) }
   where
     each : (other : ℕ) → peer_in qs other ≡ None → (other ≡ id) ⊎ (other ≢ id) → HasGone (now other) other (peer_in ps other) g h
     each other none (inl same) = subst (λ (x : ℕ). HasGone (now x) x (peer_in ps x) g h) (sym same) (own (subst (λ (x : ℕ). peer_in qs x ≡ None) same none))
-    each other none (inr ne) = inr (sym (kept other ne) ∙ none, hosted.others other (apart id other ne))
+    each other none (inr ne) = inr (sym (kept other ne) ∙ none, others other (apart id other ne))
+
+pub one_gone : (was now : ℕ → Type 0) (id : ℕ) (ps qs : List (ℕ × Peer)) (g h : State) → ((other : ℕ) → was other → now other) → OthersKept id ps qs → IsHosted id (id + 1) g h
+    → (peer_in qs id ≡ None → HasGone (now id) id (peer_in ps id) g h) → AreLetGo was now ps qs g h
+one_gone was now id ps qs g h still kept hosted own = one_gone_by was now id ps qs g h still kept hosted.others own
 
 no_peer : (p : Option Peer) (peer : Peer) → p ≡ None → p ≡ Some peer → ⊥
 no_peer p peer none some = cc
 
 -- one that is kept still
+pub one_kept_by : (was now : ℕ → Type 0) (id : ℕ) (ps qs : List (ℕ × Peer)) (peer : Peer) (g h : State) → ((other : ℕ) → was other → now other) → OthersKept id ps qs
+    → ((other : ℕ) → (other < id) ⊎ (id + 1 ≤ other) → connection_at h other ≡ connection_at g other)
+    → peer_in qs id ≡ Some peer → AreLetGo was now ps qs g h
+one_kept_by was now id ps qs peer g h still kept others found = one_gone_by was now id ps qs g h still kept others (λ none. absurd (no_peer (peer_in qs id) peer none found))
+
 pub one_kept : (was now : ℕ → Type 0) (id : ℕ) (ps qs : List (ℕ × Peer)) (peer : Peer) (g h : State) → ((other : ℕ) → was other → now other) → OthersKept id ps qs → IsHosted id (id + 1) g h
     → peer_in qs id ≡ Some peer → AreLetGo was now ps qs g h
-one_kept was now id ps qs peer g h still kept hosted found = one_gone was now id ps qs g h still kept hosted (λ none. absurd (no_peer (peer_in qs id) peer none found))
+one_kept was now id ps qs peer g h still kept hosted found = one_kept_by was now id ps qs peer g h still kept hosted.others found
 
 abbrev pub flow_in : Option Peer → Option FlowState
 flow_in p = option_map (λ (peer : Peer). peer.flow) p

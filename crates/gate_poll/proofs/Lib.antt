@@ -1,3 +1,4 @@
 pub mod Hosts
 pub mod Keeping
 pub mod LettingGo
+pub mod Listening

@@ -1,8 +1,7 @@
 -- What an event of the poll does.
-use Rattle.std.specs.Prelude.{◌≡◌, ℕ, ◌||◌, Bool, true, Option, Some, None, IfSome, IsSomeAnd}
+use Rattle.std.specs.Prelude.{◌≡◌, ℕ, ◌||◌, Bool, true, Option, IfSome, IsSomeAnd}
 use Rattle.mio.specs.Event.{is_readable, is_writable, is_error, is_read_closed, is_write_closed}
 use Rattle.mio.specs.declared.event.event.Event.{Event}
-use Rattle.gate_turns.specs.declared.door.Door.{Door}
 use Rattle.gate_turns.specs.Seat.{IsReported}
 use Rattle.gate_turns.specs.Turns.{TurnsState, seat_at}
 use Rattle.gate_poll.specs.declared.sockets.Entrance.{Entrance}
@@ -18,6 +17,6 @@ wakes_reader e = is_readable e || is_read_closed e || is_error e
 abbrev pub wakes_writer : Event → Bool
 wakes_writer e = is_writable e || is_write_closed e || is_error e
 
--- connections may wait at a door from now on, and nothing else of it changed
+-- connections may wait at the control listener's acceptor from now on, and nothing else of it changed
 abbrev pub IsKnocked : Option Entrance → Option Entrance → Type 0
-IsKnocked old new = IfSome old (λ was. IsSomeAnd new (λ now. now.door ≡ record was.door { waiting = true }))
+IsKnocked old new = IfSome old (λ was. IsSomeAnd new (λ now. now.acceptor ≡ record was.acceptor { waiting = true }))

@@ -9,7 +9,7 @@ use Rattle.std.specs.declared.net.ip_addr.IpAddr.{IpAddr}
 use Rattle.std.specs.declared.net.ip_addr.IpAddr.TheVariants.{V4, V6}
 use Rattle.octets.specs.Case.{eq_ignore_case}
 use Rattle.http_edge.specs.declared.field.Field.{Field}
-use Rattle.http_edge.specs.Reply.{line_end, field_line, length_line, close_line}
+use Rattle.http_edge.specs.Reply.{crlf, field_line, length_line, close_line}
 use Rattle.gate_poll.specs.declared.foreign.Foreign.{Foreign}
 use Rattle.gate_poll.specs.declared.foreign.Foreign.TheVariants.{Page, Host}
 
@@ -43,9 +43,9 @@ refusal_text Host = codes "refused: the Host field names neither this address no
 
 abbrev pub refusal_head : Foreign → List ℕ
 refusal_head why =
-    codes "HTTP/1.1 403 Forbidden" ++ line_end
+    codes "HTTP/1.1 403 Forbidden" ++ crlf
     ++ field_line (record { name = codes "Content-Type"; value = codes "text/plain; charset=utf-8" })
-    ++ length_line (length (refusal_text why)) ++ close_line true ++ line_end
+    ++ length_line (length (refusal_text why)) ++ close_line true ++ crlf
 
 -- a reply to HEAD has no body (RFC 9110, section 9.3.2)
 abbrev pub refusal : Foreign → Bool → List ℕ

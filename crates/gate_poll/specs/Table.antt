@@ -1,11 +1,11 @@
 -- What is kept of connections, and what the loop does to the gateway.
-use Rattle.std.specs.Prelude.{◌≡◌, ◌≢◌, ℕ, ◌≤◌, ◌⊎◌, ⊤, true, false, List, Option, Some, None}
+use Rattle.std.specs.Prelude.{◌≡◌, ◌≢◌, ℕ, ◌≤◌, ◌⊎◌, ⊤, List, All, Option, Some, None}
 use Rattle.std.specs.Ordering.{nat_cmp}
 use Rattle.std.specs.Map.{lookup}
 use Rattle.std.specs.BTreeMap.{is_at}
 use Rattle.gate_core.specs.ConnectionState.{ConnectionState, State, connection_at}
 use Rattle.gate_flow.specs.Led.{IsGivenUp}
-use Rattle.gate_flow.specs.Hosted.{IsForgotten, IsHosted, IsOwnId}
+use Rattle.gate_flow.specs.Hosted.{IsForgotten, IsHosted, IsHostedWith, IsOwnId, Opened}
 use Rattle.gate_turns.specs.declared.seat.Seat.{Seat}
 use Rattle.gate_turns.specs.declared.seat.Turned.{Turned}
 use Rattle.gate_turns.specs.Turns.{TurnsState, seat_at}
@@ -77,7 +77,7 @@ pub record IsSocketCalled (id : ℕ) (turned : Turned) (old new : List (ℕ × P
   pub waits : EndsFor turned.end after
   pub owed : turned.owed ≡ owes after
 
--- The gateway was served for connections that are kept: it was led by calls of ids that were given.
+-- The gateway was served for connections that are kept: it was led by calls of ids that were given, and none was opened.
 pub record ArePeersServed (before next : ℕ) (peers : List (ℕ × Peer)) (turns : TurnsState) (g h : State) : Type 0 where
   pub kept : AreKept next peers turns
   pub next_is : before ≤ next
@@ -85,6 +85,21 @@ pub record ArePeersServed (before next : ℕ) (peers : List (ℕ × Peer)) (turn
 
 abbrev pub Serves : Table → Table → State → State → Type 0
 Serves old new g h = ArePeersServed old.ids.next new.ids.next new.peers.entries new.turns g h
+
+-- It was led by such calls, and each connection that they opened was opened so.
+pub record IsHostedUnder (under : Opened → Type 0) (first next : ℕ) (g h : State) : Type 0 where
+  pub opened : List Opened
+  pub hosted : IsHostedWith first next opened g h
+  pub each : All under opened
+
+-- It was served for connections that are kept, and some were opened, each so.
+pub record ArePeersServedUnder (under : Opened → Type 0) (before next : ℕ) (peers : List (ℕ × Peer)) (turns : TurnsState) (g h : State) : Type 0 where
+  pub kept : AreKept next peers turns
+  pub next_is : before ≤ next
+  pub hosted : IsHostedUnder under 1 next g h
+
+abbrev pub ServesUnder : (Opened → Type 0) → Table → Table → State → State → Type 0
+ServesUnder under old new g h = ArePeersServedUnder under old.ids.next new.ids.next new.peers.entries new.turns g h
 
 -- A connection was closed and then forgotten, and this is held of it since.
 pub record IsLetGo (id : ℕ) (held : Option ConnectionState) : Type 0 where

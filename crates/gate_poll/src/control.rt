@@ -1,9 +1,13 @@
 //! The connections of a control listener.
-ghost use Rattle.std.specs.Prelude.{◌≡◌, ◌<◌, ◌≤◌, false, IfOk, IfSome};
+ghost use Rattle.std.specs.Prelude.{◌≡◌, ◌<◌, ◌≤◌, ℕ, List, Option, false, None, IfOk, IfSome, IsTrue, option_map};
+ghost use Rattle.std.specs.List.{list_any};
+ghost use Rattle.http_edge.specs.FramingState.{frame_from};
 ghost use Rattle.http_edge.specs.Judge.{is_head_request};
+ghost use Rattle.gate_poll.specs.Bearer.{challenge, is_admitted, is_admitted_item, is_authorized};
 ghost use Rattle.gate_poll.specs.Foreign.{foreign_in, refusal};
 ghost use Rattle.gate_poll.specs.declared.control.Goes.TheVariants as goes;
 
+use crate::bearer::{challenge, is_authorized};
 use crate::counts::Counts;
 use crate::foreign::{Here, foreign_by, refusal};
 use gate_core::Gateway;
@@ -39,8 +43,16 @@ pub struct Answer {
     pub stops: bool,
 }
 
-/// What answers the requests of a control listener. Those that come from elsewhere are refused before.
+/// What answers the requests of a control listener. Those that come from elsewhere are refused before, and so are those
+/// that don't bring the token that is wanted.
 pub trait Control<S: Store> {
+    /// The token that is wanted.
+    ghost wanted: { Self → Option (List ℕ) };
+
+    /// The token that each request has to bring. `None` where none is wanted.
+    fn token(&self) -> Option<&[u8]>
+        ensures { option_map (λ token. token.now) result ≡ wanted self.now };
+
     /// Answers a request. Its connection is closed after that.
     fn answer(
         &mut self,
@@ -56,6 +68,12 @@ pub trait Control<S: Store> {
 pub struct NoControl;
 
 impl<S: Store> Control<S> for NoControl {
+    ghost wanted = { λ _. None };
+
+    fn token(&self) -> Option<&[u8]> {
+        None
+    }
+
     fn answer(
         &mut self,
         alloc: Global,
@@ -217,9 +235,29 @@ impl ControlConnection {
         counts: &Counts,
         gateway: &Gateway<S>,
     ) -> Result<bool, AllocError>
-        ensures { self.new.taken ≡ self.old.taken }
+        ensures taken { self.new.taken ≡ self.old.taken }
+        ensures stop { IfOk result (λ stops. IsTrue stops →
+            IsTrue (list_any (is_admitted_item self.old.here.address self.old.here.localhost
+            (C.wanted control.old)) (frame_from self.old.conn piece.now))) }
     {
-        for item in self.conn.feed(piece)? {
+        let items = self.conn.feed(piece)?;
+        self.answer_first(items, control, counts, gateway)
+    }
+
+    /// Answers the first of these items that is a request or a fault, and says whether it asked that serving stop.
+    fn answer_first<S: Store, C: Control<S>>(
+        &mut self,
+        items: Vec<Item>,
+        control: &mut C,
+        counts: &Counts,
+        gateway: &Gateway<S>,
+    ) -> Result<bool, AllocError>
+        ensures taken { self.new.taken ≡ self.old.taken }
+        ensures stop { IfOk result (λ stops. IsTrue stops →
+            IsTrue (list_any (is_admitted_item self.old.here.address self.old.here.localhost
+            (C.wanted control.old)) items.items)) }
+    {
+        for item in items {
             match item {
                 Item::Request { head, .. } => {
                     let told = answer_to(self.alloc, &self.here, &head, control, counts, gateway)?;
@@ -277,8 +315,9 @@ impl ControlConnection {
     }
 }
 
-/// What a request is told that came to this address. One that comes from elsewhere is refused, whatever it asks, and
-/// `control` is not asked. A reply to HEAD has no body (RFC 9110, section 9.3.2).
+/// What a request is told that came to this address. One that comes from elsewhere is refused, whatever it asks, and so is
+/// one that doesn't bring the token that is wanted: of both `control` is not asked. A reply to HEAD has no body (RFC 9110,
+/// section 9.3.2).
 fn answer_to<S: Store, C: Control<S>>(
     alloc: Global,
     here: &Here,
@@ -290,11 +329,23 @@ fn answer_to<S: Store, C: Control<S>>(
     ensures foreign { IfSome (foreign_in here.now.address here.now.localhost head.now.fields)
         (λ why. (control.new ≡ control.old) × IfOk result (λ told. (told.stops ≡ false)
         × (told.bytes.items ≡ refusal why (is_head_request head.now)))) }
+    ensures unauthorized { foreign_in here.now.address here.now.localhost head.now.fields ≡ None →
+        is_authorized (C.wanted control.old) head.now.fields ≡ false →
+        (control.new ≡ control.old) × IfOk result (λ told. (told.stops ≡ false)
+        × (told.bytes.items ≡ challenge (is_head_request head.now))) }
+    ensures admitted { IfOk result (λ told. IsTrue told.stops →
+        IsTrue (is_admitted here.now.address here.now.localhost (C.wanted control.old) head.now.fields)) }
 {
     let head_only = head.is_head_request();
     if let Some(why) = foreign_by(here, head.fields.as_slice()) {
         return Ok(Told {
             bytes: refusal(alloc, why, head_only)?,
+            stops: false,
+        });
+    }
+    if !is_authorized(control.token(), head.fields.as_slice()) {
+        return Ok(Told {
+            bytes: challenge(alloc, head_only)?,
             stops: false,
         });
     }

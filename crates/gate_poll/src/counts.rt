@@ -1,7 +1,9 @@
 //! What happened so far.
 ghost use Rattle.std.specs.Prelude.{◌≡◌, ◌+◌, ◌-◌, ◌/◌, ◌^◌, min};
 ghost use Rattle.std.specs.Duration.{as_nanos};
+ghost use Rattle.gate_poll.specs.Latencies.{empty_latencies, latencies_after};
 
+use crate::latencies::{Latencies, RequestKind};
 use std::time::Duration;
 
 /// What happened so far. A number that reached its largest value stays there.
@@ -33,6 +35,8 @@ pub struct Counts {
     pub bytes_out: u64,
     /// For how many seconds connections have been served.
     pub seconds: u64,
+    /// How long requests took, from their first byte until a reply to them was made.
+    pub latencies: Latencies,
 }
 
 impl Counts {
@@ -52,6 +56,7 @@ impl Counts {
           bytes_in = 0;
           bytes_out = 0;
           seconds = 0;
+          latencies = empty_latencies;
         } }
     {
         Counts {
@@ -68,6 +73,7 @@ impl Counts {
             bytes_in: 0,
             bytes_out: 0,
             seconds: 0,
+            latencies: Latencies::new(),
         }
     }
 
@@ -102,6 +108,15 @@ impl Counts {
         ensures { self.new ≡ record self.old { seconds = as_nanos time / 1_000_000_000 } }
     {
         self.seconds = time.as_secs();
+    }
+
+    /// A reply was made to a request of this kind, which took so long.
+    pub fn answers(&mut self, kind: RequestKind, time: Duration)
+        ensures { self.new ≡ record self.old {
+          latencies = latencies_after kind (min (as_nanos time) (2 ^ 64 - 1)) self.old.latencies;
+        } }
+    {
+        self.latencies.observes(kind, time);
     }
 
     /// A connection was opened, and so many are open.

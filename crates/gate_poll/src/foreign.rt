@@ -95,7 +95,7 @@ fn any_is_foreign(here: &Here, fields: &[Field]) -> bool
 }
 
 /// Whether a field has the name, in any case.
-fn is_named(name: &[u8], field: &Field) -> bool
+pub fn is_named(name: &[u8], field: &Field) -> bool
     ensures { result ≡ is_named name.now field.now }
 {
     is_same(field.name.as_slice(), name)

@@ -8,6 +8,10 @@
 mod fault;
 /// What is allowed to connections.
 mod limits;
+/// How long requests took.
+mod latencies;
+/// How long the request takes that a connection sends.
+mod stopwatch;
 /// What happened so far.
 mod counts;
 /// The ids of connections.
@@ -16,8 +20,10 @@ mod ids;
 mod pace;
 /// How many lines a second are told of connections.
 mod journal;
-/// Sockets of connections, and the doors through which they come.
+/// Sockets of connections, and the acceptors by which they come.
 mod sockets;
+/// Listeners, each with the secret under which connections are opened that come by it.
+mod listeners;
 /// How much memory connections may take.
 mod memory;
 /// What turns are had with.
@@ -30,6 +36,8 @@ mod forget;
 mod table;
 /// Control requests that come from elsewhere.
 mod foreign;
+/// The token that control requests have to bring.
+mod bearer;
 /// The connections of a control listener.
 mod control;
 /// Telling of stores that fail, and of those that no longer do.
@@ -40,6 +48,8 @@ mod serving;
 pub use control::{Answer, Control, NoControl, text_reply};
 pub use counts::Counts;
 pub use fault::ServeFault;
+pub use latencies::{Bucket, Histogram, Latencies, RequestKind};
 pub use limits::Limits;
+pub use listeners::{Listener, MOST_LISTENERS};
 pub use pace::{Pace, Way};
 pub use serving::serve_on;

@@ -1,7 +1,10 @@
 //! How much memory connections may take.
-ghost use Rattle.std.specs.Prelude.{◌≡◌, ◌≢◌, ◌<◌, ◌≤◌, ◌+◌, ◌-◌, ◌^◌, ◌↔◌, ◌⊎◌, min, IsTrue, IsFalse, IfSome, Some, None};
+ghost use Rattle.std.specs.Prelude.{◌≡◌, ◌≢◌, ◌<◌, ◌≤◌, ◌+◌, ◌-◌, ◌^◌, ◌↔◌, ◌∷◌, min, true, false, IsTrue, IsFalse, IsSome, IfSome, IfOk, Some, None, Ok};
+ghost use Rattle.std.specs.Ordering.{nat_cmp};
+ghost use Rattle.std.specs.BTreeSet.{btree_set_len, contains, insert_key};
+ghost use Rattle.gate_poll.specs.Memory.{MayBeRead, MayBeCalled};
 
-use std::alloc::Global;
+use std::alloc::{AllocError, Global};
 use std::collections::BTreeSet;
 
 /// From how many kept bytes on a request is long.
@@ -45,7 +48,9 @@ impl Memory {
     }
 
     /// Whether a connection waits until less is kept.
-    pub fn waits(&self, id: u64) -> bool {
+    pub fn waits(&self, id: u64) -> bool
+        ensures { result ≡ contains nat_cmp self.now.waiting id }
+    {
         self.waiting.contains(&id)
     }
 
@@ -54,6 +59,7 @@ impl Memory {
         ensures kept { self.new.kept ≡ min (self.old.kept - before + now) (2 ^ 64 - 1) }
         ensures most { self.new.most ≡ self.old.most }
         ensures first { self.new.first ≡ self.old.first }
+        ensures waiting { self.new.waiting ≡ self.old.waiting }
     {
         self.kept = self
             .kept
@@ -67,6 +73,7 @@ impl Memory {
         ensures most { self.new.most ≡ self.old.most }
         ensures first { self.new.first ≢ Some id }
         ensures others { self.old.first ≢ Some id → self.new.first ≡ self.old.first }
+        ensures gone { contains nat_cmp self.new.waiting id ≡ false }
     {
         if self.first == Some(id) {
             self.first = None;
@@ -75,32 +82,43 @@ impl Memory {
     }
 
     /// Whether a connection of which so many bytes are kept may be read from. Else it waits until it is called by
-    /// [`Memory::next`]. Where memory for its place among those that wait is refused it may.
-    pub fn admits(&mut self, id: u64, kept: usize) -> bool
-        ensures short { kept < 16384 → IsTrue result }
-        ensures room { self.old.kept < self.old.most → IsTrue result }
-        ensures one { IsFalse result → (self.old.first ≢ None) × (self.old.first ≢ Some id) }
+    /// [`Memory::next`]. Refused memory is that of its place among those that wait; then it may be read from too.
+    pub fn admits(&mut self, id: u64, kept: usize) -> Result<bool, AllocError>
+        ensures exact { IfOk result (λ yes. IsTrue yes ↔ MayBeRead self.old id kept) }
+        ensures short { kept < 16384 → result ≡ Ok true }
+        ensures waits { IfOk result (λ yes. IsFalse yes →
+            self.new.waiting.keys ≡ insert_key nat_cmp self.old.waiting.keys id) }
+        ensures stay { IfOk result (λ yes. IsTrue yes → self.new.waiting ≡ self.old.waiting) }
+        ensures goes_first { self.old.most ≤ self.old.kept → 16384 ≤ kept → self.old.first ≡ None →
+            self.new.first ≡ Some id }
+        ensures first { self.old.first ≢ None → self.new.first ≡ self.old.first }
         ensures kept { self.new.kept ≡ self.old.kept }
         ensures most { self.new.most ≡ self.old.most }
     {
         if kept < LONG || !self.is_full() {
-            return true;
+            return Ok(true);
         }
         match self.first {
             None => {
                 self.first = Some(id);
-                true
+                Ok(true)
             }
-            Some(first) if first == id => true,
-            Some(_) => self.waiting.insert(id).is_err(),
+            Some(first) if first == id => Ok(true),
+            Some(_) => match self.waiting.insert(id) {
+                Ok(_) => Ok(false),
+                Err(_) => Err(AllocError),
+            },
         }
     }
 
-    /// The next one that waits and may be read from now, if there is one.
+    /// The next one that waits and may be read from now, if there is one: the one that came first. Where the budget is used
+    /// up it is the one that goes on.
     pub fn next(&mut self) -> Option<u64>
-        ensures one { self.old.most ≤ self.old.kept → self.old.first ≢ None → result ≡ None }
+        ensures called { IsSome result ↔ (MayBeCalled self.old × (0 < btree_set_len self.old.waiting)) }
+        ensures least { IfSome result (λ id. self.old.waiting.keys ≡ id ∷ self.new.waiting.keys) }
         ensures first { self.old.most ≤ self.old.kept →
             IfSome result (λ id. self.new.first ≡ Some id) }
+        ensures room { self.old.kept < self.old.most → self.new.first ≡ self.old.first }
         ensures kept { self.new.kept ≡ self.old.kept }
         ensures most { self.new.most ≡ self.old.most }
     {
@@ -115,7 +133,9 @@ impl Memory {
     }
 
     /// Whether one that waits may be read from now.
-    pub fn may_resume(&self) -> bool {
+    pub fn may_resume(&self) -> bool
+        ensures { IsTrue result ↔ (MayBeCalled self.now × (0 < btree_set_len self.now.waiting)) }
+    {
         !self.waiting.is_empty() && (!self.is_full() || self.first.is_none())
     }
 
@@ -127,7 +147,9 @@ impl Memory {
     }
 
     /// How many wait.
-    pub fn len(&self) -> usize {
+    pub fn len(&self) -> usize
+        ensures { result ≡ btree_set_len self.now.waiting }
+    {
         self.waiting.len()
     }
 }

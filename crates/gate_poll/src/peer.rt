@@ -1,5 +1,5 @@
 //! One connection with its socket.
-ghost use Rattle.std.specs.Prelude.{◌≡◌, ◌≢◌, ◌<◌, ◌-◌, ◌^◌, min, Some, None, false, true};
+ghost use Rattle.std.specs.Prelude.{◌≡◌, ◌≢◌, ◌<◌, ◌-◌, ◌^◌, min, IsTrue, IsFalse, Some, None, false, true};
 ghost use Rattle.gate_core.specs.ConnectionState.{connection_at};
 ghost use Rattle.gate_core.specs.Kept.{kept_in};
 ghost use Rattle.gate_flow.specs.declared.want.Want.TheVariants as want;
@@ -7,6 +7,7 @@ ghost use Rattle.gate_turns.specs.declared.seat.Side.TheVariants as side;
 
 use crate::memory::LONG;
 use crate::pace::{Pace, Way};
+use crate::stopwatch::Stopwatch;
 use crate::tools::Tools;
 use gate_flow::{Flow, FlowFault, Lobby, Step, Want};
 use gate_turns::{End, Seat, Side, Turned};
@@ -77,6 +78,7 @@ pub struct Peer {
     stream: TcpStream,
     flow: Flow,
     pace: Pace,
+    stopwatch: Stopwatch,
     /// Whether nothing more is said to it, and what it still sends is dropped.
     lingers: bool,
     /// How many bytes were dropped.
@@ -141,6 +143,7 @@ impl Stepped {
 impl Peer {
     ghost use Rattle.gate_poll.specs.Late.{IsPast};
     ghost use Rattle.gate_poll.specs.Peers.{owes, EndsFor, IsGoing, IsStepped};
+    ghost use Rattle.gate_poll.specs.Stopwatch.{timed_by};
 
     /// A socket that was just accepted.
     pub fn new(stream: TcpStream, flow: Flow, now: Instant) -> Peer
@@ -151,6 +154,7 @@ impl Peer {
             stream,
             flow,
             pace: Pace::new(now),
+            stopwatch: Stopwatch::new(),
             lingers: false,
             dropped: 0,
             kept: 0,
@@ -311,7 +315,7 @@ impl Peer {
         if !readable {
             return Stepped::ends(End::Blocked(Side::Read));
         }
-        if !tools.memory.admits(self.flow.id(), self.kept) {
+        if let Ok(false) = tools.memory.admits(self.flow.id(), self.kept) {
             return Stepped::ends(End::Blocked(Side::Read));
         }
         match self.flow.read_from(&mut &self.stream) {
@@ -357,7 +361,9 @@ impl Peer {
         }
     }
 
-    /// Calls the gateway, where that is what is to be done next.
+    /// Calls the gateway, where that is what is to be done next. A reply that it made is counted, with the time of its
+    /// request. Where it made several at once, as for requests that came in one piece with the body before them, they are
+    /// one.
     fn advance<S: Store, R: Clock + CpuClock>(
         &mut self,
         rt: &R,
@@ -372,10 +378,14 @@ impl Peer {
         if self.flow.want() != Want::Advance {
             return Stepped::goes_on();
         }
+        self.stopwatch.sees(self.flow.at_hand(), moment.now);
+        let replies = lobby.gateway().tally();
         if let Err(fault) = lobby.advance(&mut self.flow) {
             return Stepped::fails(fault);
         }
         let long = moment.passes(rt);
+        let is_answered = lobby.gateway().tally() != replies;
+        self.times(is_answered, tools, moment.now);
         let want = self.flow.want();
         self.counts(self.kept_by(lobby), tools);
         self.turns(before, want, moment.now);
@@ -384,6 +394,22 @@ impl Peer {
             long,
             replied: want != Want::Read,
             fault: None,
+        }
+    }
+
+    /// Where its request was answered, how long that took is counted.
+    fn times(&mut self, is_answered: bool, tools: &mut Tools, now: Instant)
+        ensures flow { self.new.flow ≡ self.old.flow }
+        ensures lingers { self.new.lingers ≡ self.old.lingers }
+        ensures answered { IsTrue is_answered → tools.new.counts.latencies
+            ≡ timed_by self.old.stopwatch now tools.old.counts.latencies }
+        ensures waits { IsFalse is_answered → (tools.new.counts ≡ tools.old.counts)
+            × (self.new.stopwatch ≡ self.old.stopwatch) }
+    {
+        if is_answered && let Some(begun) = self.stopwatch.stops() {
+            tools
+                .counts
+                .answers(begun.kind, now.duration_since(begun.since));
         }
     }
 

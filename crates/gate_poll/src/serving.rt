@@ -1,23 +1,25 @@
 //! The loop.
-ghost use Rattle.std.specs.Prelude.{◌≡◌, ◌≤◌, ◌<◌, ◌-◌, ◌^◌, ◌↔◌, ◌⊎◌, ℕ, IfOk, IsTrue, IsSomeAnd};
+ghost use Rattle.std.specs.Prelude.{◌≡◌, ◌≤◌, ◌<◌, ◌-◌, ◌^◌, ◌↔◌, ◌⊎◌, ℕ, true, None, IfSome, IsTrue, IsSomeAnd};
 ghost use Rattle.gate_core.specs.ConnectionState.{connection_at};
-ghost use Rattle.gate_flow.specs.Hosted.{IsHosted};
 ghost use Rattle.mio.specs.Event.{event_token};
-ghost use Rattle.gate_turns.specs.Door.{MayAccept};
+ghost use Rattle.gate_turns.specs.Acceptor.{MayAccept};
+ghost use Rattle.gate_turns.specs.Acceptors.{knocked, with_acceptor};
 ghost use Rattle.gate_turns.specs.Lanes.{turns_due};
 ghost use Rattle.gate_poll.specs.Events.{IsInformed, IsKnocked, wakes_reader, wakes_writer};
-ghost use Rattle.gate_poll.specs.Table.{IsTableKept, Serves, LetsGo, IsLetGo, IsOverAt};
+ghost use Rattle.gate_poll.specs.Listeners.{IsUnder, IsUnderSome, IsUnderOneOf, listener_place};
+ghost use Rattle.gate_poll.specs.Table.{IsTableKept, IsHostedUnder, Serves, ServesUnder, LetsGo, IsLetGo, IsOverAt};
 
 use crate::control::{Control, ControlTable};
 use crate::counts::Counts;
 use crate::fault::ServeFault;
 use crate::forget::{Forget, Forgetter};
 use crate::limits::Limits;
+use crate::listeners::{Arrivals, CONTROL, Listener, Listeners, place_of};
 use crate::sockets::{Arrival, Entrance, register};
 use crate::table::Table;
 use crate::watch::Watch;
 use gate_flow::Lobby;
-use gate_turns::Ending;
+use gate_turns::{Acceptors, Ending};
 use log::{Log, info, warn};
 use mio::event::Event;
 use mio::net::TcpListener;
@@ -25,12 +27,6 @@ use mio::{Events, Poll, Token};
 use share_store::Store;
 use std::net::Net;
 use std::time::{Clock, CpuClock, Duration, Instant};
-
-/// The listener's token, which is no connection's.
-const LISTENER: Token = Token(usize::MAX);
-
-/// The control listener's token, which is no connection's.
-const CONTROL: Token = Token(usize::MAX - 1);
 
 /// How many events are taken at a time.
 const EVENTS: usize = 1024;
@@ -48,8 +44,8 @@ const TICK_MILLIS: u64 = 500;
 #[derive(Drop)]
 struct EventLoop {
     poll: Poll,
-    /// `None` once serving is to stop.
-    entrance: Option<Entrance>,
+    /// The acceptors of the listeners, by their places.
+    acceptors: Acceptors,
     control: Option<Entrance>,
     swept: Instant,
     watch: Watch,
@@ -58,35 +54,45 @@ struct EventLoop {
 }
 
 /// Serves connections, all at once, until so many were served as the limits say, or a control request asked that
-/// serving stop. Each has an id of its own: the gateway is called for connections of ids from 1 on alone, which are opened
-/// under its own secret, and nothing else of it is changed. In the end none is open: each connection of the gateway is as
-/// it was before, or was closed and then forgotten.
+/// serving stop. They come by at most 64 listeners: by more none is served, which is `PollFailed`. Each has an id of its
+/// own: the gateway is called for connections of ids from 1 on alone, which are opened under the secret of the listener
+/// that each came by, or the gateway's own where that has none, and nothing else of it is changed. In the end none is open:
+/// each connection of the gateway is as it was before, or was closed and then forgotten.
 pub fn serve_on<S: Store, R: Net + Clock + CpuClock + AllocGlobal + Log, C: Control<S>>(
     rt: &R,
-    listener: TcpListener,
+    listeners: Vec<Listener>,
     control: Option<TcpListener>,
     limits: &Limits,
     lobby: &mut Lobby<S>,
     answers: &mut C,
 ) -> Result<Counts, ServeFault>
-    ensures hosted { (next : ℕ) × IsHosted 1 next lobby.old lobby.new }
+    ensures hosted { (next : ℕ) × IsHostedUnder (IsUnderOneOf listeners.items
+        lobby.old.settings.secret) 1 next lobby.old lobby.new }
     ensures over { (id : ℕ) → IsOverAt (connection_at lobby.old id) (connection_at lobby.new id) id }
 {
+    let arrivals = Listeners::new(listeners);
     let mut forgets = Forgetter;
-    serve_all(rt, listener, control, limits, lobby, &mut forgets, answers)
+    serve_all(rt, arrivals, control, limits, lobby, &mut forgets, answers)
 }
 
-/// Serves connections, and has those forgotten that are over.
-fn serve_all<S: Store, F: Forget, R: Net + Clock + CpuClock + AllocGlobal + Log, C: Control<S>>(
+/// Serves connections that come so, and has those forgotten that are over.
+fn serve_all<
+    S: Store,
+    A: Arrivals + Drop,
+    F: Forget,
+    R: Net + Clock + CpuClock + AllocGlobal + Log,
+    C: Control<S>,
+>(
     rt: &R,
-    listener: TcpListener,
+    arrivals: A,
     control: Option<TcpListener>,
     limits: &Limits,
     lobby: &mut Lobby<S>,
     forgets: &mut F,
     answers: &mut C,
 ) -> Result<Counts, ServeFault>
-    ensures hosted { (next : ℕ) × IsHosted 1 next lobby.old lobby.new }
+    ensures hosted { (next : ℕ) × IsHostedUnder (IsUnder (A.came arrivals) (A.secret_at arrivals)
+        lobby.old.settings.secret) 1 next lobby.old lobby.new }
     ensures over { (id : ℕ) → (connection_at lobby.new id ≡ connection_at lobby.old id)
         ⊎ (F.forgot forgets.new id × IsLetGo id (connection_at lobby.new id)) }
 {
@@ -94,9 +100,11 @@ fn serve_all<S: Store, F: Forget, R: Net + Clock + CpuClock + AllocGlobal + Log,
     let mut events = Events::with_capacity(rt.alloc(), EVENTS)?;
     let mut table = Table::new(rt.alloc(), limits, Instant::now(rt)?)?;
     let mut desk = ControlTable::new(rt.alloc())?;
-    let mut gate = EventLoop::open(rt, listener, control)?;
+    let mut gate = EventLoop::open(rt, &arrivals, control)?;
+    let mut arrivals = Some(arrivals);
     let ended = gate.serve(
         rt,
+        &mut arrivals,
         &mut events,
         &mut table,
         &mut desk,
@@ -133,15 +141,18 @@ fn mark_one(event: &Event, gate: &mut EventLoop, table: &mut Table, desk: &mut C
     ensures ids { table.new.ids ≡ table.old.ids }
     ensures peers { table.new.peers ≡ table.old.peers }
     ensures due { turns_due table.new.turns.lanes ≡ turns_due table.old.turns.lanes }
-    ensures knocked { (event_token event.now).0 ≡ 2 ^ 64 - 1 →
-        IsKnocked gate.old.entrance gate.new.entrance }
-    ensures told { (event_token event.now).0 < 2 ^ 64 - 2 →
+    ensures knocked { IfSome (listener_place (event_token event.now).0) (λ place.
+        gate.new.acceptors ≡ with_acceptor place knocked gate.old.acceptors) }
+    ensures control { (event_token event.now).0 ≡ 2 ^ 64 - 65 →
+        IsKnocked gate.old.control gate.new.control }
+    ensures told { (event_token event.now).0 < 2 ^ 64 - 65 →
         IsInformed (event_token event.now).0 (wakes_reader event.now) (wakes_writer event.now)
         table.old.turns table.new.turns }
 {
-    if event.token() == LISTENER {
-        knock(&mut gate.entrance);
-    } else if event.token() == CONTROL {
+    let Token(token) = event.token();
+    if let Some(place) = place_of(token) {
+        gate.acceptors.knocks(place);
+    } else if token == CONTROL {
         knock(&mut gate.control);
     } else {
         report(event, table, desk);
@@ -165,41 +176,41 @@ fn report(event: &Event, table: &mut Table, desk: &mut ControlTable)
     desk.is_ready(token as u64);
 }
 
-/// Connections may wait to be accepted.
+/// Control connections may wait to be accepted.
 fn knock(entrance: &mut Option<Entrance>)
     ensures { IsKnocked entrance.old entrance.new }
 {
     if let Some(entrance) = entrance {
-        entrance.door.knocks();
+        entrance.acceptor.knocks();
     }
 }
 
-/// Whether one may be accepted now, where there is room for it or not.
-fn may_accept(entrance: &Option<Entrance>, now: Instant, room: bool) -> bool
-    ensures { IsTrue result ↔ IsSomeAnd entrance.now (λ entrance. MayAccept entrance.door now room) }
+/// Whether a control connection may be accepted now.
+fn may_accept(entrance: &Option<Entrance>, now: Instant) -> bool
+    ensures { IsTrue result ↔ IsSomeAnd entrance.now (λ entrance. MayAccept entrance.acceptor now true) }
 {
     match entrance {
-        Some(entrance) => entrance.door.may_accept(now, room),
+        Some(entrance) => entrance.acceptor.may_accept(now, true),
         None => false,
     }
 }
 
 impl EventLoop {
     /// Begins to listen for connections.
-    fn open<R: Net + Clock + AllocGlobal>(
+    fn open<A: Arrivals, R: Net + Clock + AllocGlobal>(
         rt: &R,
-        listener: TcpListener,
+        arrivals: &A,
         control: Option<TcpListener>,
     ) -> Result<EventLoop, ServeFault> {
         let poll = Poll::new(rt)?;
-        let entrance = Entrance::open(&poll, listener, LISTENER)?;
+        arrivals.register(&poll)?;
         let control = match control {
-            Some(listener) => Some(Entrance::open(&poll, listener, CONTROL)?),
+            Some(listener) => Some(Entrance::open(&poll, listener, Token(CONTROL))?),
             None => None,
         };
         Ok(EventLoop {
             poll,
-            entrance: Some(entrance),
+            acceptors: Acceptors::new(rt.alloc(), arrivals.len())?,
             control,
             swept: Instant::now(rt)?,
             watch: Watch::new(rt.alloc()),
@@ -208,9 +219,10 @@ impl EventLoop {
     }
 
     /// Serves, a round after the other, until that is over.
-    fn serve<S: Store, F: Forget, R: Clock + CpuClock + Log, C: Control<S>>(
+    fn serve<S: Store, A: Arrivals + Drop, F: Forget, R: Clock + CpuClock + Log, C: Control<S>>(
         &mut self,
         rt: &R,
+        arrivals: &mut Option<A>,
         events: &mut Events,
         table: &mut Table,
         desk: &mut ControlTable,
@@ -221,13 +233,16 @@ impl EventLoop {
     ) -> Result<(), ServeFault>
         requires kept { IsTableKept table.old }
         requires over { turns_due table.old.turns.lanes ≡ 0 }
-        ensures served { Serves table.old table.new lobby.old lobby.new }
+        ensures served { ServesUnder (IsUnderSome A.came A.secret_at arrivals.old
+            lobby.old.settings.secret) table.old table.new lobby.old lobby.new }
         ensures let_go { LetsGo (F.forgot forgets.old) (F.forgot forgets.new) table.old table.new
             lobby.old lobby.new }
     {
         gate_flow::laws::gateways_are_hosted();
         'rounds: for _ in 0..u64::MAX {
-            if self.round(rt, events, table, desk, limits, lobby, forgets, answers)? {
+            if self.round(
+                rt, arrivals, events, table, desk, limits, lobby, forgets, answers,
+            )? {
                 return Ok(());
             }
         }
@@ -236,9 +251,10 @@ impl EventLoop {
 
     /// One round: what is ready is marked, some are accepted, and those that have a turn to come have it. It is said
     /// whether serving is over.
-    fn round<S: Store, F: Forget, R: Clock + CpuClock + Log, C: Control<S>>(
+    fn round<S: Store, A: Arrivals + Drop, F: Forget, R: Clock + CpuClock + Log, C: Control<S>>(
         &mut self,
         rt: &R,
+        arrivals: &mut Option<A>,
         events: &mut Events,
         table: &mut Table,
         desk: &mut ControlTable,
@@ -249,30 +265,32 @@ impl EventLoop {
     ) -> Result<bool, ServeFault>
         requires kept { IsTableKept table.old }
         requires over { turns_due table.old.turns.lanes ≡ 0 }
-        ensures served { Serves table.old table.new lobby.old lobby.new }
+        ensures served { ServesUnder (IsUnderSome A.came A.secret_at arrivals.old
+            lobby.old.settings.secret) table.old table.new lobby.old lobby.new }
         ensures let_go { LetsGo (F.forgot forgets.old) (F.forgot forgets.new) table.old table.new
             lobby.old lobby.new }
         ensures over { turns_due table.new.turns.lanes ≡ 0 }
+        ensures listens { (arrivals.new ≡ arrivals.old) ⊎ (arrivals.new ≡ None) }
     {
         gate_flow::laws::gateways_are_hosted();
-        let time = self.time_to_wait(table, Instant::now(rt)?);
+        let time = self.time_to_wait(arrivals.is_some(), table, Instant::now(rt)?);
         self.poll.poll(events, Some(time))?;
         mark(events, self, table, desk);
         let now = Instant::now(rt)?;
-        self.accept_some(rt, table, lobby, forgets, now);
+        self.accept_some(rt, arrivals, table, lobby, forgets, now);
         self.accept_control(table, desk, now);
         table.round(rt, lobby, forgets, now);
         desk.round(answers, &table.tools.counts, lobby.gateway());
         self.sweep(rt, table, desk, lobby, forgets, now);
-        Ok(self.is_over(rt, table, desk, limits, lobby, forgets, now))
+        Ok(self.is_over(rt, arrivals, table, desk, limits, lobby, forgets, now))
     }
 
     /// How long it may be waited for sockets: not at all while a turn is to come, or a connection may be accepted.
-    fn time_to_wait(&self, table: &Table, now: Instant) -> Duration {
+    fn time_to_wait(&self, listens: bool, table: &Table, now: Instant) -> Duration {
         if table.has_turns()
             || table.may_resume()
-            || may_accept(&self.entrance, now, table.has_room())
-            || may_accept(&self.control, now, true)
+            || (listens && self.acceptors.may_accept(now, table.has_room()))
+            || may_accept(&self.control, now)
         {
             Duration::ZERO
         } else {
@@ -281,29 +299,69 @@ impl EventLoop {
     }
 
     /// Accepts some of those that wait, while there is room.
-    fn accept_some<S: Store, F: Forget, R: Log>(
+    fn accept_some<S: Store, A: Arrivals, F: Forget, R: Log>(
         &mut self,
         rt: &R,
+        arrivals: &Option<A>,
         table: &mut Table,
         lobby: &mut Lobby<S>,
         forgets: &mut F,
         now: Instant,
     )
         requires { IsTableKept table.old }
-        ensures served { Serves table.old table.new lobby.old lobby.new }
+        ensures served { ServesUnder (IsUnderSome A.came A.secret_at arrivals.now
+            lobby.old.settings.secret) table.old table.new lobby.old lobby.new }
         ensures let_go { LetsGo (F.forgot forgets.old) (F.forgot forgets.new) table.old table.new
             lobby.old lobby.new }
         ensures due { turns_due table.new.turns.lanes ≡ turns_due table.old.turns.lanes }
     {
         gate_flow::laws::gateways_are_hosted();
-        let Some(entrance) = &mut self.entrance else {
+        let Some(arrivals) = arrivals else {
             return;
         };
         'attempts: for _ in 0..ACCEPTS {
-            if !accept_one(rt, entrance, &self.poll, table, lobby, forgets, now) {
+            if !self.accept_one(rt, arrivals, table, lobby, forgets, now) {
                 return;
             }
         }
+    }
+
+    /// Accepts one connection, at the acceptor whose turn it is, and says whether one might be accepted at any. It is opened
+    /// under the secret of the listener that it came by.
+    fn accept_one<S: Store, A: Arrivals, F: Forget, R: Log>(
+        &mut self,
+        rt: &R,
+        arrivals: &A,
+        table: &mut Table,
+        lobby: &mut Lobby<S>,
+        forgets: &mut F,
+        now: Instant,
+    ) -> bool
+        requires { IsTableKept table.old }
+        ensures served { ServesUnder (IsUnder (A.came arrivals.now) (A.secret_at arrivals.now)
+            lobby.old.settings.secret) table.old table.new lobby.old lobby.new }
+        ensures let_go { LetsGo (F.forgot forgets.old) (F.forgot forgets.new) table.old table.new
+            lobby.old lobby.new }
+        ensures due { turns_due table.new.turns.lanes ≡ turns_due table.old.turns.lanes }
+    {
+        gate_flow::laws::gateways_are_hosted();
+        let Some(place) = self.acceptors.next(now, table.has_room()) else {
+            return false;
+        };
+        let arrival = arrivals.accept(place, table.coming());
+        self.acceptors.came(place, arrival.came(), now);
+        match arrival {
+            Arrival::Socket(stream) => {
+                let secret = arrivals.secret(place);
+                table.take_in(&self.poll, stream, secret, lobby, forgets, now);
+            }
+            Arrival::Gone | Arrival::Nobody => {}
+            Arrival::Starved => {
+                warn!(rt; "accept paused: the system gives no socket");
+                table.tools.counts.starves();
+            }
+        }
+        true
     }
 
     /// Accepts the control connections that wait, as many as may be open.
@@ -351,10 +409,11 @@ impl EventLoop {
     }
 
     /// Whether serving is over: all that are to be served were, or all was said after it was to stop, or the time for
-    /// that is over. A stop waits for no control connection.
-    fn is_over<S: Store, F: Forget, R: Log>(
+    /// that is over. A stop waits for no control connection, and from then on there are no listeners.
+    fn is_over<S: Store, A: Arrivals + Drop, F: Forget, R: Log>(
         &mut self,
         rt: &R,
+        arrivals: &mut Option<A>,
         table: &mut Table,
         desk: &ControlTable,
         limits: &Limits,
@@ -367,6 +426,7 @@ impl EventLoop {
         ensures let_go { LetsGo (F.forgot forgets.old) (F.forgot forgets.new) table.old table.new
             lobby.old lobby.new }
         ensures due { turns_due table.new.turns.lanes ≡ turns_due table.old.turns.lanes }
+        ensures listens { (arrivals.new ≡ arrivals.old) ⊎ (arrivals.new ≡ None) }
     {
         gate_flow::laws::gateways_are_hosted();
         if self.ending.is_asked() {
@@ -375,7 +435,7 @@ impl EventLoop {
         if desk.stops {
             info!(rt; "stopping: {} connections are open", table.tools.counts.open);
             self.ending.asks(now);
-            self.entrance = None;
+            *arrivals = None;
             table.stop_all(lobby, forgets);
             return table.is_empty();
         }
@@ -388,41 +448,6 @@ impl EventLoop {
 
 fn tick() -> Duration {
     Duration::from_millis(TICK_MILLIS)
-}
-
-/// Accepts one connection, and says whether there may be more.
-fn accept_one<S: Store, F: Forget, R: Log>(
-    rt: &R,
-    entrance: &mut Entrance,
-    poll: &Poll,
-    table: &mut Table,
-    lobby: &mut Lobby<S>,
-    forgets: &mut F,
-    now: Instant,
-) -> bool
-    requires { IsTableKept table.old }
-    ensures served { Serves table.old table.new lobby.old lobby.new }
-    ensures let_go { LetsGo (F.forgot forgets.old) (F.forgot forgets.new) table.old table.new
-        lobby.old lobby.new }
-    ensures due { turns_due table.new.turns.lanes ≡ turns_due table.old.turns.lanes }
-{
-    gate_flow::laws::gateways_are_hosted();
-    if !entrance.door.may_accept(now, table.has_room()) {
-        return false;
-    }
-    match entrance.accept(now) {
-        Arrival::Socket(stream) => {
-            table.take_in(poll, stream, lobby, forgets, now);
-            true
-        }
-        Arrival::Gone => true,
-        Arrival::Nobody => false,
-        Arrival::Starved => {
-            warn!(rt; "accept paused: the system gives no socket");
-            table.tools.counts.starves();
-            false
-        }
-    }
 }
 
 /// Accepts one control connection, and says whether there may be more.
@@ -439,7 +464,7 @@ fn accept_call(
     ensures peers { table.new.peers ≡ table.old.peers }
     ensures turns { table.new.turns ≡ table.old.turns }
 {
-    if !entrance.door.may_accept(now, true) {
+    if !entrance.acceptor.may_accept(now, true) {
         return false;
     }
     match entrance.accept(now) {

@@ -1,8 +1,8 @@
 //! Sockets of connections, and the doors through which they come.
 ghost use Rattle.std.specs.Prelude.{◌≡◌};
-ghost use Rattle.gate_turns.specs.Door.{door_after};
+ghost use Rattle.gate_turns.specs.Acceptor.{acceptor_after};
 
-use gate_turns::{Came, Door};
+use gate_turns::{Accepted, Acceptor};
 use mio::net::{TcpListener, TcpStream};
 use mio::{Interest, Poll, Token};
 use std::io::{self, ErrorKind};
@@ -17,12 +17,12 @@ pub fn register(poll: &Poll, id: u64, stream: &mut TcpStream) -> bool {
         .is_ok()
 }
 
-/// Where connections come from.
+/// A listener with its acceptor.
 #[derive(Drop)]
 pub struct Entrance {
     listener: TcpListener,
     /// Whether one may be accepted.
-    pub door: Door,
+    pub acceptor: Acceptor,
 }
 
 /// What came of an attempt to accept a connection.
@@ -41,14 +41,14 @@ pub enum Arrival {
 impl Arrival {
     ghost use Rattle.gate_poll.specs.Arrivals.{came_of};
 
-    /// What that says of the door.
-    fn came(&self) -> Came
+    /// What that says of the acceptor.
+    pub fn came(&self) -> Accepted
         ensures { result ≡ came_of self.now }
     {
         match self {
-            Arrival::Socket(_) | Arrival::Gone => Came::One,
-            Arrival::Nobody => Came::Nobody,
-            Arrival::Starved => Came::Starved,
+            Arrival::Socket(_) | Arrival::Gone => Accepted::One,
+            Arrival::Nobody => Accepted::Nobody,
+            Arrival::Starved => Accepted::Starved,
         }
     }
 }
@@ -62,28 +62,28 @@ impl Entrance {
             .register(&mut listener, token, Interest::READABLE)?;
         Ok(Entrance {
             listener,
-            door: Door::new(),
+            acceptor: Acceptor::new(),
         })
     }
 
-    /// Accepts one connection, if one waits. The door is told what came.
+    /// Accepts one connection, if one waits. The acceptor is told what came.
     pub fn accept(&mut self, now: Instant) -> Arrival
-        ensures { self.new.door ≡ door_after (came_of result) self.old.door now }
+        ensures { self.new.acceptor ≡ acceptor_after (came_of result) self.old.acceptor now }
     {
-        let arrival = self.attempt();
-        self.door.came(arrival.came(), now);
+        let arrival = attempt(&self.listener);
+        self.acceptor.came(arrival.came(), now);
         arrival
     }
+}
 
-    /// What comes of an attempt to accept one.
-    fn attempt(&self) -> Arrival {
-        match self.listener.accept() {
-            Ok((stream, _)) => Arrival::Socket(stream),
-            Err(error) => match error.kind() {
-                ErrorKind::WouldBlock => Arrival::Nobody,
-                ErrorKind::ConnectionAborted | ErrorKind::Interrupted => Arrival::Gone,
-                _ => Arrival::Starved,
-            },
-        }
+/// What comes of an attempt to accept a connection.
+pub fn attempt(listener: &TcpListener) -> Arrival {
+    match listener.accept() {
+        Ok((stream, _)) => Arrival::Socket(stream),
+        Err(error) => match error.kind() {
+            ErrorKind::WouldBlock => Arrival::Nobody,
+            ErrorKind::ConnectionAborted | ErrorKind::Interrupted => Arrival::Gone,
+            _ => Arrival::Starved,
+        },
     }
 }

@@ -1,5 +1,5 @@
 //! The connections by their ids.
-ghost use Rattle.std.specs.Prelude.{◌≡◌, ◌≢◌, ◌+◌, ◌<◌, ◌≤◌, ◌↔◌, ℕ, IsTrue, Some, None, true, false, IfOk, IfSome, IfNone, length, []};
+ghost use Rattle.std.specs.Prelude.{◌≡◌, ◌≢◌, ◌+◌, ◌<◌, ◌≤◌, ◌↔◌, ℕ, IsTrue, Some, None, true, false, IfOk, IfSome, IfNone, length, [], unwrap_or, option_copied};
 ghost use Rattle.std.specs.Option.{option_map, option_map_or};
 ghost use Rattle.gate_flow.specs.Hosted.{IsHosted, IsOwnId};
 ghost use Rattle.gate_turns.specs.Seat.{new_seat};
@@ -44,7 +44,8 @@ pub struct Table {
 
 impl Table {
     ghost use Rattle.gate_poll.specs.Events.{IsInformed};
-    ghost use Rattle.gate_poll.specs.Table.{IsTableKept, Serves, LetsGo};
+    ghost use Rattle.gate_poll.specs.Listeners.{IsOpenedUnder};
+    ghost use Rattle.gate_poll.specs.Table.{IsTableKept, Serves, ServesUnder, LetsGo};
 
     /// No connections, and room for as many as the limits say.
     pub fn new(alloc: Global, limits: &Limits, now: Instant) -> Result<Table, AllocError>
@@ -89,6 +90,13 @@ impl Table {
         self.turns.has_turns()
     }
 
+    /// The id of the connection that is taken in next.
+    pub fn coming(&self) -> u64
+        ensures { result ≡ self.now.ids.next }
+    {
+        self.ids.coming()
+    }
+
     /// An id that was not used before, for a control connection. `None` once all were.
     pub fn new_id(&mut self) -> Option<u64>
         requires { IsTableKept self.old }
@@ -100,18 +108,21 @@ impl Table {
         self.ids.take()
     }
 
-    /// Takes a socket in, under an id that was not used before. Where the system, the gateway or memory refuses it, it is
-    /// dropped.
+    /// Takes a socket in, under an id that was not used before. Its connection is opened under this secret, and under the
+    /// gateway's where there is none. Where the system, the gateway or memory refuses it, it is dropped.
     pub fn take_in<S: Store, F: Forget>(
         &mut self,
         poll: &Poll,
         mut stream: TcpStream,
+        secret: Option<&[u8]>,
         lobby: &mut Lobby<S>,
         forgets: &mut F,
         now: Instant,
     )
         requires { IsTableKept self.old }
-        ensures served { Serves self.old self.new lobby.old lobby.new }
+        ensures served { ServesUnder (IsOpenedUnder self.old.ids.next
+            (unwrap_or (option_copied secret.entry) lobby.old.settings.secret))
+            self.old self.new lobby.old lobby.new }
         ensures let_go { LetsGo (F.forgot forgets.old) (F.forgot forgets.new) self.old self.new
             lobby.old lobby.new }
         ensures due { turns_due self.new.turns.lanes ≡ turns_due self.old.turns.lanes }
@@ -125,7 +136,7 @@ impl Table {
             self.tools.counts.refuses();
             return;
         }
-        let Ok(flow) = lobby.open(self.alloc, id) else {
+        let Ok(flow) = lobby.open(self.alloc, id, secret) else {
             self.tools.counts.refuses();
             return;
         };

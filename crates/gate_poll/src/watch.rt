@@ -22,18 +22,18 @@ pub(crate) enum News {
 
 /// What was seen of a store: its count of failures, and how many looks in turn found no other.
 #[derive(Clone, Copy)]
-pub(crate) struct Seen {
+pub(crate) struct StoreFailures {
     failures: u64,
     quiet: u32,
 }
 
-impl Seen {
+impl StoreFailures {
     /// A store that never failed.
-    fn never_failed() -> Seen
+    fn never_failed() -> StoreFailures
         ensures failures { result.failures ≡ 0 }
         ensures quiet { result.quiet ≡ 20 }
     {
-        Seen {
+        StoreFailures {
             failures: 0,
             quiet: QUIET_LOOKS,
         }
@@ -76,7 +76,7 @@ impl Seen {
 /// What was seen of each store.
 #[derive(Drop)]
 pub struct Watch {
-    seen: Vec<Seen>,
+    seen: Vec<StoreFailures>,
 }
 
 impl Watch {
@@ -94,7 +94,7 @@ impl Watch {
         for (server, store) in gateway.servers().iter().enumerate() {
             let failures = store.failures();
             if self.seen.len() <= server {
-                let Ok(()) = self.seen.push(Seen::never_failed()) else {
+                let Ok(()) = self.seen.push(StoreFailures::never_failed()) else {
                     return;
                 };
             }

@@ -2,6 +2,7 @@
 pub mod Seat
 pub mod Lanes
 pub mod Before
-pub mod Door
+pub mod Acceptor
+pub mod Acceptors
 pub mod Ending
 pub mod Turns

@@ -1,6 +1,7 @@
 //! Laws of the definitions, each on a function that does nothing.
 ghost use Rattle.std.specs.Prelude.{◌≡◌, ◌≤◌, ◌<◌, ◌+◌, ◌*◌, ℕ, List, length};
 ghost use Rattle.gate_turns.specs.declared.seat.Lane.{Lane};
+ghost use Rattle.gate_turns.specs.Acceptors.{AcceptorsState, acceptors_before};
 ghost use Rattle.gate_turns.specs.Lanes.{LanesState, AreBounded, lanes_at_round, turns_due, queued_count};
 ghost use Rattle.gate_turns.specs.Before.{StandsBehind, Happening, Course, HasTurnIn, turns_before, turns_in};
 
@@ -17,4 +18,11 @@ pub fn turns_come()
         turns_before Lane.Quick n s ≤ 2 * s.room }
     // no round is empty while somebody has a turn to come
     ensures some { (s : LanesState) → 0 < queued_count s → 0 < turns_due (lanes_at_round s) }
+{}
+
+/// The turn of an acceptor comes: fewer others stand before it than there are, and with each attempt that may be made at one, by
+/// `Acceptors::next`, there are fewer.
+pub fn turns_at_acceptors_come()
+    ensures { (place : ℕ) (s : AcceptorsState) → s.first ≤ length s.acceptors → place < length s.acceptors →
+        acceptors_before place s < length s.acceptors }
 {}

@@ -1,3 +1,6 @@
--- Replies cites Asked.
+-- Replies cites Asked; Commit and Token cite Line.
 pub mod Asked
 pub mod Replies
+pub mod Line
+pub mod Commit
+pub mod Token

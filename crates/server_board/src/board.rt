@@ -6,9 +6,11 @@ ghost use Rattle.server_board.specs.Replies.{allow_field, line_field, type_field
 ghost use Rattle.server_board.specs.declared.board.Asked.TheVariants as asked;
 ghost use Rattle.server_board.specs.declared.board.Method.TheVariants as methods;
 
+use crate::commit::Commit;
 use crate::figures::store_figures;
 use crate::metrics::metrics_text;
 use crate::status::status_text;
+use crate::token::ControlToken;
 use gate_core::Gateway;
 use gate_poll::{Answer, Control, Counts};
 use http_edge::{Head, Reply, ReplyField, ReplyFields, Status};
@@ -17,8 +19,13 @@ use share_store::Store;
 use std::alloc::{AllocError, Global};
 
 /// Answers `GET /status`, `GET /metrics` and `POST /stop`.
-#[derive(Clone, Copy, Debug, PartialEq, Eq)]
-pub struct StatusControl;
+#[derive(Drop)]
+pub struct StatusControl {
+    /// The token that each request has to bring, if one is wanted.
+    pub token: Option<ControlToken>,
+    /// The commit that the program was built of, where it is known.
+    pub commit: Option<Commit>,
+}
 
 /// What a control request asks for.
 #[derive(Clone, Copy, Debug, PartialEq, Eq)]
@@ -39,6 +46,15 @@ pub enum Method {
 }
 
 impl<S: Store> Control<S> for StatusControl {
+    ghost wanted = { λ control. control.token };
+
+    fn token(&self) -> Option<&[u8]> {
+        match &self.token {
+            Some(token) => Some(token.as_slice()),
+            None => None,
+        }
+    }
+
     fn answer(
         &mut self,
         alloc: Global,
@@ -52,7 +68,7 @@ impl<S: Store> Control<S> for StatusControl {
             IsBoardAnswer (control_asked head.now.method head.now.target) answer.reply) }
     {
         let asked = asked_by(head.method.as_slice(), head.target.as_slice());
-        let reply = reply_to(alloc, asked, counts, gateway)?;
+        let reply = reply_to(alloc, asked, self.commit.as_ref(), counts, gateway)?;
         Ok(Answer {
             reply,
             stops: asked == Asked::Stop,
@@ -64,14 +80,15 @@ impl<S: Store> Control<S> for StatusControl {
 fn reply_to<S: Store>(
     alloc: Global,
     wanted: Asked,
+    commit: Option<&Commit>,
     counts: &Counts,
     gateway: &Gateway<S>,
 ) -> Result<Reply, AllocError>
     ensures { IfOk result (IsBoardAnswer wanted) }
 {
     match wanted {
-        Asked::Status => status_reply(alloc, counts, gateway),
-        Asked::Metrics => metrics_reply(alloc, counts, gateway),
+        Asked::Status => status_reply(alloc, commit, counts, gateway),
+        Asked::Metrics => metrics_reply(alloc, commit, counts, gateway),
         Asked::Stop => line_reply(alloc, Status::Ok, b"stopping\n"),
         Asked::NotWith(method) => other_method(alloc, method),
         Asked::Nothing => line_reply(alloc, Status::NotFound, b"not found\n"),
@@ -115,13 +132,14 @@ fn with_get(method: &[u8], wanted: Asked) -> Asked
 /// The figures as JSON.
 fn status_reply<S: Store>(
     alloc: Global,
+    commit: Option<&Commit>,
     counts: &Counts,
     gateway: &Gateway<S>,
 ) -> Result<Reply, AllocError>
     ensures { IfOk result (IsBoardAnswer asked.Status) }
 {
     let stores = store_figures(alloc, gateway)?;
-    let text = status_text(alloc, counts, &gateway.tally(), &stores)?;
+    let text = status_text(alloc, commit, counts, &gateway.tally(), &stores)?;
     let kind = ReplyField::constant(b"Content-Type", b"application/json");
     reply_of(alloc, Status::Ok, kind, Bytes::from_vec(text.into_bytes()))
 }
@@ -156,13 +174,14 @@ fn line_reply(alloc: Global, status: Status, line: &[u8]) -> Result<Reply, Alloc
 /// The figures as Prometheus reads them.
 fn metrics_reply<S: Store>(
     alloc: Global,
+    commit: Option<&Commit>,
     counts: &Counts,
     gateway: &Gateway<S>,
 ) -> Result<Reply, AllocError>
     ensures { IfOk result (IsBoardAnswer asked.Metrics) }
 {
     let stores = store_figures(alloc, gateway)?;
-    let text = metrics_text(alloc, counts, &gateway.tally(), &stores)?;
+    let text = metrics_text(alloc, commit, counts, &gateway.tally(), &stores)?;
     let kind = ReplyField::constant(b"Content-Type", b"text/plain; version=0.0.4; charset=utf-8");
     reply_of(alloc, Status::Ok, kind, Bytes::from_vec(text.into_bytes()))
 }

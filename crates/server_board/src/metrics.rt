@@ -1,27 +1,31 @@
 //! Figures in the text format of Prometheus.
 use crate::VERSION;
+use crate::commit::Commit;
 use crate::figures::{StoreFigures, reply_figures};
+use crate::request_times::put_request_times;
 use gate_core::Tally;
 use gate_poll::Counts;
 use std::alloc::{AllocError, Global};
 
 /// Figures under one name.
 #[derive(Clone, Copy, Debug, PartialEq, Eq)]
-struct Family {
+pub(crate) struct Family {
     /// The name, after the program's.
-    name: &'static str,
+    pub name: &'static str,
     /// What the figures are.
-    help: &'static str,
-    kind: Kind,
+    pub help: &'static str,
+    pub kind: Kind,
 }
 
 /// What a figure does.
 #[derive(Clone, Copy, Debug, PartialEq, Eq)]
-enum Kind {
+pub(crate) enum Kind {
     /// It rises and falls.
     Gauge,
     /// It only rises.
     Counter,
+    /// They count times up to bounds, and only rise.
+    Histogram,
 }
 
 /// A figure that is alone under its name.
@@ -44,6 +48,7 @@ impl Kind {
         match self {
             Kind::Gauge => "gauge",
             Kind::Counter => "counter",
+            Kind::Histogram => "histogram",
         }
     }
 }
@@ -78,18 +83,20 @@ impl OfStores {
     }
 }
 
-/// The program's version, and the figures of the loop, of replies and of each store.
+/// The program's version and commit, and the figures of the loop, of requests, of replies and of each store.
 pub fn metrics_text(
     alloc: Global,
+    commit: Option<&Commit>,
     counts: &Counts,
     tally: &Tally,
     stores: &[StoreFigures],
 ) -> Result<String, AllocError> {
     let mut text = String::new(alloc);
-    put_version(alloc, &mut text)?;
+    put_build(alloc, &mut text, commit)?;
     for figure in &figures_of(counts) {
         put_figure(alloc, &mut text, figure)?;
     }
+    put_request_times(alloc, &mut text, &counts.latencies)?;
     put_replies(alloc, &mut text, tally)?;
     put_stores(alloc, &mut text, OfStores::Room, stores)?;
     put_stores(alloc, &mut text, OfStores::Held, stores)?;
@@ -97,14 +104,21 @@ pub fn metrics_text(
     Ok(text)
 }
 
-/// Puts the program's version: a figure that is always 1, with the version at its name.
-fn put_version(alloc: Global, text: &mut String) -> Result<(), AllocError> {
+/// Puts the program's version, and its commit where that is known: a figure that is always 1, with these at its name.
+fn put_build(alloc: Global, text: &mut String, commit: Option<&Commit>) -> Result<(), AllocError> {
     let family = gauge(
         "build_info",
-        "The version of the program, beside the value 1.",
+        "The version of the program, and its commit where that is known, beside the value 1.",
     );
     put_head(alloc, text, family)?;
-    let line = format!(in alloc; "wozhinnam_build_info{{version=\"{}\"}} 1\n", VERSION)?;
+    let line = match commit {
+        Some(commit) => format!(in alloc;
+            "wozhinnam_build_info{{version=\"{}\",commit=\"{}\"}} 1\n",
+            VERSION,
+            commit.as_str()
+        )?,
+        None => format!(in alloc; "wozhinnam_build_info{{version=\"{}\"}} 1\n", VERSION)?,
+    };
     put_line(text, &line)
 }
 
@@ -116,7 +130,7 @@ fn put_figure(alloc: Global, text: &mut String, figure: &Figure) -> Result<(), A
 }
 
 /// Puts a line behind the text.
-fn put_line(text: &mut String, line: &String) -> Result<(), AllocError> {
+pub(crate) fn put_line(text: &mut String, line: &String) -> Result<(), AllocError> {
     text.push_str(line.as_str())
 }
 
@@ -196,7 +210,7 @@ fn counter(name: &'static str, help: &'static str) -> Family {
 }
 
 /// Puts the lines that say what the figures are, and what they do.
-fn put_head(alloc: Global, text: &mut String, family: Family) -> Result<(), AllocError> {
+pub(crate) fn put_head(alloc: Global, text: &mut String, family: Family) -> Result<(), AllocError> {
     let help = format!(in alloc; "# HELP wozhinnam_{} {}\n", family.name, family.help)?;
     put_line(text, &help)?;
     let kind = format!(in alloc; "# TYPE wozhinnam_{} {}\n", family.name, family.kind.word())?;

@@ -1,5 +1,6 @@
 //! Figures as JSON.
 use crate::VERSION;
+use crate::commit::Commit;
 use crate::figures::{Named, StoreFigures, connection_figures, reply_figures};
 use gate_core::Tally;
 use gate_poll::Counts;
@@ -9,16 +10,17 @@ use std::alloc::{AllocError, Global};
 /// An object's members, by their names.
 type Members = Map<String, Value>;
 
-/// The version and the figures as JSON: the time so far, connections, bytes that are kept, received and sent, replies of each status, and each store.
+/// The version, the commit where it is known, and the figures as JSON: the time so far, connections, bytes that are kept, received and sent, replies of each status, and each store.
 /// `Err` only where memory is refused.
 pub fn status_text(
     alloc: Global,
+    commit: Option<&Commit>,
     counts: &Counts,
     tally: &Tally,
     stores: &[StoreFigures],
 ) -> Result<String, AllocError> {
     let mut members = Map::new(alloc);
-    put(alloc, &mut members, "version", version_json(alloc)?)?;
+    put_build(alloc, &mut members, commit)?;
     put_number(alloc, &mut members, "uptime_seconds", counts.seconds)?;
     put_number(alloc, &mut members, "kept", counts.kept)?;
     put_number(alloc, &mut members, "received", counts.bytes_in)?;
@@ -28,9 +30,22 @@ pub fn status_text(
     Value::Object(members).to_string(alloc)
 }
 
-/// The program's version.
-fn version_json(alloc: Global) -> Result<Value, AllocError> {
-    Ok(Value::String(String::from_str(alloc, VERSION)?))
+/// Puts the program's version, and its commit where that is known.
+fn put_build(
+    alloc: Global,
+    members: &mut Members,
+    commit: Option<&Commit>,
+) -> Result<(), AllocError> {
+    put(alloc, members, "version", text_json(alloc, VERSION)?)?;
+    match commit {
+        Some(commit) => put(alloc, members, "commit", text_json(alloc, commit.as_str())?),
+        None => Ok(()),
+    }
+}
+
+/// A text.
+fn text_json(alloc: Global, text: &str) -> Result<Value, AllocError> {
+    Ok(Value::String(String::from_str(alloc, text)?))
 }
 
 /// Puts the figures of connections and of replies.

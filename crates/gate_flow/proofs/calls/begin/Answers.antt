@@ -10,8 +10,8 @@ pub returns-in-Ok-clause-led : goal.returns-in-Ok-clause-led
 returns-in-Ok-clause-led g c =
     opened_led c.faithful_goes_on.ensures.opened c.args.id (option_copied c.args.secret) c.args.gateway.now c.open.new.self (unopened _ _ _ _ (λ e h. cc) c.in-Ok.ensures.answer) c.in-Ok.ensures.left c.in-Ok.ensures.others
 
-pub returns-in-Ok-clause-calm : goal.returns-in-Ok-clause-calm
-returns-in-Ok-clause-calm g c = calm_on c.args.gateway.now c.open.new.self (Open c.args.id (unwrap_or (option_copied c.args.secret) c.args.gateway.now.settings.secret)) c.in-Ok.ensures.came
+pub returns-in-Ok-clause-as_written : goal.returns-in-Ok-clause-as_written
+returns-in-Ok-clause-as_written g c = calm_on c.args.gateway.now c.open.new.self (Open c.args.id (unwrap_or (option_copied c.args.secret) c.args.gateway.now.settings.secret)) c.in-Ok.ensures.came
 
 pub returns-in-Ok-clause-nothing : goal.returns-in-Ok-clause-nothing
 returns-in-Ok-clause-nothing g c = waiting_held c.args.gateway.now c.open.new.self c.args.id (opened (option_copied c.args.secret)) c.in-Ok.ensures.left

@@ -7,8 +7,8 @@ use Rattle.gate_flow.proofs.calls.bring_end.Goals as goal
 pub returns-in-Ok-clause-led : goal.returns-in-Ok-clause-led
 returns-in-Ok-clause-led g c = ended_led c.faithful_goes_on.ensures.ended c.args.id c.args.gateway.now c.end.new.self _ _ (λ e h. cc) c.in-Ok.ensures.answer c.in-Ok.ensures.left c.in-Ok.ensures.others
 
-pub returns-in-Ok-clause-calm : goal.returns-in-Ok-clause-calm
-returns-in-Ok-clause-calm g c = calm_on c.args.gateway.now c.end.new.self (End c.args.id) c.in-Ok.ensures.came
+pub returns-in-Ok-clause-as_written : goal.returns-in-Ok-clause-as_written
+returns-in-Ok-clause-as_written g c = calm_on c.args.gateway.now c.end.new.self (End c.args.id) c.in-Ok.ensures.came
 
 pub returns-in-Ok-clause-same : goal.returns-in-Ok-clause-same
 returns-in-Ok-clause-same g c = end_waits c.args.id c.args.gateway.now c.end.new.self _ _ (λ e h. cc) c.in-Ok.ensures.answer c.in-Ok.ensures.left

@@ -7,8 +7,8 @@ pub returns-in-Ok-clause-led : goal.returns-in-Ok-clause-led
 returns-in-Ok-clause-led g c =
     bytes_led c.faithful_goes_on.ensures.received c.args.id c.args.piece.now c.args.gateway.now c.bytes.new.self _ _ (λ e h. cc) c.in-Ok.ensures.answer c.in-Ok.ensures.received c.in-Ok.ensures.others c.in-Ok.ensures.leaves
 
-pub returns-in-Ok-clause-calm : goal.returns-in-Ok-clause-calm
-returns-in-Ok-clause-calm g c = c.in-Ok.ensures.came
+pub returns-in-Ok-clause-as_written : goal.returns-in-Ok-clause-as_written
+returns-in-Ok-clause-as_written g c = c.in-Ok.ensures.came
 
 pub returns-in-Ok-clause-takes : goal.returns-in-Ok-clause-takes
 returns-in-Ok-clause-takes g c = bytes_open c.args.id c.args.piece.now c.args.gateway.now c.bytes.new.self _ _ (λ e h. cc) c.in-Ok.ensures.answer c.in-Ok.ensures.received

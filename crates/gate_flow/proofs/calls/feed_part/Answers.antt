@@ -1,6 +1,6 @@
 use Rattle.std.proofs.Common.{ℕ, List, refl, subst, arith, []}
 use Rattle.std.proofs.lemmas.Result.{MatchResult-from_err}
-use Rattle.gate_flow.specs.Parts.{IsPart}
+use Rattle.gate_flow.specs.Parts.{IsFeedPart}
 use Rattle.gate_flow.specs.Led.{IsMoved}
 use Rattle.gate_flow.specs.Brought.{AreInParts}
 use Rattle.gate_flow.proofs.Moving.{part_moves, part_fails}
@@ -15,4 +15,4 @@ returns-in_err-feed-clause-err g c =
 pub returns-clause-ok : goal.returns-clause-ok
 returns-clause-ok g c =
     part_moves c.args.id c.part_len-len.result c.args.gateway.now c.feed.new.gateway c.args.piece.now c.skip.new.self _ (grind (arith, c.as_slice-bytes.ensures)) c.skip.ensures
-    (subst (λ (bytes : List ℕ). IsPart bytes c.part_len-len.result) c.as_slice-bytes.ensures c.part_len-len.ensures) c.requires.quiet c.requires.going c.in_ok-feed.ensures.takes c.in_ok-feed.ensures.led c.in_ok-feed.ensures.calm
+    (subst (λ (bytes : List ℕ). IsFeedPart bytes c.part_len-len.result) c.as_slice-bytes.ensures c.part_len-len.ensures) c.requires.quiet c.requires.going c.in_ok-feed.ensures.takes c.in_ok-feed.ensures.led c.in_ok-feed.ensures.as_written

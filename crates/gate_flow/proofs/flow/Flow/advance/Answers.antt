@@ -20,7 +20,7 @@ returns-in_ok-portion-clause-ok g c =
     let f = c.self.inside in
     writing c.args.self.now f.id f.piece f.portion f.ended f.want c.self.view_is c.args.gateway.now c.feed_parts.new.gateway c.feed_parts.new.piece c.in_ok-feed_parts.ensures.ok c.in_ok-feed_parts.ensures.until
     c.beginnings_have_room.ensures c.take_first.new.gateway c.from_vec.result c.in_ok-portion.portion.items c.from_vec.ensures (no_portion c.args.self.now f.id f.piece f.portion f.ended f.want c.self.view_is c.requires c.self.invariant.2)
-    c.in_ok-portion.ensures.stays c.in_ok-portion.ensures.led c.in_ok-portion.ensures.calm
+    c.in_ok-portion.ensures.stays c.in_ok-portion.ensures.led c.in_ok-portion.ensures.as_written
 
 pub returns-in_err-feed_parts-clause-err : goal.returns-in_err-feed_parts-clause-err
 returns-in_err-feed_parts-clause-err g c =

@@ -1,7 +1,6 @@
-use Rattle.std.proofs.Common.{◌∙◌, refl, arith}
+use Rattle.std.proofs.Common.{◌∙◌, refl}
 use Rattle.gate_turns.specs.Turns.{seat_at}
 use Rattle.gate_poll.specs.Table.{peer_in}
-use Rattle.gate_poll.proofs.Hosts.{serves_still}
 use Rattle.gate_poll.proofs.Keeping.{kept_but, own_peer}
 use Rattle.gate_poll.proofs.table.Table.cut_late.Goals as goal
 

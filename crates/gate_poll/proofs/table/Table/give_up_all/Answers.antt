@@ -1,4 +1,4 @@
-use Rattle.std.proofs.Common.{ℕ, List, [], ◌≡◌, None, ap, inl, sym, subst, rules}
+use Rattle.std.proofs.Common.{ℕ, List, ◌≡◌, inl, sym, subst, rules}
 use Rattle.gate_turns.specs.Turns.{seat_at}
 use Rattle.gate_poll.specs.declared.peer.Peer.{Peer}
 use Rattle.gate_poll.specs.Table.{peer_in, AreLetGo}

@@ -1,4 +1,4 @@
-use Rattle.std.proofs.Common.{◌≡◌, ◌∙◌, refl, ap, None}
+use Rattle.std.proofs.Common.{◌∙◌, refl, ap}
 use Rattle.gate_turns.specs.Turns.{TurnsState, seat_at}
 use Rattle.gate_poll.specs.Table.{peer_in}
 use Rattle.gate_poll.proofs.Keeping.{kept_with, reported, informed, due_reported}

@@ -1,4 +1,4 @@
-use Rattle.std.proofs.Common.{◌≤◌, arith}
+use Rattle.std.proofs.Common.{arith}
 use Rattle.gate_poll.proofs.Keeping.{kept_none, kept_more}
 use Rattle.gate_poll.proofs.table.Table.new.Goals as goal
 

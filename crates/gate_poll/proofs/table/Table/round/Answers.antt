@@ -1,5 +1,5 @@
-use Rattle.std.proofs.Common.{◌≡◌, ◌≤◌, refl, arith, rules}
-use Rattle.gate_turns.specs.Lanes.{turns_due, lanes_at_round}
+use Rattle.std.proofs.Common.{◌≡◌, arith, rules}
+use Rattle.gate_turns.specs.Lanes.{lanes_at_round}
 use Rattle.gate_poll.proofs.Hosts.{serves_still}
 use Rattle.gate_poll.proofs.LettingGo.{none_gone, gone_then}
 use Rattle.gate_poll.proofs.Keeping.{kept_lanes, kept_is, turn_begun, due_less}

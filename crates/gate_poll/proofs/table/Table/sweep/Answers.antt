@@ -1,4 +1,4 @@
-use Rattle.std.proofs.Common.{◌≡◌, ◌≤◌, ◌∙◌, refl, arith}
+use Rattle.std.proofs.Common.{◌∙◌, refl, arith}
 use Rattle.gate_poll.proofs.Hosts.{serves_still}
 use Rattle.gate_poll.proofs.LettingGo.{none_gone, gone_then}
 use Rattle.gate_poll.proofs.table.Table.sweep.Goals as goal

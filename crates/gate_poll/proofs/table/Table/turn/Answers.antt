@@ -1,4 +1,4 @@
-use Rattle.std.proofs.Common.{◌≡◌, ◌≤◌, ◌∙◌, refl, sym, ap, arith, ℕ, List, Some, None}
+use Rattle.std.proofs.Common.{◌≡◌, ◌∙◌, ap, arith, ℕ, List, Some}
 use Rattle.gate_flow.specs.Hosted.{IsOwnId}
 use Rattle.gate_turns.specs.declared.seat.Seat.{Seat}
 use Rattle.gate_turns.specs.Lanes.{turns_due}

@@ -1,7 +1,7 @@
 //! When connections may be accepted.
 ghost use Rattle.std.specs.Prelude.{◌≡◌, ◌≤◌, ◌-◌, ◌↔◌, IsTrue, true, false, Some, None, IfSome, MatchOption};
 ghost use Rattle.std.specs.Time.{instant_nanos};
-ghost use Rattle.gate_turns.specs.Door.{MayAccept, door_after};
+ghost use Rattle.gate_turns.specs.Acceptor.{MayAccept, acceptor_after};
 
 use std::time::Instant;
 
@@ -10,7 +10,7 @@ const PAUSE_MILLIS: u128 = 500;
 
 /// What came of an attempt to accept a connection.
 #[derive(Clone, Copy, Debug, PartialEq, Eq)]
-pub enum Came {
+pub enum Accepted {
     /// A socket, or one that is gone again.
     One,
     /// None waits.
@@ -21,20 +21,20 @@ pub enum Came {
 
 /// Whether connections may be accepted.
 #[derive(Clone, Copy, Debug)]
-pub struct Door {
+pub struct Acceptor {
     /// Whether connections may wait: none of the attempts since the last knock found that none does.
     pub waiting: bool,
     /// Since when nothing is accepted, since the system gave no socket.
     pub paused: Option<Instant>,
 }
 
-impl Door {
+impl Acceptor {
     /// Connections may wait.
-    pub fn new() -> Door
+    pub fn new() -> Acceptor
         ensures waiting { result.waiting ≡ true }
         ensures paused { result.paused ≡ None }
     {
-        Door {
+        Acceptor {
             waiting: true,
             paused: None,
         }
@@ -61,16 +61,16 @@ impl Door {
     }
 
     /// What came of an attempt to accept one.
-    pub fn came(&mut self, came: Came, now: Instant)
-        ensures { self.new ≡ door_after came self.old now }
+    pub fn came(&mut self, came: Accepted, now: Instant)
+        ensures { self.new ≡ acceptor_after came self.old now }
     {
         match came {
-            Came::One => self.paused = None,
-            Came::Nobody => {
+            Accepted::One => self.paused = None,
+            Accepted::Nobody => {
                 self.waiting = false;
                 self.paused = None;
             }
-            Came::Starved => self.paused = Some(now),
+            Accepted::Starved => self.paused = Some(now),
         }
     }
 }

@@ -1,0 +1,31 @@
+-- By which listener a connection came, and the secret under which it was opened.
+use Rattle.std.specs.Prelude.{◌≡◌, ℕ, ◌<◌, ◌-◌, ◌^◌, nat_lt, if◌then◌else◌, List, length, slice_get, Option, Some, None, unwrap_or, option_and_then, IsSomeAnd}
+use Rattle.gate_flow.specs.Hosted.{Opened}
+use Rattle.gate_poll.specs.declared.listeners.Listener.{Listener}
+
+-- the secret of the listener at a place among these, if it has one
+abbrev pub listener_secret : List Listener → ℕ → Option (List ℕ)
+listener_secret listeners place = option_and_then (λ listener. listener.secret) (slice_get listeners place)
+
+-- A connection came by a listener, at a place that is said, and was opened under its secret, or under this one where that
+-- has none of its own.
+pub record IsUnder (came : ℕ → ℕ → Type 0) (secret_at : ℕ → Option (List ℕ)) (otherwise : List ℕ) (opened : Opened) : Type 0 where
+  pub place : ℕ
+  pub by : came opened.0 place
+  pub secret : opened.1 ≡ unwrap_or (secret_at place) otherwise
+
+-- the same of those at which is listened, if that is so
+abbrev pub IsUnderSome : {A : Type 0} → (A → ℕ → ℕ → Type 0) → (A → ℕ → Option (List ℕ)) → Option A → List ℕ → Opened → Type 0
+IsUnderSome came secret_at arrivals otherwise opened = IsSomeAnd arrivals (λ a. IsUnder (came a) (secret_at a) otherwise opened)
+
+-- a connection was opened under the secret of one of these listeners
+abbrev pub IsUnderOneOf : List Listener → List ℕ → Opened → Type 0
+IsUnderOneOf listeners otherwise opened = IsUnder (λ id place. place < length listeners) (listener_secret listeners) otherwise opened
+
+-- the connection of an id was opened under a secret
+abbrev pub IsOpenedUnder : ℕ → List ℕ → Opened → Type 0
+IsOpenedUnder id secret opened = (opened.0 ≡ id) × (opened.1 ≡ secret)
+
+-- the place of the listener whose token this is: those of listeners are the 64 largest, and the first has the largest
+abbrev pub listener_place : ℕ → Option ℕ
+listener_place token = if nat_lt (2 ^ 64 - 65) token then Some (2 ^ 64 - 1 - token) else None
