@@ -1,0 +1,3 @@
+mod MovedMarks
+mod MovedWorlds
+mod MissingShares

@@ -1,0 +1,3 @@
+-- Read Moves first. Steps is for private clauses.
+pub mod Moves
+pub mod Steps
