@@ -1,12 +1,13 @@
 #!/bin/sh
 # Lays down the built program, its pages, its manual page, a systemd unit and the unit's user below PREFIX, or removes
 # these files again. It starts nothing, makes no user, and leaves stores alone: what is to be done next is printed.
-# usage: install/install.sh [--program PATH] [--connections MAX] [PREFIX]     (/usr/local without it)
+# usage: install/install.sh [--program PATH] [--commit NAME] [--connections MAX] [PREFIX]     (/usr/local without it)
 #        install/install.sh --remove [PREFIX]
 set -eu
 umask 022
 here=$(cd "$(dirname "$0")" && pwd)
 program=$here/../crates/wozhinnam/out/wozhinnam
+commit=
 connections=900
 remove=
 prefix=/usr/local
@@ -26,6 +27,7 @@ count() {
     test "$1" -ge 1 && test "$1" -le 1000000
 }
 given=
+built=
 while test $# -gt 0; do
     case $1 in
     --help | -h)
@@ -35,6 +37,11 @@ while test $# -gt 0; do
     --remove) remove=yes ;;
     --program)
         program=${2:?usage: --program PATH}
+        built=elsewhere
+        shift
+        ;;
+    --commit)
+        commit=${2:?usage: --commit NAME}
         shift
         ;;
     --connections)
@@ -64,11 +71,12 @@ prefix=${prefix%/}
 bin=$prefix/bin/wozhinnam
 pages=$prefix/share/wozhinnam/pages
 manual=$prefix/share/man/man1/wozhinnam.1
+named=$prefix/share/wozhinnam/commit
 unit=$prefix/lib/systemd/system/wozhinnam.service
 user=$prefix/lib/sysusers.d/wozhinnam.conf
 
 if test -n "$remove"; then
-    rm -f "$bin" "$manual" "$unit" "$user"
+    rm -f "$bin" "$named" "$manual" "$unit" "$user"
     rm -rf "$pages"
     # Folders that nothing else stands in, from the innermost one up. Those that a system has anyway stay there.
     folders='share/wozhinnam share/man/man1 lib/systemd/system lib/systemd lib/sysusers.d'
@@ -88,12 +96,24 @@ test -x "$program" || fail "there is no program $program: build it by \`rt run -
 curl=$(command -v curl) || fail 'there is no curl, by which the unit stops the program'
 tail=$(command -v tail) || fail 'there is no tail, by which the unit waits for its end'
 
+# The commit that the program names: the one that is given, or, of the program of these sources, theirs, where git knows it
+# and nothing that it knows was changed.
+if test -z "$commit" && test -z "$built"; then
+    changed=$(git -C "$here" status --porcelain --untracked-files=no 2> /dev/null) && test -z "$changed" &&
+        commit=$(git -C "$here" rev-parse HEAD 2> /dev/null) || commit=
+fi
+
 install -D -m 755 "$program" "$bin.new"
 mv -f "$bin.new" "$bin"
 # all pages of this version, and none of another
 rm -rf "$pages"
 install -d -m 755 "$pages"
 install -m 644 "$here"/../pages/* "$pages"
+rm -f "$named"
+test -z "$commit" || {
+    echo "$commit" > "$named"
+    chmod 644 "$named"
+}
 install -d -m 755 "${manual%/*}" "${unit%/*}" "${user%/*}"
 "$here/manual.sh" "$bin" > "$manual.new"
 mv -f "$manual.new" "$manual"

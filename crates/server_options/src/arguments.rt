@@ -14,6 +14,7 @@ pub fn program<'a>(alloc: Global) -> Result<Command<'a>, AllocError> {
         .subcommand(serving(alloc)?)?
         .subcommand(checking(alloc)?)?
         .subcommand(repairing(alloc)?)?
+        .subcommand(reshaping(alloc)?)?
         .subcommand(imaging(alloc)?)?
         .subcommand(restoring(alloc)?)
 }
@@ -28,15 +29,23 @@ fn serving<'a>(alloc: Global) -> Result<Command<'a>, AllocError> {
             "FILE",
             "a TOML file with more options, whose keys are their names without the dashes; one that is given here too counts as it is given here",
         ))?
-        .arg(option(alloc, "listen", "ADDR", "where connections are accepted").default_value(
-            "127.0.0.1:3456",
-        ))?
+        .arg(
+            option(
+                alloc,
+                "listen",
+                "ADDR[,secret=PATH]",
+                "where connections are accepted, up to 64 times; with secret=PATH they are opened under the secret in that file, and else under that of --secret-file",
+            )
+            .action(ArgAction::Append)
+            .default_value("127.0.0.1:3456"),
+        )?
         .arg(option(
             alloc,
             "control",
             "ADDR",
             "where GET /status, GET /metrics and POST /stop are answered",
         ))?
+        .arg(control_token_file(alloc))?
         .arg(shares(alloc))?;
     with_log(
         alloc,
@@ -91,6 +100,7 @@ fn with_stores<'a>(alloc: Global, command: Command<'a>) -> Result<Command<'a>, A
         )
         .default_value("1G"))?
         .arg(new_folders(alloc))?
+        .arg(missing_folders(alloc))?
         .arg(no_sync(alloc))?
         .arg(secret_file(alloc))?
         .arg(redis_password_file(alloc))
@@ -174,6 +184,27 @@ fn repairing<'a>(alloc: Global) -> Result<Command<'a>, AllocError> {
         .arg(paths(alloc).help("a folder, or redis:HOST:PORT[/NAME]"))
 }
 
+/// The command line of `reshape`.
+fn reshaping<'a>(alloc: Global) -> Result<Command<'a>, AllocError> {
+    Command::new(alloc, "reshape")
+        .about(
+            "Lays the shares of a grid in its folders, which are given in the order of its servers, into another number of new folders; status 0 only if each is there afterwards.",
+        )
+        .arg(paths(alloc))?
+        .arg(
+            option(
+                alloc,
+                "into",
+                "PATH",
+                "the new folders, one for each server, in their order",
+            )
+            .required(true)
+            .num_args(1..257)
+            .action(ArgAction::Append),
+        )?
+        .arg(no_sync(alloc))
+}
+
 /// The command line of `image`.
 fn imaging<'a>(alloc: Global) -> Result<Command<'a>, AllocError> {
     Command::new(alloc, "image")
@@ -229,6 +260,16 @@ fn secret_file<'a>(alloc: Global) -> Arg<'a> {
     )
 }
 
+/// `--control-token-file`.
+fn control_token_file<'a>(alloc: Global) -> Arg<'a> {
+    option(
+        alloc,
+        "control-token-file",
+        "PATH",
+        "a file whose bytes, 1 to 256 of visible ASCII and without the line's end behind them, are a token: without `Authorization: Bearer TOKEN` a control request is refused",
+    )
+}
+
 /// `--redis-password-file`.
 fn redis_password_file<'a>(alloc: Global) -> Arg<'a> {
     option(
@@ -246,6 +287,17 @@ fn new_folders<'a>(alloc: Global) -> Arg<'a> {
         "new",
         "PATH",
         "the folder of a store that may be begun beside others of its grid; once for each such folder",
+    )
+    .action(ArgAction::Append)
+}
+
+/// `--missing`.
+fn missing_folders<'a>(alloc: Global) -> Arg<'a> {
+    option(
+        alloc,
+        "missing",
+        "PATH",
+        "the folder of a store that is gone or not mounted: the others are served without it, until the program ends; once for each such folder",
     )
     .action(ArgAction::Append)
 }

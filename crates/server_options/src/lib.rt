@@ -9,12 +9,17 @@ mod arguments;
 mod sizes;
 /// Stores and their names.
 mod store_names;
+/// Where connections are accepted, and under which secrets.
+mod listening;
 /// Which lines the log has, and how they are written.
 mod logging;
 /// What the program is asked for.
 mod options;
 
+pub use listening::{ListenWanted, read_listen};
 pub use logging::{LogFormat, LogLevel, named_format, named_level};
-pub use options::{Options, Refusal, Repairing, Restoring, Shares, Task, read_config, read_words};
+pub use options::{
+    Options, Refusal, Repairing, Reshaping, Restoring, Shares, Task, read_config, read_words,
+};
 pub use sizes::read_size;
 pub use store_names::{RedisPlace, StoreWanted, read_redis_place, read_store};

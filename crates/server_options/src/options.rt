@@ -1,15 +1,18 @@
 //! What the program is asked for.
-ghost use Rattle.std.specs.Prelude.{◌≡◌, ◌≢◌, ◌<◌, ◌^◌, ℕ, [], List, None, Some, All, IfOk, IfSome, Err, IsTrue, IsFalse, codes, count_by, length, map, not, option_map, replicate, unwrap_or};
+ghost use Rattle.std.specs.Prelude.{◌≡◌, ◌≢◌, ◌<◌, ◌≤◌, ◌^◌, ℕ, [], List, None, Some, All, Any, IfOk, IfSome, Err, IsTrue, IsFalse, codes, count_by, length, map, not, option_map, replicate, unwrap_or};
 ghost use Rattle.octets.specs.Sharing.{IsSharing};
 ghost use Rattle.server_options.specs.Given.{given_text, given_texts, IsFlagGiven, IsNumberGiven};
 ghost use Rattle.server_options.specs.Folders.{folder_of, IsStoreFolder};
 ghost use Rattle.server_options.specs.Handles.{keeps_handle};
+ghost use Rattle.server_options.specs.Listening.{HasNoComma, listen_text};
 ghost use Rattle.server_options.specs.Logging.{named_level, named_format};
+ghost use Rattle.server_options.specs.Missing.{AreServedWithout, IsPresent, or_missing};
 ghost use Rattle.server_options.specs.Shares.{IsCountOf, IsPairOf};
 ghost use Rattle.server_options.specs.Size.{written_size};
 ghost use Rattle.server_options.specs.declared.store_names.StoreWanted.TheVariants.{Memory};
 
 use crate::arguments::program;
+use crate::listening::{ListenWanted, read_listen};
 use crate::logging::{LogFormat, LogLevel, named_format, named_level};
 use crate::sizes::read_size;
 use crate::store_names::{StoreWanted, read_store};
@@ -21,6 +24,9 @@ use std::str::FromStr;
 /// How many stores there may be.
 const MOST_STORES: usize = 256;
 
+/// How often it may be said where connections are accepted.
+const MOST_LISTENS: usize = 64;
+
 /// What the program is asked for.
 #[derive(Debug, Drop)]
 pub enum Task<'a> {
@@ -30,6 +36,8 @@ pub enum Task<'a> {
     Check(Vec<&'a str>),
     /// To put the shares of a grid back that are missing or rotten.
     Repair(Repairing<'a>),
+    /// To lay the shares of a grid into another number of folders.
+    Reshape(Reshaping<'a>),
     /// To write the image of the grid in these folders.
     Image(Vec<&'a str>),
     /// To lay an image into new folders.
@@ -39,13 +47,15 @@ pub enum Task<'a> {
 /// How connections are to be served.
 #[derive(Debug, Drop)]
 pub struct Options<'a> {
-    /// Where connections are accepted.
-    pub listen: &'a str,
+    /// Where connections are accepted, and under which secrets: 1 to 64 times.
+    pub listen: Vec<ListenWanted<'a>>,
     /// Where control requests are accepted, if anywhere.
     pub control: Option<&'a str>,
+    /// The file whose bytes are the token that control requests have to bring, if they have to bring one.
+    pub control_token_file: Option<&'a str>,
     /// How many of a file's shares give it back, and how many are made of it.
     pub shares: Shares,
-    /// The stores, in the order of the servers.
+    /// The stores, in the order of the servers. Those whose folders were named by `--missing` are missing ones.
     pub stores: Vec<StoreWanted<'a>>,
     /// The folders of stores that may be begun beside others of their grid.
     pub new: Vec<&'a str>,
@@ -96,6 +106,17 @@ pub struct Repairing<'a> {
     pub redis_password_file: Option<&'a str>,
 }
 
+/// The grid whose shares are to be laid into another number of folders.
+#[derive(Debug, Drop)]
+pub struct Reshaping<'a> {
+    /// Its folders, in the order of its servers.
+    pub from: Vec<&'a str>,
+    /// The new folders, in the order of the servers to be.
+    pub into: Vec<&'a str>,
+    /// Whether changes in folders are synced.
+    pub synced: bool,
+}
+
 /// What an image is to be laid into.
 #[derive(Debug, Drop)]
 pub struct Restoring<'a> {
@@ -123,6 +144,8 @@ pub struct Shares {
 pub enum Refusal {
     /// The words are none of the program's, or ask for help or the version.
     Words(Error),
+    /// `--listen` is neither ADDR nor ADDR,secret=PATH, or stands too often.
+    Listen,
     /// `--shares` isn't two numbers as they are wanted.
     Shares,
     /// `--store` names no store, the same names on a Redis server twice, or stands too often.
@@ -131,8 +154,12 @@ pub enum Refusal {
     Room,
     /// `--memory` is no size.
     Memory,
-    /// `--new` is the folder of no store.
+    /// `--new` is the folder of no store, or of one that `--missing` names.
     New,
+    /// `--missing` is the folder of no store.
+    Missing,
+    /// `--missing` names the folder of each store.
+    AllMissing,
 }
 
 impl From<Error> for Refusal {
@@ -160,6 +187,8 @@ pub fn read_words<'a>(alloc: Global, words: &'a [String]) -> Result<Task<'a>, Re
         Ok(Task::Check(texts_of(alloc, given, "paths")?))
     } else if let Some(given) = matches.subcommand_matches("repair") {
         Ok(Task::Repair(read_repairing(alloc, given)?))
+    } else if let Some(given) = matches.subcommand_matches("reshape") {
+        Ok(Task::Reshape(read_reshaping(alloc, given)?))
     } else if let Some(given) = matches.subcommand_matches("image") {
         Ok(Task::Image(texts_of(alloc, given, "paths")?))
     } else if let Some(given) = matches.subcommand_matches("restore") {
@@ -196,14 +225,21 @@ fn read_options<'a>(alloc: Global, given: &ArgMatches<'a>) -> Result<Options<'a>
         o.shares.needed o.shares.made) }
     ensures no_shares { ((k n : ℕ) → IsPairOf (unwrap_or (given_text given.now (codes "shares")) [])
         k n → ¬ (IsSharing k n)) → result ≡ Err Refusal.Shares }
-    ensures listen { IfOk result (λ o.
-        o.listen.now ≡ unwrap_or (given_text given.now (codes "listen")) []) }
+    ensures listen { IfOk result (λ o. map listen_text o.listen.items
+        ≡ unwrap_or (given_texts given.now (codes "listen")) []) }
+    ensures addresses { IfOk result (λ o.
+        All (λ wanted. HasNoComma wanted.address.now) o.listen.items) }
+    ensures missing { IfOk result (λ o. AreServedWithout
+        (unwrap_or (given_texts given.now (codes "missing")) []) o.stores.items) }
+    ensures one_is_present { IfOk result (λ o. Any IsPresent o.stores.items) }
     ensures new { IfOk result (λ o. map (λ path. path.now) o.new.items
         ≡ unwrap_or (given_texts given.now (codes "new")) []) }
     ensures new_is_a_store { IfOk result (λ o.
         All (λ path. IsStoreFolder o.stores.items path.now) o.new.items) }
     ensures control { IfOk result (λ o. option_map (λ s. s.now) o.control
         ≡ given_text given.now (codes "control")) }
+    ensures control_token_file { IfOk result (λ o. option_map (λ s. s.now) o.control_token_file
+        ≡ given_text given.now (codes "control-token-file")) }
     ensures synced { IfOk result (λ o.
         IsFlagGiven given.now (codes "no-sync") (not o.synced)) }
     ensures secret_file { IfOk result (λ o. option_map (λ s. s.now) o.secret_file
@@ -228,7 +264,8 @@ fn read_options<'a>(alloc: Global, given: &ArgMatches<'a>) -> Result<Options<'a>
     let Some(shares) = read_shares(text_of(given, "shares")) else {
         return Err(Refusal::Shares);
     };
-    let stores = read_stores(alloc, given)?;
+    let listen = read_listens(alloc, given)?;
+    let stores = read_served(alloc, given)?;
     let new = texts_of(alloc, given, "new")?;
     if !are_folders_of(&stores, &new) {
         return Err(Refusal::New);
@@ -236,8 +273,9 @@ fn read_options<'a>(alloc: Global, given: &ArgMatches<'a>) -> Result<Options<'a>
     let memory = memory_of(given)?;
     let secret_file = given.get_str("secret-file");
     Ok(Options {
-        listen: text_of(given, "listen"),
+        listen,
         control: given.get_str("control"),
+        control_token_file: given.get_str("control-token-file"),
         shares,
         stores,
         new,
@@ -273,6 +311,24 @@ fn read_repairing<'a>(alloc: Global, given: &ArgMatches<'a>) -> Result<Repairing
         new: may_be_new,
         synced: !has_flag(given, "no-sync"),
         redis_password_file: password_file,
+    })
+}
+
+/// Reads what was given with `reshape`.
+fn read_reshaping<'a>(alloc: Global, given: &ArgMatches<'a>) -> Result<Reshaping<'a>, AllocError>
+    ensures from { IfOk result (λ o. map (λ s. s.now) o.from.items
+        ≡ unwrap_or (given_texts given.now (codes "paths")) []) }
+    ensures into { IfOk result (λ o. map (λ s. s.now) o.into.items
+        ≡ unwrap_or (given_texts given.now (codes "into")) []) }
+    ensures synced { IfOk result (λ o.
+        IsFlagGiven given.now (codes "no-sync") (not o.synced)) }
+{
+    let from = texts_of(alloc, given, "paths")?;
+    let into = texts_of(alloc, given, "into")?;
+    Ok(Reshaping {
+        from,
+        into,
+        synced: !has_flag(given, "no-sync"),
     })
 }
 
@@ -365,6 +421,28 @@ fn texts_of<'a>(
     Ok(texts)
 }
 
+/// Where connections are to be accepted.
+fn read_listens<'a>(alloc: Global, given: &ArgMatches<'a>) -> Result<Vec<ListenWanted<'a>>, Refusal>
+    ensures texts { IfOk result (λ listens. map listen_text listens.items
+        ≡ unwrap_or (given_texts given.now (codes "listen")) []) }
+    ensures addresses { IfOk result (λ listens.
+        All (λ wanted. HasNoComma wanted.address.now) listens.items) }
+    ensures most { IfOk result (λ listens. length listens.items ≤ 64) }
+{
+    let mut listens = Vec::new(alloc);
+    let texts = texts_of(alloc, given, "listen")?;
+    if texts.len() > MOST_LISTENS {
+        return Err(Refusal::Listen);
+    }
+    for text in &texts {
+        let Some(wanted) = read_listen(*text) else {
+            return Err(Refusal::Listen);
+        };
+        listens.push(wanted)?;
+    }
+    Ok(listens)
+}
+
 /// The stores that are wanted: those that are named, and else so many in memory.
 fn read_stores<'a>(alloc: Global, given: &ArgMatches<'a>) -> Result<Vec<StoreWanted<'a>>, Refusal>
     ensures named { given_texts given.now (codes "store") ≢ None →
@@ -377,6 +455,7 @@ fn read_stores<'a>(alloc: Global, given: &ArgMatches<'a>) -> Result<Vec<StoreWan
         × (stores.items ≡ replicate servers (Memory room))))) }
     ensures room { written_size (unwrap_or (given_text given.now (codes "room")) []) ≡ None →
         result ≡ Err Refusal.Room }
+    ensures present { IfOk result (λ stores. All IsPresent stores.items) }
 {
     let Some(room) = read_size(text_of(given, "room")) else {
         return Err(Refusal::Room);
@@ -390,6 +469,53 @@ fn read_stores<'a>(alloc: Global, given: &ArgMatches<'a>) -> Result<Vec<StoreWan
         return Ok(vec![in alloc; StoreWanted::Memory(room); usize::from(servers)]?);
     }
     Ok(stores)
+}
+
+/// The stores that are wanted, of which those are missing ones whose folders are named so.
+fn read_served<'a>(alloc: Global, given: &ArgMatches<'a>) -> Result<Vec<StoreWanted<'a>>, Refusal>
+    ensures missing { IfOk result (λ stores. AreServedWithout
+        (unwrap_or (given_texts given.now (codes "missing")) []) stores.items) }
+    ensures one_is_present { IfOk result (λ stores. Any IsPresent stores.items) }
+{
+    let named = read_stores(alloc, given)?;
+    let missing = texts_of(alloc, given, "missing")?;
+    if !are_folders_of(&named, &missing) {
+        return Err(Refusal::Missing);
+    }
+    let stores = without(alloc, &named, &missing)?;
+    if !is_one_present(&stores) {
+        return Err(Refusal::AllMissing);
+    }
+    Ok(stores)
+}
+
+/// These stores, of which those in folders of these paths are missing ones.
+fn without<'a>(
+    alloc: Global,
+    named: &[StoreWanted<'a>],
+    missing: &[&str],
+) -> Result<Vec<StoreWanted<'a>>, AllocError>
+    ensures { IfOk result (λ stores. stores.items
+        ≡ map (or_missing (map (λ path. path.now) missing.now)) named.now) }
+{
+    let mut stores = Vec::with_capacity(alloc, named.len())?;
+    for store in named {
+        stores.push(store.or_missing(missing))?;
+    }
+    Ok(stores)
+}
+
+/// Whether one of these stores is no missing one.
+fn is_one_present(stores: &[StoreWanted<'_>]) -> bool
+    ensures yes { IsTrue result → Any IsPresent stores.now }
+    ensures no { IsFalse result → All (λ store. ¬ (IsPresent store)) stores.now }
+{
+    for store in stores {
+        if store.missing_folder().is_none() {
+            return true;
+        }
+    }
+    false
 }
 
 /// How many stores there are in memory, where none is named.
@@ -406,8 +532,9 @@ fn read_named<'a>(
     given: &ArgMatches<'a>,
     room: u64,
 ) -> Result<Vec<StoreWanted<'a>>, Refusal>
-    ensures { IfOk result (λ stores. length stores.items
+    ensures count { IfOk result (λ stores. length stores.items
         ≡ length (unwrap_or (given_texts given.now (codes "store")) [])) }
+    ensures present { IfOk result (λ stores. All IsPresent stores.items) }
 {
     let mut stores = Vec::new(alloc);
     let names = texts_of(alloc, given, "store")?;

@@ -1,7 +1,9 @@
 //! Stores and their names.
-ghost use Rattle.std.specs.Prelude.{◌≡◌, ◌↔◌, IsTrue, Some, option_map};
+ghost use Rattle.std.specs.Prelude.{◌≡◌, ◌↔◌, IfSome, IsTrue, Some, bytes_eq, map, option_map};
+ghost use Rattle.std.specs.List.{list_any};
 ghost use Rattle.server_options.specs.Folders.{folder_of};
 ghost use Rattle.server_options.specs.Handles.{keeps_handle};
+ghost use Rattle.server_options.specs.Missing.{IsPresent, has_path, missing_folder_of, or_missing};
 
 use crate::sizes::read_size;
 
@@ -16,6 +18,8 @@ pub enum StoreWanted<'a> {
     Disk(&'a str, u64),
     /// One that has its shares on a Redis server alone.
     Redis(RedisPlace<'a>, u64),
+    /// One whose shares are in this folder, which is missing: the server is to be served without.
+    Missing(&'a str),
 }
 
 /// Where a store has its shares on a Redis server.
@@ -28,7 +32,7 @@ pub struct RedisPlace<'a> {
 }
 
 impl<'a> StoreWanted<'a> {
-    /// The folder in which it keeps its shares, if there is one.
+    /// The folder in which it keeps its shares, if there is one, and it isn't missing.
     pub fn folder(&self) -> Option<&'a str>
         ensures { option_map (λ folder. folder.now) result ≡ folder_of self.now }
     {
@@ -37,6 +41,32 @@ impl<'a> StoreWanted<'a> {
             StoreWanted::Folder(folder, _) => Some(*folder),
             StoreWanted::Disk(folder, _) => Some(*folder),
             StoreWanted::Redis(_, _) => None,
+            StoreWanted::Missing(_) => None,
+        }
+    }
+
+    /// The folder in which its shares are, where that is missing.
+    pub fn missing_folder(&self) -> Option<&'a str>
+        ensures { option_map (λ folder. folder.now) result ≡ missing_folder_of self.now }
+    {
+        match self {
+            StoreWanted::Missing(folder) => Some(*folder),
+            _ => None,
+        }
+    }
+
+    /// The same store, but a missing one where its folder has one of these paths.
+    pub fn or_missing(&self, missing: &[&str]) -> StoreWanted<'a>
+        ensures { result ≡ or_missing (map (λ path. path.now) missing.now) self.now }
+    {
+        match self {
+            StoreWanted::Folder(folder, _) if is_among(missing, *folder) => {
+                StoreWanted::Missing(*folder)
+            }
+            StoreWanted::Disk(folder, _) if is_among(missing, *folder) => {
+                StoreWanted::Missing(*folder)
+            }
+            _ => *self,
         }
     }
 
@@ -64,15 +94,39 @@ impl<'a> StoreWanted<'a> {
     {
         match self {
             StoreWanted::Memory(_) => false,
+            StoreWanted::Missing(_) => false,
             _ => true,
         }
     }
 }
 
+/// Whether a path is one of these.
+fn is_among(paths: &[&str], folder: &str) -> bool
+    ensures { result ≡ has_path (map (λ path. path.now) paths.now) folder.now }
+{
+    any_is(paths, folder)
+}
+
+/// Whether one of these paths is written as another one.
+fn any_is(paths: &[&str], folder: &str) -> bool
+    ensures { result ≡ list_any (λ path. bytes_eq path.now folder.now) paths.now }
+{
+    paths.iter().any(|path| is_path(*path, folder))
+}
+
+/// Whether two paths are written alike.
+fn is_path(path: &str, other: &str) -> bool
+    ensures { result ≡ bytes_eq path.now other.now }
+{
+    path == other
+}
+
 /// A store by its name: `mem:BYTES`, `dir:PATH`, `dir:PATH:BYTES`, `dir:PATH:BYTES,disk` or
 /// `redis:HOST:PORT[/NAME][:BYTES]`. A path with a colon in it, or with `,disk` at its end, wants the bytes behind it. A
 /// host with a colon in it stands in brackets, and a NAME has no colon. BYTES are what [`read_size`] reads.
-pub fn read_store(name: &str, room: u64) -> Option<StoreWanted<'_>> {
+pub fn read_store(name: &str, room: u64) -> Option<StoreWanted<'_>>
+    ensures { IfSome result IsPresent }
+{
     if let Some(bytes) = name.strip_prefix("mem:") {
         return read_memory(bytes);
     }
@@ -94,7 +148,9 @@ pub fn read_redis_place(word: &str) -> Option<RedisPlace<'_>> {
 }
 
 /// A store in memory, by its bytes.
-fn read_memory<'a>(bytes: &str) -> Option<StoreWanted<'a>> {
+fn read_memory<'a>(bytes: &str) -> Option<StoreWanted<'a>>
+    ensures { IfSome result IsPresent }
+{
     match read_size(bytes) {
         Some(room) => Some(StoreWanted::Memory(room)),
         None => None,
@@ -102,7 +158,9 @@ fn read_memory<'a>(bytes: &str) -> Option<StoreWanted<'a>> {
 }
 
 /// A store in a folder, by what follows `dir:`.
-fn read_folder(folder: &str, room: u64) -> Option<StoreWanted<'_>> {
+fn read_folder(folder: &str, room: u64) -> Option<StoreWanted<'_>>
+    ensures { IfSome result IsPresent }
+{
     if let Some(sized) = folder.strip_suffix(",disk") {
         return match read_sized(sized) {
             Some((path, room)) => Some(StoreWanted::Disk(path, room)),
@@ -123,7 +181,9 @@ fn read_folder(folder: &str, room: u64) -> Option<StoreWanted<'_>> {
 }
 
 /// A store on a Redis server, by what follows `redis:`.
-fn read_redis(text: &str, room: u64) -> Option<StoreWanted<'_>> {
+fn read_redis(text: &str, room: u64) -> Option<StoreWanted<'_>>
+    ensures { IfSome result IsPresent }
+{
     match text.split_once('/') {
         Some((address, behind)) => read_named_place(address, behind, room),
         None => read_unnamed_place(text, room),
@@ -131,7 +191,9 @@ fn read_redis(text: &str, room: u64) -> Option<StoreWanted<'_>> {
 }
 
 /// A store under a name on the server at this address: NAME or NAME:BYTES.
-fn read_named_place<'a>(address: &'a str, behind: &'a str, room: u64) -> Option<StoreWanted<'a>> {
+fn read_named_place<'a>(address: &'a str, behind: &'a str, room: u64) -> Option<StoreWanted<'a>>
+    ensures { IfSome result IsPresent }
+{
     if behind.contains(':') {
         return match read_sized(behind) {
             Some((name, room)) => on_redis(address, name, room),
@@ -146,7 +208,9 @@ fn read_named_place<'a>(address: &'a str, behind: &'a str, room: u64) -> Option<
 }
 
 /// A store under no name: HOST:PORT or HOST:PORT:BYTES.
-fn read_unnamed_place(text: &str, room: u64) -> Option<StoreWanted<'_>> {
+fn read_unnamed_place(text: &str, room: u64) -> Option<StoreWanted<'_>>
+    ensures { IfSome result IsPresent }
+{
     if is_address(text) {
         return on_redis(text, "", room);
     }
@@ -157,7 +221,9 @@ fn read_unnamed_place(text: &str, room: u64) -> Option<StoreWanted<'_>> {
 }
 
 /// A store on the Redis server at this address, if it is one.
-fn on_redis<'a>(address: &'a str, name: &'a str, room: u64) -> Option<StoreWanted<'a>> {
+fn on_redis<'a>(address: &'a str, name: &'a str, room: u64) -> Option<StoreWanted<'a>>
+    ensures { IfSome result IsPresent }
+{
     if is_address(address) && !name.contains(':') {
         Some(StoreWanted::Redis(RedisPlace { address, name }, room))
     } else {

@@ -1,8 +1,8 @@
 -- What is told of a settings file that is refused.
 use Rattle.std.specs.Prelude.{◌≡◌, ◌≢◌, ℕ, List, Option, Some, None, MatchBool}
 use Rattle.folder_shelf.specs.SettingsText.{settings_text}
-use Rattle.folder_shelf.specs.Refusals.{Refuses}
-use Rattle.folder_shelf.specs.declared.settings.Settings.{Settings}
+use Rattle.folder_shelf.specs.Refusals.{RefusesSettings}
+use Rattle.folder_shelf.specs.declared.settings.StoreSettings.{StoreSettings}
 use Rattle.folder_shelf.specs.declared.fault.FolderFault.TheVariants as folder
 use Rattle.server_stores.specs.declared.difference.OtherNumber.{OtherNumber}
 use Rattle.server_stores.specs.declared.difference.Difference.{Difference}
@@ -15,7 +15,7 @@ IsTold None there wanted = there ≡ wanted
 IsTold (Some other) there wanted = (other.there ≡ there) × (other.wanted ≡ wanted) × (there ≢ wanted)
 
 -- each number by itself, and of the secret only whether it is another one
-pub record IsDifference (there wanted : Settings) (difference : Difference) : Type 0 where
+pub record IsDifference (there wanted : StoreSettings) (difference : Difference) : Type 0 where
   pub place : IsTold difference.place there.place wanted.place
   pub servers : IsTold difference.servers there.servers wanted.servers
   pub needed : IsTold difference.needed there.needed wanted.needed
@@ -23,14 +23,14 @@ pub record IsDifference (there wanted : Settings) (difference : Difference) : Ty
   pub secret : MatchBool difference.secret (there.secret ≢ wanted.secret) (there.secret ≡ wanted.secret)
 
 -- the text is that of settings that differ so
-pub record DiffersBy (difference : Difference) (text : List ℕ) (wanted : Settings) : Type 0 where
-  pub there : Settings
+pub record DiffersBy (difference : Difference) (text : List ℕ) (wanted : StoreSettings) : Type 0 where
+  pub there : StoreSettings
   pub written : text ≡ settings_text there
   pub differs : IsDifference there wanted difference
 
 -- what each refusal says of the text of a settings file, where other settings are wanted
-abbrev pub Tells : ProgramFault → List ℕ → Settings → Type 0
-Tells (OtherGrid difference) text wanted = Refuses folder.OtherGrid text wanted × DiffersBy difference text wanted
-Tells (Folder fault) text wanted = Refuses fault text wanted
+abbrev pub Tells : ProgramFault → List ℕ → StoreSettings → Type 0
+Tells (OtherGrid difference) text wanted = RefusesSettings folder.OtherGrid text wanted × DiffersBy difference text wanted
+Tells (Folder fault) text wanted = RefusesSettings fault text wanted
 Tells NoMemory text wanted = Unit {0}
 Tells _ text wanted = ⊥

@@ -4,6 +4,6 @@ pub mod Kinds
 pub mod Opened
 pub mod Places
 pub mod Prefix
-pub mod Seen
+pub mod FolderLook
 pub mod Status
 pub mod Tally

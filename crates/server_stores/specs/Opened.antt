@@ -1,6 +1,6 @@
 -- How a store on a Redis server is opened.
 use Rattle.std.specs.Prelude.{◌≡◌, ℕ, List, Option}
-use Rattle.folder_shelf.specs.declared.settings.Settings.{Settings}
+use Rattle.folder_shelf.specs.declared.settings.StoreSettings.{StoreSettings}
 use Rattle.redis_store.specs.declared.connection.Greeting.{Greeting}
 use Rattle.redis_store.specs.declared.fault.ServerFault.{ServerFault}
 use Rattle.redis_store.specs.declared.fault.ServerFault.TheVariants as server
@@ -11,7 +11,7 @@ use Rattle.server_stores.specs.declared.fault.ProgramFault.TheVariants.{Redis, N
 
 -- Its shares stand under NAME, up to 67,108,864 bytes each, and each connection of it says this password, where there is
 -- one, and asks whether the server is of these settings.
-pub record IsOpenedAs (name : List ℕ) (settings : Settings) (password : Option (List ℕ)) (grid : List ℕ) (longest : ℕ) (first : Greeting) : Type 0 where
+pub record IsOpenedAs (name : List ℕ) (settings : StoreSettings) (password : Option (List ℕ)) (grid : List ℕ) (longest : ℕ) (first : Greeting) : Type 0 where
   pub names : grid ≡ prefix name
   pub limit : longest ≡ 67_108_864
   pub told : first.password ≡ password

@@ -5,7 +5,7 @@ use Rattle.folder_shelf.specs.declared.fault.FolderFault.TheVariants as folder
 use Rattle.redis_store.specs.declared.fault.ServerFault.{ServerFault}
 use Rattle.redis_store.specs.declared.fault.ServerFault.TheVariants as server
 use Rattle.server_stores.specs.declared.fault.ProgramFault.{ProgramFault}
-use Rattle.server_stores.specs.declared.fault.ProgramFault.TheVariants.{PollFailed, Arguments, Shares, Stores, Room, Memory, New, NoAddress, AddressInUse, NotAllowed, NotBound, SecretUnread, SecretTooLong, FewHandles, NoMemory, NotPrinted, NotThere, NoneAbove, Empty, Folder, OtherGrid, Twice, NewFolder, DiskFull, NoRoom, NotEmpty, OtherCount, ImageUnread, BadImage, ImageUnwritten, NotWell, RedisUnknown, Redis, PasswordUnread, OptionsUnread, Options, PageUnread, NoPage, LongPage, ManyPages}
+use Rattle.server_stores.specs.declared.fault.ProgramFault.TheVariants.{PollFailed, Arguments, Listen, Shares, Stores, Room, Memory, New, Missing, AllMissing, NoAddress, AddressInUse, NotAllowed, NotBound, SecretUnread, SecretTooLong, TokenUnread, BadToken, FewHandles, NoMemory, NotPrinted, NotThere, NoneAbove, Empty, Folder, OtherGrid, Twice, NewFolder, DiskFull, NoRoom, NotEmpty, OtherCount, ImageUnread, BadImage, ImageUnwritten, NotWell, RedisUnknown, Redis, PasswordUnread, OptionsUnread, Options, PageUnread, NoPage, LongPage, ManyPages}
 
 -- the status where a folder was refused; 20 is between them, that of a full disk
 abbrev pub folder_status : FolderFault → ℕ
@@ -32,17 +32,22 @@ server_status _ = 29
 abbrev pub status_of : ProgramFault → ℕ
 status_of PollFailed = 1
 status_of Arguments = 2
+status_of Listen = 2
 status_of Shares = 2
 status_of Stores = 2
 status_of Room = 2
 status_of Memory = 2
 status_of New = 2
+status_of Missing = 2
+status_of AllMissing = 2
 status_of (NoAddress place) = 3
 status_of (AddressInUse place) = 4
 status_of (NotAllowed place) = 5
 status_of (NotBound place) = 6
 status_of SecretUnread = 7
 status_of SecretTooLong = 8
+status_of TokenUnread = 7
+status_of BadToken = 8
 status_of (FewHandles allowed needed) = 9
 status_of NoMemory = 10
 status_of NotPrinted = 11

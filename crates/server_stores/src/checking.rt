@@ -1,9 +1,9 @@
 //! Looking through the folders of servers.
 use crate::difference::Difference;
 use crate::fault::ProgramFault;
-use crate::folders::{named, names_in, settings_in};
+use crate::folders::{names_in, report_fault, settings_in};
 use crate::places::{has_place, missing_places};
-use folder_shelf::{FolderFault, LONGEST_FILE, Settings, read_file, read_name, share_in};
+use folder_shelf::{FolderFault, LONGEST_FILE, StoreSettings, read_file, read_name, share_in};
 use log::{Log, warn};
 use std::io::ErrorKind;
 use std::rt::Files;
@@ -29,7 +29,7 @@ struct Contents {
 #[derive(Debug, Drop)]
 struct Folders {
     /// The settings of the first one that has any: those of the grid.
-    first: Option<Settings>,
+    first: Option<StoreSettings>,
     /// The places of the grid's servers whose folders were seen.
     places: Vec<u16>,
 }
@@ -50,7 +50,7 @@ pub fn check<R: Files + AllocGlobal + Clone + Drop + Log + Print + Eprint>(
         match check_folder(rt, *folder, &mut seen) {
             Ok(is_well) => are_well = are_well && is_well,
             Err(fault) if fault.is_of_a_store() => {
-                named(rt, *folder, fault);
+                report_fault(rt, *folder, fault);
                 are_well = false;
             }
             Err(fault) => return Err(fault),
@@ -71,7 +71,7 @@ fn check_folder<R: Files + AllocGlobal + Clone + Drop + Log + Print + Eprint>(
 ) -> Result<bool, ProgramFault> {
     let settings = settings_in(rt, folder)?;
     let contents = look_through(rt, folder)?;
-    let Settings {
+    let StoreSettings {
         place,
         servers,
         needed,
@@ -98,10 +98,10 @@ fn check_folder<R: Files + AllocGlobal + Clone + Drop + Log + Print + Eprint>(
 impl Folders {
     /// Adds a folder of these settings. `OtherGrid` where it is another grid's than those before it, `Twice` where it is
     /// of the same server as one of them.
-    fn add(&mut self, settings: &Settings) -> Result<(), ProgramFault> {
+    fn add(&mut self, settings: &StoreSettings) -> Result<(), ProgramFault> {
         let first = self.first.unwrap_or(*settings);
         self.first = Some(first);
-        let wanted = Settings {
+        let wanted = StoreSettings {
             place: settings.place,
             ..first
         };

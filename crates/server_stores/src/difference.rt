@@ -4,7 +4,7 @@ ghost use Rattle.folder_shelf.specs.SettingsText.{settings_text};
 ghost use Rattle.server_stores.specs.Differences.{IsDifference, IsTold, Tells};
 
 use crate::fault::ProgramFault;
-use folder_shelf::{FolderFault, Settings, check_settings, read_settings};
+use folder_shelf::{FolderFault, StoreSettings, check_settings, read_settings};
 use std::alloc::Global;
 use std::fmt;
 
@@ -34,7 +34,7 @@ pub struct Difference {
 
 impl Difference {
     /// In what these settings are others than those that are wanted.
-    pub fn between(there: &Settings, wanted: &Settings) -> Difference
+    pub fn between(there: &StoreSettings, wanted: &StoreSettings) -> Difference
         ensures { IsDifference there.now wanted.now result }
     {
         Difference {
@@ -59,7 +59,7 @@ fn other_number(there: u16, wanted: u16) -> Option<OtherNumber>
 }
 
 /// Refuses the text of a settings file that isn't of these settings, and says why. `NoMemory` where memory is refused.
-pub fn judge(alloc: Global, text: &[u8], wanted: &Settings) -> Result<(), ProgramFault>
+pub fn judge(alloc: Global, text: &[u8], wanted: &StoreSettings) -> Result<(), ProgramFault>
     ensures { MatchResult result (λ _. text.now ≡ settings_text wanted.now)
         (λ fault. Tells fault text.now wanted.now) }
 {

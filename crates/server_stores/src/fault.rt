@@ -19,6 +19,9 @@ pub enum ProgramFault {
     /// A word of the command line, that is none of the program's: it was told already.
     #[error("bad arguments")]
     Arguments,
+    /// `--listen` is neither ADDR nor ADDR,secret=PATH, or stands too often.
+    #[error("--listen wants HOST:PORT or HOST:PORT,secret=PATH, and stands 64 times at most")]
+    Listen,
     /// `--shares` isn't two numbers as they are wanted.
     #[error("--shares wants K,N with 1 <= K <= N <= 256, as in 3,10")]
     Shares,
@@ -31,9 +34,15 @@ pub enum ProgramFault {
     /// `--memory` is no size.
     #[error("--memory wants BYTES: digits, and K, M, G or T behind them for powers of 1,024")]
     Memory,
-    /// `--new` is the folder of no store.
-    #[error("--new wants the PATH of a --store dir:PATH, written as there")]
+    /// `--new` is the folder of no store, or of one that `--missing` names.
+    #[error("--new wants the PATH of a --store dir:PATH, written as there, that no --missing names")]
     New,
+    /// `--missing` is the folder of no store.
+    #[error("--missing wants the PATH of a --store dir:PATH, written as there")]
+    Missing,
+    /// `--missing` names the folder of each store.
+    #[error("--missing names the folder of each --store: nothing is left to be served")]
+    AllMissing,
     /// An address has no such host, or no port.
     #[error("the {0} address is none: HOST:PORT is wanted, and a host that there is")]
     NoAddress(&'static str),
@@ -52,6 +61,12 @@ pub enum ProgramFault {
     /// The secret's file is too long.
     #[error("the secret file has more than 256 bytes")]
     SecretTooLong,
+    /// The file of the control token could not be read.
+    #[error("the control token's file can't be read")]
+    TokenUnread,
+    /// The file of the control token has none.
+    #[error("the control token's file is to have 1 to 256 bytes of visible ASCII")]
+    BadToken,
     /// Fewer handles are allowed than the connections need.
     #[error("{0} open files are allowed, and {1} are needed: raise the limit, or lower --connections")]
     FewHandles(u64, u64),
@@ -89,7 +104,7 @@ pub enum ProgramFault {
     #[error("its shares are more than the room that it is given")]
     NoRoom,
     /// A folder that is to be new isn't empty.
-    #[error("the folder isn't empty: an image is restored into new ones")]
+    #[error("the folder isn't empty: shares are laid into new ones")]
     NotEmpty,
     /// As many folders are wanted as the grid has servers.
     #[error("{0} folders are given, and its grid has {1} servers: each wants one, in their order")]
@@ -178,17 +193,22 @@ impl ProgramFault {
         match self {
             ProgramFault::PollFailed => 1,
             ProgramFault::Arguments => 2,
+            ProgramFault::Listen => 2,
             ProgramFault::Shares => 2,
             ProgramFault::Stores => 2,
             ProgramFault::Room => 2,
             ProgramFault::Memory => 2,
             ProgramFault::New => 2,
+            ProgramFault::Missing => 2,
+            ProgramFault::AllMissing => 2,
             ProgramFault::NoAddress(_) => 3,
             ProgramFault::AddressInUse(_) => 4,
             ProgramFault::NotAllowed(_) => 5,
             ProgramFault::NotBound(_) => 6,
             ProgramFault::SecretUnread => 7,
             ProgramFault::SecretTooLong => 8,
+            ProgramFault::TokenUnread => 7,
+            ProgramFault::BadToken => 8,
             ProgramFault::FewHandles(_, _) => 9,
             ProgramFault::NoMemory => 10,
             ProgramFault::NotPrinted => 11,

@@ -3,7 +3,7 @@ use crate::difference::judge;
 use crate::fault::ProgramFault;
 use crate::locked_shelf::LockedShelf;
 use folder_shelf::{
-    FileShelf, FolderFault, FolderLock, FolderShelf, SETTINGS_TEXT, Settings, read_file,
+    FileShelf, FolderFault, FolderLock, FolderShelf, SETTINGS_TEXT, StoreSettings, read_file,
     read_settings,
 };
 use kept_store::KeptStore;
@@ -35,13 +35,15 @@ pub enum Found {
     New,
     /// The settings that are wanted.
     Ours,
+    /// Nothing was looked for: the server is to be served without it.
+    Missing,
 }
 
 /// How a folder is opened.
 #[derive(Clone, Copy, Debug, PartialEq, Eq)]
 pub struct Opening {
     /// Whose it is to be.
-    pub settings: Settings,
+    pub settings: StoreSettings,
     /// How many bytes of shares it takes.
     pub room: u64,
     /// Whether each change is synced.
@@ -49,7 +51,7 @@ pub struct Opening {
 }
 
 /// Tells a fault of a folder by the folder's name on standard error.
-pub fn named<R: Eprint>(rt: &R, folder: &str, fault: ProgramFault) -> ProgramFault {
+pub fn report_fault<R: Eprint>(rt: &R, folder: &str, fault: ProgramFault) -> ProgramFault {
     if fault.is_of_a_store() {
         let _ = eprintln!(rt; "wozhinnam: {folder}: {fault}");
     }
@@ -61,7 +63,16 @@ fn settings_text_in<R: Files + AllocGlobal>(
     rt: &R,
     folder: &str,
 ) -> Result<Option<Vec<u8>>, FolderFault> {
-    let path = format!(in rt.alloc(); "{folder}/grid")?;
+    settings_text_under(rt, folder, "grid")
+}
+
+/// The text of the settings file that has this name in a folder. `None` where there is none.
+pub fn settings_text_under<R: Files + AllocGlobal>(
+    rt: &R,
+    folder: &str,
+    name: &str,
+) -> Result<Option<Vec<u8>>, FolderFault> {
+    let path = format!(in rt.alloc(); "{folder}/{name}")?;
     match read_file(rt, path.as_str(), SETTINGS_TEXT) {
         Ok(Some(text)) => Ok(Some(text)),
         Ok(None) => Err(FolderFault::SettingsRotten),
@@ -74,7 +85,7 @@ fn settings_text_in<R: Files + AllocGlobal>(
 pub fn settings_in<R: Files + AllocGlobal + Clone + Drop>(
     rt: &R,
     folder: &str,
-) -> Result<Settings, ProgramFault> {
+) -> Result<StoreSettings, ProgramFault> {
     match settings_text_in(rt, folder)? {
         Some(text) => match read_settings(rt.alloc(), &text)? {
             Some(settings) => Ok(settings),
@@ -99,7 +110,7 @@ fn why_no_settings<R: Files + AllocGlobal + Clone + Drop>(rt: &R, folder: &str) 
 pub fn look<R: Files + AllocGlobal + Clone + Drop>(
     rt: &R,
     folder: &str,
-    settings: &Settings,
+    settings: &StoreSettings,
 ) -> Result<Found, ProgramFault> {
     match settings_text_in(rt, folder)? {
         Some(text) => match judge(rt.alloc(), &text, settings) {
@@ -138,9 +149,9 @@ pub fn look_at_new<R: Files + AllocGlobal + Clone + Drop + Eprint>(
     folder: &str,
 ) -> Result<(), ProgramFault> {
     match what_stands_in(rt, folder) {
-        Ok(Standing::Filled) => Err(named(rt, folder, ProgramFault::NotEmpty)),
+        Ok(Standing::Filled) => Err(report_fault(rt, folder, ProgramFault::NotEmpty)),
         Ok(_) => Ok(()),
-        Err(fault) => Err(named(rt, folder, ProgramFault::from(fault))),
+        Err(fault) => Err(report_fault(rt, folder, ProgramFault::from(fault))),
     }
 }
 
@@ -148,11 +159,11 @@ pub fn look_at_new<R: Files + AllocGlobal + Clone + Drop + Eprint>(
 pub fn look_at_old<R: Files + AllocGlobal + Clone + Drop + Eprint>(
     rt: &R,
     folder: &str,
-    settings: &Settings,
+    settings: &StoreSettings,
 ) -> Result<(), ProgramFault> {
     match has_settings(rt, folder, settings) {
         Ok(()) => Ok(()),
-        Err(fault) => Err(named(rt, folder, fault)),
+        Err(fault) => Err(report_fault(rt, folder, fault)),
     }
 }
 
@@ -160,7 +171,7 @@ pub fn look_at_old<R: Files + AllocGlobal + Clone + Drop + Eprint>(
 fn has_settings<R: Files + AllocGlobal + Clone + Drop>(
     rt: &R,
     folder: &str,
-    settings: &Settings,
+    settings: &StoreSettings,
 ) -> Result<(), ProgramFault> {
     match settings_text_in(rt, folder)? {
         Some(text) => judge(rt.alloc(), &text, settings),
@@ -237,7 +248,7 @@ pub fn open_folder<R: Files<File = File> + AllocGlobal + Clone + Drop + Log + Ep
             log_opened(rt, folder, store.held(), store.shelf().shelf());
             Ok(store)
         }
-        Err(fault) => Err(named(rt, folder, fault)),
+        Err(fault) => Err(report_fault(rt, folder, fault)),
     }
 }
 
@@ -253,7 +264,7 @@ pub fn open_on_disk<R: Files<File = File> + AllocGlobal + Clone + Drop + Log + E
             log_opened(rt, folder, store.held(), store.shelf().shelf());
             Ok(store)
         }
-        Err(fault) => Err(named(rt, folder, fault)),
+        Err(fault) => Err(report_fault(rt, folder, fault)),
     }
 }
 
@@ -261,14 +272,14 @@ pub fn open_on_disk<R: Files<File = File> + AllocGlobal + Clone + Drop + Log + E
 pub fn open_to_read<R: Files<File = File> + AllocGlobal + Clone + Drop + Log + Eprint>(
     rt: &R,
     folder: &str,
-    settings: &Settings,
+    settings: &StoreSettings,
 ) -> Result<DiskStore<R>, ProgramFault> {
     match open_store_to_read(rt, folder, settings) {
         Ok(store) => {
             log_opened(rt, folder, store.held(), store.shelf().shelf());
             Ok(store)
         }
-        Err(fault) => Err(named(rt, folder, fault)),
+        Err(fault) => Err(report_fault(rt, folder, fault)),
     }
 }
 
@@ -276,7 +287,7 @@ pub fn open_to_read<R: Files<File = File> + AllocGlobal + Clone + Drop + Log + E
 fn open_store_to_read<R: Files<File = File> + AllocGlobal + Clone + Drop>(
     rt: &R,
     folder: &str,
-    settings: &Settings,
+    settings: &StoreSettings,
 ) -> Result<DiskStore<R>, ProgramFault> {
     let lock = FolderLock::take(rt, folder)?;
     let shelf = FolderShelf::open_to_read(rt.clone()?, folder, settings)?;
@@ -287,7 +298,7 @@ fn open_store_to_read<R: Files<File = File> + AllocGlobal + Clone + Drop>(
 }
 
 /// Logs how many bytes of shares a folder has that was opened, and what of it is left alone.
-fn log_opened<R: Files + AllocGlobal + Clone + Drop + Log>(
+pub fn log_opened<R: Files + AllocGlobal + Clone + Drop + Log>(
     rt: &R,
     folder: &str,
     held: u64,

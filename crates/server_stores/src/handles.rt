@@ -2,13 +2,15 @@
 use std::fs;
 use std::rt::Files;
 
-/// How many handles the program needs besides those of its connections: its streams, listeners and control connections.
+/// How many handles the program needs besides those of its connections: its streams, one listener, that of control
+/// requests and their connections.
 const OTHERS: u64 = 32;
 
-/// How many handles so many connections and so many stores need that keep one: the lock of a folder, or a connection.
-pub fn needed_for(connections: usize, stores: usize) -> u64 {
+/// How many handles so many connections need, and so many others that are kept open: the lock of a store's folder, its
+/// connection to a server, a further listener.
+pub fn needed_for(connections: usize, kept: usize) -> u64 {
     (connections as u64)
-        .saturating_add(stores as u64)
+        .saturating_add(kept as u64)
         .saturating_add(OTHERS)
 }
 

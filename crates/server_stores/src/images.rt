@@ -4,11 +4,11 @@ ghost use Rattle.std.specs.Prelude.{◌≡◌, ◌<◌, ◌≤◌, All, IfOk, Is
 
 use crate::fault::ProgramFault;
 use crate::folders::{
-    DiskStore, Opening, OurShelf, is_full, look_at_new, look_at_old, named, open_on_disk,
-    open_to_read, settings_in,
+    DiskStore, Opening, OurShelf, is_full, look_at_new, look_at_old, open_on_disk, open_to_read,
+    report_fault, settings_in,
 };
 use crate::forgetful_store::forgetful_stores;
-use folder_shelf::{FolderFault, Settings};
+use folder_shelf::{FolderFault, StoreSettings};
 use grid::{Grid, GridFault};
 use log::{Log, info};
 use server_options::Restoring;
@@ -28,26 +28,38 @@ pub fn write_image<R: Files<File = File> + AllocGlobal + Clone + Drop + Log + Pr
     rt: &R,
     folders: &[&str],
 ) -> Result<(), ProgramFault> {
+    let first = grid_in(rt, folders)?;
+    let mut grid = Grid::new(open_each_to_read(rt, folders, &first)?);
+    put_image(rt, folders, &mut grid)
+}
+
+/// The settings of a grid's first server, where these folders are those of its servers, in their order.
+pub(crate) fn grid_in<R: Files + AllocGlobal + Clone + Drop + Eprint>(
+    rt: &R,
+    folders: &[&str],
+) -> Result<StoreSettings, ProgramFault>
+    ensures { IfOk result (λ first. (length folders.now ≡ first.servers)
+        × (first.servers ≤ 256) × (0 < first.servers)) }
+{
     let Some(folder) = folders.first() else {
         return Err(ProgramFault::Arguments);
     };
     let first = match settings_in(rt, *folder) {
         Ok(first) => first,
-        Err(fault) => return Err(named(rt, *folder, fault)),
+        Err(fault) => return Err(report_fault(rt, *folder, fault)),
     };
     if usize::from(first.servers) != folders.len() {
         let fault = ProgramFault::OtherCount(folders.len(), first.servers);
-        return Err(named(rt, *folder, fault));
+        return Err(report_fault(rt, *folder, fault));
     }
     if first.servers > 256 {
         let fault = ProgramFault::Folder(FolderFault::SettingsRotten);
-        return Err(named(rt, *folder, fault));
+        return Err(report_fault(rt, *folder, fault));
     }
     for (place, folder) in (0..first.servers).zip(folders) {
-        look_at_old(rt, *folder, &Settings { place, ..first })?;
+        look_at_old(rt, *folder, &StoreSettings { place, ..first })?;
     }
-    let mut grid = Grid::new(open_each_to_read(rt, folders, &first)?);
-    put_image(rt, folders, &mut grid)
+    Ok(first)
 }
 
 /// Writes the image of a grid on standard output. A folder that failed is told by its name.
@@ -68,7 +80,7 @@ fn put_image<R: Files + AllocGlobal + Clone + Drop + Print + Eprint>(
         Err(GridFault::Down(server)) => match folders.get(server) {
             Some(folder) => {
                 let fault = ProgramFault::Folder(FolderFault::Failed);
-                Err(named(rt, *folder, fault))
+                Err(report_fault(rt, *folder, fault))
             }
             None => Err(ProgramFault::ImageUnwritten),
         },
@@ -80,7 +92,7 @@ fn put_image<R: Files + AllocGlobal + Clone + Drop + Print + Eprint>(
 fn open_all<R: Files<File = File> + AllocGlobal + Clone + Drop + Log + Eprint>(
     rt: &R,
     folders: &[&str],
-    first: &Settings,
+    first: &StoreSettings,
     synced: bool,
 ) -> Result<Vec<DiskStore<R>>, ProgramFault>
     requires { length folders.now ≡ first.now.servers }
@@ -89,7 +101,7 @@ fn open_all<R: Files<File = File> + AllocGlobal + Clone + Drop + Log + Eprint>(
     let mut stores = Vec::with_capacity(rt.alloc(), folders.len())?;
     for place in 0..first.servers {
         let opening = Opening {
-            settings: Settings { place, ..*first },
+            settings: StoreSettings { place, ..*first },
             room: u64::MAX,
             synced,
         };
@@ -102,7 +114,7 @@ fn open_all<R: Files<File = File> + AllocGlobal + Clone + Drop + Log + Eprint>(
 fn open_all_empty<R: Files<File = File> + AllocGlobal + Clone + Drop + Log + Eprint>(
     rt: &R,
     folders: &[&str],
-    first: &Settings,
+    first: &StoreSettings,
     synced: bool,
 ) -> Result<Vec<DiskStore<R>>, ProgramFault>
     requires { length folders.now ≡ first.now.servers }
@@ -117,17 +129,17 @@ fn open_all_empty<R: Files<File = File> + AllocGlobal + Clone + Drop + Log + Epr
 }
 
 /// Opens these folders as those of a grid's servers, in their order, to be read.
-fn open_each_to_read<R: Files<File = File> + AllocGlobal + Clone + Drop + Log + Eprint>(
+pub(crate) fn open_each_to_read<R: Files<File = File> + AllocGlobal + Clone + Drop + Log + Eprint>(
     rt: &R,
     folders: &[&str],
-    first: &Settings,
+    first: &StoreSettings,
 ) -> Result<Vec<DiskStore<R>>, ProgramFault>
     requires { length folders.now ≡ first.now.servers }
     ensures { IfOk result (λ stores. vec_len stores ≡ first.now.servers) }
 {
     let mut stores = Vec::with_capacity(rt.alloc(), folders.len())?;
     for place in 0..first.servers {
-        let settings = Settings { place, ..*first };
+        let settings = StoreSettings { place, ..*first };
         stores.push(open_to_read(rt, folders[usize::from(place)], &settings)?)?;
     }
     Ok(stores)
@@ -154,7 +166,7 @@ pub fn restore<R: Files<File = File> + AllocGlobal + Clone + Drop + Log + Eprint
     }
     try_image(rt, wanted.file, servers)?;
     let shares = wanted.shares;
-    let first = Settings::new(0, servers, shares.needed, shares.made, secret);
+    let first = StoreSettings::new(0, servers, shares.needed, shares.made, secret);
     let stores = open_all_empty(rt, folders, &first, wanted.synced)?;
     move_settings(rt, folders, "grid", "restoring")?;
     let grid = lay_image(rt, wanted, stores)?;
@@ -183,7 +195,7 @@ fn look_at_each<R: Files + AllocGlobal + Clone + Drop + Eprint>(
 }
 
 /// Logs what stands in each folder.
-fn log_restored<R: Files + AllocGlobal + Clone + Drop + Log>(
+pub(crate) fn log_restored<R: Files + AllocGlobal + Clone + Drop + Log>(
     rt: &R,
     folders: &[&str],
     stores: &[DiskStore<R>],
@@ -230,7 +242,7 @@ fn why_not_read(fault: GridFault) -> ProgramFault {
 }
 
 /// Whether no store holds a byte.
-fn hold_nothing<R: Files + AllocGlobal + Clone + Drop>(stores: &[DiskStore<R>]) -> bool
+pub(crate) fn hold_nothing<R: Files + AllocGlobal + Clone + Drop>(stores: &[DiskStore<R>]) -> bool
     ensures { IsTrue result →
         All (λ store. ⟦<ShelfStore<OurShelf<R>> as Store>⟧.held store ≡ 0) stores.now }
 {
@@ -250,7 +262,7 @@ fn tell_filled<R: Files + AllocGlobal + Clone + Drop + Eprint>(
 ) -> ProgramFault {
     for (folder, store) in folders.iter().zip(stores) {
         if store.held() > 0 {
-            return named(rt, *folder, ProgramFault::NotEmpty);
+            return report_fault(rt, *folder, ProgramFault::NotEmpty);
         }
     }
     ProgramFault::NotEmpty
@@ -278,7 +290,7 @@ fn lay_image<R: Files + AllocGlobal + Clone + Drop + Eprint>(
 }
 
 /// Why a folder failed, told by its name.
-fn why_failed<R: Files + AllocGlobal + Eprint>(
+pub(crate) fn why_failed<R: Files + AllocGlobal + Eprint>(
     rt: &R,
     folder: &str,
 ) -> Result<ProgramFault, AllocError> {
@@ -287,7 +299,7 @@ fn why_failed<R: Files + AllocGlobal + Eprint>(
     } else {
         ProgramFault::Folder(FolderFault::Failed)
     };
-    Ok(named(rt, folder, fault))
+    Ok(report_fault(rt, folder, fault))
 }
 
 /// Gives the settings file of each folder another name, and syncs that.
@@ -309,6 +321,6 @@ fn move_settings<R: Files<File = File> + AllocGlobal + Eprint>(
 }
 
 /// Syncs the names in a folder.
-fn sync<R: Files<File = File>>(rt: &R, folder: &str) -> io::Result<()> {
+pub(crate) fn sync<R: Files<File = File>>(rt: &R, folder: &str) -> io::Result<()> {
     File::open(rt, folder)?.sync_all()
 }

@@ -1,4 +1,4 @@
-//! The stores of a server: in memory, in folders, on disks and on Redis servers; looking through folders, and moving images.
+//! The stores of a server: in memory, in folders, on disks and on Redis servers; looking through folders, and moving grids.
 #![tactic(auto)]
 
 /// Why the program ended before it was stopped.
@@ -14,7 +14,7 @@ pub mod difference;
 /// Folders of servers.
 pub mod folders;
 /// What is seen of the folders of a grid before one is opened.
-pub mod seen;
+pub mod folder_look;
 /// Places of a grid's servers.
 pub mod places;
 /// Files of a few bytes.
@@ -25,10 +25,14 @@ mod redis_stores;
 mod stores;
 /// A store that forgets what it is put.
 mod forgetful_store;
+/// A store whose shares are out of reach.
+mod missing_store;
 /// Looking through folders.
 mod checking;
 /// Images of a grid in folders.
 mod images;
+/// Laying a grid's shares into another number of folders.
+mod reshaping;
 /// What was found and done in a repair.
 mod repair_tally;
 /// Repair of a grid, by the names of files in its folders.
@@ -37,5 +41,7 @@ mod repairing;
 pub use checking::check;
 pub use fault::ProgramFault;
 pub use images::{restore, write_image};
+pub use missing_store::unreachable_store;
 pub use repairing::repair;
+pub use reshaping::reshape;
 pub use stores::{ServerStore, open_stores};

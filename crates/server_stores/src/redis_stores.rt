@@ -6,7 +6,7 @@ ghost use Rattle.server_stores.specs.Prefix.{prefix};
 
 use crate::fault::ProgramFault;
 use crate::small_files::read_at_most;
-use folder_shelf::Settings;
+use folder_shelf::StoreSettings;
 use log::{Log, info, warn};
 use octets::Bytes;
 use redis_store::{PacedLink, RedisStore, Server, ServerFault};
@@ -28,7 +28,7 @@ pub struct RedisOpening<'a> {
     /// The server, and the store's name there.
     pub place: RedisPlace<'a>,
     /// Whose it is to be.
-    pub settings: Settings,
+    pub settings: StoreSettings,
     /// The server's password, if it wants one.
     pub password: Option<&'a [u8]>,
 }

@@ -9,12 +9,12 @@ ghost use Rattle.server_stores.specs.Tally.{IsAllWell};
 
 use crate::either_store::EitherStore;
 use crate::fault::ProgramFault;
-use crate::folders::{DiskStore, Opening, look, named, names_in, open_on_disk, settings_in};
+use crate::folder_look::{FolderLook, log_seen, refuse_mistakes};
+use crate::folders::{DiskStore, Opening, look, names_in, open_on_disk, report_fault, settings_in};
 use crate::redis_stores::{OnRedis, RedisOpening, open_on_answering_redis, read_password};
 use crate::repair_tally::{Tally, tell_outcome, tell_refused};
-use crate::seen::{Seen, log_new, refuse_mistakes};
 use base32_text::encode;
-use folder_shelf::{FolderFault, Settings, read_name};
+use folder_shelf::{FolderFault, StoreSettings, read_name};
 use grid::{Grid, GridFault};
 use log::{Log, info};
 use server_options::{Repairing, read_redis_place};
@@ -55,7 +55,7 @@ pub fn repair<
 fn first_settings<R: Files + AllocGlobal + Clone + Drop + Eprint>(
     rt: &R,
     places: &[&str],
-) -> Result<Settings, ProgramFault>
+) -> Result<StoreSettings, ProgramFault>
     ensures { IfOk result (λ first. (length places.now ≡ first.servers)
         × (0 < first.servers) × (first.servers ≤ 256)) }
 {
@@ -67,13 +67,13 @@ fn first_settings<R: Files + AllocGlobal + Clone + Drop + Eprint>(
     };
     if usize::from(settings.servers) != places.len() {
         let fault = ProgramFault::OtherCount(places.len(), settings.servers);
-        return Err(named(rt, folder, fault));
+        return Err(report_fault(rt, folder, fault));
     }
     if settings.servers == 0 || settings.servers > 256 {
         let fault = ProgramFault::Folder(FolderFault::SettingsRotten);
-        return Err(named(rt, folder, fault));
+        return Err(report_fault(rt, folder, fault));
     }
-    Ok(Settings {
+    Ok(StoreSettings {
         place: 0,
         ..settings
     })
@@ -83,14 +83,14 @@ fn first_settings<R: Files + AllocGlobal + Clone + Drop + Eprint>(
 fn first_old<'a, R: Files + AllocGlobal + Clone + Drop + Eprint>(
     rt: &R,
     places: &[&'a str],
-) -> Result<Option<(&'a str, Settings)>, ProgramFault> {
+) -> Result<Option<(&'a str, StoreSettings)>, ProgramFault> {
     for place in places {
         if let Some(folder) = folder_in(*place) {
             match settings_in(rt, folder) {
                 Ok(settings) => return Ok(Some((folder, settings))),
                 Err(ProgramFault::NotThere) => {}
                 Err(ProgramFault::Empty) => {}
-                Err(fault) => return Err(named(rt, folder, fault)),
+                Err(fault) => return Err(report_fault(rt, folder, fault)),
             }
         }
     }
@@ -110,31 +110,30 @@ fn look_at_each<R: Files + AllocGlobal + Clone + Drop + Log + Eprint>(
     rt: &R,
     places: &[&str],
     new: &[&str],
-    first: &Settings,
+    first: &StoreSettings,
 ) -> Result<(), ProgramFault> {
     let mut seen = Vec::with_capacity(rt.alloc(), places.len())?;
     for (at, place) in (0..first.servers).zip(places) {
-        let settings = Settings {
+        let settings = StoreSettings {
             place: at,
             ..*first
         };
         if let Some(folder) = folder_in(*place) {
             match look(rt, folder, &settings) {
-                Ok(found) => seen.push(Seen::new(folder, found, new))?,
-                Err(fault) => return Err(named(rt, folder, fault)),
+                Ok(found) => seen.push(FolderLook::new(folder, found, new))?,
+                Err(fault) => return Err(report_fault(rt, folder, fault)),
             }
         }
     }
     refuse_mistakes(rt, &seen)?;
-    log_new(rt, &seen);
-    Ok(())
+    Ok(log_seen(rt, &seen)?)
 }
 
 /// Opens these places as those of a grid's servers, in their order: the settings are those of the first server.
 fn open_each<R: Files<File = File> + AllocGlobal + Net + Clock + Clone + Drop + Log + Eprint>(
     rt: &R,
     wanted: &Repairing<'_>,
-    first: &Settings,
+    first: &StoreSettings,
 ) -> Result<Vec<MendedStore<R>>, ProgramFault>
     requires { length wanted.now.places.items ≡ first.now.servers }
     ensures { IfOk result (λ stores. vec_len stores ≡ first.now.servers) }
@@ -143,7 +142,7 @@ fn open_each<R: Files<File = File> + AllocGlobal + Net + Clock + Clone + Drop + 
     let said = password.as_deref();
     let mut stores = Vec::with_capacity(rt.alloc(), wanted.places.len())?;
     for place in 0..first.servers {
-        let settings = Settings { place, ..*first };
+        let settings = StoreSettings { place, ..*first };
         let name = wanted.places[usize::from(place)];
         match open_one(rt, name, &settings, wanted.synced, said) {
             Ok(store) => stores.push(store)?,
@@ -157,7 +156,7 @@ fn open_each<R: Files<File = File> + AllocGlobal + Net + Clock + Clone + Drop + 
 fn open_one<R: Files<File = File> + AllocGlobal + Net + Clock + Clone + Drop + Log + Eprint>(
     rt: &R,
     name: &str,
-    settings: &Settings,
+    settings: &StoreSettings,
     synced: bool,
     password: Option<&[u8]>,
 ) -> Result<MendedStore<R>, ProgramFault> {
@@ -239,7 +238,7 @@ fn add_indexes<R: Files + AllocGlobal + Clone + Drop + Eprint>(
     let path = format!(in rt.alloc(); "{folder}/{part}")?;
     let names = match names_in(rt, path.as_str()) {
         Ok(names) => names,
-        Err(fault) => return Err(named(rt, folder, ProgramFault::from(fault))),
+        Err(fault) => return Err(report_fault(rt, folder, ProgramFault::from(fault))),
     };
     for name in &names {
         if let Some(share) = read_name(rt.alloc(), name.as_str())? {

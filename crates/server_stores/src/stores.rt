@@ -1,36 +1,41 @@
 //! The stores of the gateway.
-ghost use Rattle.std.specs.Prelude.{◌≡◌, ℕ, List, Option, IfOk, OnOk};
+ghost use Rattle.std.specs.Prelude.{◌≡◌, ℕ, true, List, Option, IfOk, OnOk};
 ghost use Rattle.std.specs.Option.{option_map};
-ghost use Rattle.server_stores.specs.Kinds.{AreOfKinds, IsOfKind, IsOneMore, IsOnRedis};
+ghost use Rattle.share_store.specs.Schedule.{failing_call, fails_for_good};
+ghost use Rattle.server_stores.specs.Kinds.{AreOfKinds, IsOfKind, IsOneMore, IsOnRedis, IsOutOfReach};
 ghost use Rattle.server_stores.specs.Opened.{IsOpenedAs};
 
 use crate::either_store::EitherStore;
 use crate::fault::ProgramFault;
-use crate::folders::{DiskStore, FolderStore, Opening, look, named, open_folder, open_on_disk};
+use crate::folder_look::{FolderLook, log_seen, refuse_mistakes};
+use crate::folders::{
+    DiskStore, FolderStore, Found, Opening, look, open_folder, open_on_disk, report_fault,
+};
+use crate::missing_store::unreachable_store;
 use crate::redis_stores::{OnRedis, RedisOpening, open_on_redis, read_password};
-use crate::seen::{Seen, log_new, refuse_mistakes};
-use folder_shelf::Settings;
+use folder_shelf::StoreSettings;
 use log::Log;
 use server_options::{Options, RedisPlace, StoreWanted};
-use share_store::MemStore;
+use share_store::{FailAt, MemStore};
 use std::fs::File;
 use std::net::{Net, SocketAddr, ToSocketAddrs};
 use std::rt::Files;
 use std::time::Clock;
 
-/// A server's store: in memory alone, in memory and in a folder, on a disk alone, or on a Redis server.
+/// A server's store: in memory alone, in memory and in a folder, on a disk alone, on a Redis server, or out of reach.
 pub type ServerStore<R> = EitherStore<
     MemStore,
-    EitherStore<FolderStore<R>, EitherStore<DiskStore<R>, OnRedis<R>>>,
+    EitherStore<FolderStore<R>, EitherStore<DiskStore<R>, EitherStore<OnRedis<R>, FailAt>>>,
 >;
 
 /// The stores that are wanted, one for each, opened in their order: the settings are those of the grid's first server.
-/// Each folder is looked at before one is opened, so that none is begun where another is refused, or by mistake.
+/// Each folder is looked at before one is opened, so that none is begun where another is refused, or by mistake. Of one
+/// that is missing nothing is read, made or written.
 /// `Stores` where they are more than servers can be numbered.
 pub fn open_stores<R: Files<File = File> + AllocGlobal + Net + Clock + Clone + Drop + Log + Eprint>(
     rt: &R,
     options: &Options<'_>,
-    first: &Settings,
+    first: &StoreSettings,
 ) -> Result<Vec<ServerStore<R>>, ProgramFault>
     ensures { IfOk result (λ stores. (password : Option (List ℕ))
         × AreOfKinds 0 options.now.stores.items stores.items (λ server place on_redis. IsOpenedAs
@@ -40,7 +45,7 @@ pub fn open_stores<R: Files<File = File> + AllocGlobal + Net + Clock + Clone + D
     let seen = look_at_each(rt, options, first)?;
     refuse_mistakes(rt, &seen)?;
     look_for_twins(rt, &options.stores)?;
-    log_new(rt, &seen);
+    log_seen(rt, &seen)?;
     let password = read_password(rt, options.redis_password_file)?;
     let said = password.as_deref();
     let mut stores = Vec::with_capacity(rt.alloc(), options.stores.len())?;
@@ -49,7 +54,7 @@ pub fn open_stores<R: Files<File = File> + AllocGlobal + Net + Clock + Clone + D
             return Err(ProgramFault::Stores);
         };
         let asked = Asked {
-            settings: Settings { place, ..*first },
+            settings: StoreSettings { place, ..*first },
             synced: options.synced,
             password: said,
         };
@@ -76,20 +81,24 @@ fn open_behind<R: Files<File = File> + AllocGlobal + Net + Clock + Clone + Drop 
     }
 }
 
-/// What stands in each folder. One with other settings, or with files and none, is refused. Nothing is written.
+/// What stands in each folder that isn't missing. One with other settings, or with files and none, is refused. Nothing is
+/// written.
 fn look_at_each<'a, R: Files + AllocGlobal + Clone + Drop + Eprint>(
     rt: &R,
     options: &Options<'a>,
-    first: &Settings,
-) -> Result<Vec<Seen<'a>>, ProgramFault> {
+    first: &StoreSettings,
+) -> Result<Vec<FolderLook<'a>>, ProgramFault> {
     let mut seen = Vec::with_capacity(rt.alloc(), options.stores.len())?;
     for (place, wanted) in (0..first.servers).zip(&options.stores) {
-        let settings = Settings { place, ..*first };
+        let settings = StoreSettings { place, ..*first };
         if let Some(folder) = wanted.folder() {
             match look(rt, folder, &settings) {
-                Ok(found) => seen.push(Seen::new(folder, found, &options.new))?,
-                Err(fault) => return Err(named(rt, folder, fault)),
+                Ok(found) => seen.push(FolderLook::new(folder, found, &options.new))?,
+                Err(fault) => return Err(report_fault(rt, folder, fault)),
             }
+        }
+        if let Some(folder) = wanted.missing_folder() {
+            seen.push(FolderLook::new(folder, Found::Missing, &options.new))?;
         }
     }
     Ok(seen)
@@ -157,7 +166,7 @@ fn leads_to<R: Net + AllocGlobal>(rt: &R, name: &str, address: SocketAddr) -> bo
 #[derive(Clone, Copy)]
 struct Asked<'a> {
     /// Those of the server at hand.
-    settings: Settings,
+    settings: StoreSettings,
     /// Whether changes in folders are synced.
     synced: bool,
     /// That of each Redis server.
@@ -213,6 +222,7 @@ fn open_wanted<R: Files<File = File> + AllocGlobal + Net + Clock + Clone + Drop 
             Err(fault) => Err(fault),
         },
         StoreWanted::Redis(place, _) => open_redis(rt, &asked.on_redis(*place)),
+        StoreWanted::Missing(_) => Ok(out_of_reach(unreachable_store(rt.alloc()))),
     }
 }
 
@@ -227,7 +237,20 @@ fn open_redis<R: Files + AllocGlobal + Net + Clock + Clone + Drop + Log + Eprint
         on_redis.grid on_redis.longest on_redis.connection.first)) }
 {
     match open_on_redis(rt, opening) {
-        Ok(store) => Ok(EitherStore::Second(EitherStore::Second(EitherStore::Second(store)))),
+        Ok(store) => Ok(EitherStore::Second(EitherStore::Second(EitherStore::Second(
+            EitherStore::First(store),
+        )))),
         Err(fault) => Err(fault),
     }
+}
+
+/// The store of a server whose folder is missing.
+fn out_of_reach<R: Files<File = File> + AllocGlobal + Net + Clock + Clone + Drop>(
+    store: FailAt,
+) -> ServerStore<R>
+    requires next { failing_call store ≡ 1 }
+    requires for_good { fails_for_good store ≡ true }
+    ensures { IsOutOfReach result }
+{
+    EitherStore::Second(EitherStore::Second(EitherStore::Second(EitherStore::Second(store))))
 }

@@ -9,36 +9,45 @@ ghost use Rattle.grid.specs.GridState.{states};
 ghost use Rattle.gate_core.specs.ConnectionState.{AreParameters};
 ghost use Rattle.gate_core.specs.Tallies.{nothing_counted};
 
+/// The listeners of connections, each with its secret.
+mod listening;
 /// How the log is written.
 mod log_lines;
+/// The commit that the program was built of.
+mod commit;
+/// The token of the control listener.
+mod control_token;
 /// The file of options.
 mod option_words;
 /// Pages beside the web API.
 mod pages;
-/// The gateway's secret.
+/// The secrets of the gateway and of listeners.
 mod secret;
 /// What the loop of connections runs with.
 mod serving_runtime;
 /// What stores are opened with.
 mod store_runtime;
 
+use crate::commit::read_commit;
+use crate::control_token::read_token;
+use crate::listening::{listen_for_connections, log_secrets};
 use crate::log_lines::log_of;
 use crate::option_words::{name_file, words_of_file};
 use crate::pages::pages_of;
 use crate::secret::Secret;
 use crate::serving_runtime::ServingRuntime;
 use crate::store_runtime::StoreRuntime;
-use folder_shelf::Settings;
+use folder_shelf::StoreSettings;
 use gate_core::{Gateway, GatewayFault, Pages};
 use gate_flow::Lobby;
-use gate_poll::{Limits, ServeFault, serve_on};
+use gate_poll::{Limits, Listener, ServeFault, serve_on};
 use libc::net::{SO_SNDBUF, SOL_SOCKET, setsockopt};
 use log::{Log, info};
 use mio::net::TcpListener;
-use server_board::StatusControl;
+use server_board::{StatusControl, VERSION};
 use server_options::{Options, Refusal, Shares, Task, read_words};
 use server_stores::{
-    ProgramFault, ServerStore, check, handles, open_stores, repair, restore, write_image,
+    ProgramFault, ServerStore, check, handles, open_stores, repair, reshape, restore, write_image,
 };
 use share_store::Store;
 use std::alloc::Global;
@@ -75,6 +84,7 @@ pub fn run<
         Ok(Task::Serve(options)) => serve(rt, &options),
         Ok(Task::Check(folders)) => check(rt, &folders),
         Ok(Task::Repair(wanted)) => repair(rt, &wanted),
+        Ok(Task::Reshape(wanted)) => reshape(rt, &wanted),
         Ok(Task::Image(folders)) => write_image(rt, &folders),
         Ok(Task::Restore(wanted)) => {
             let secret = Secret::read(rt, wanted.secret_file)?;
@@ -90,23 +100,41 @@ pub fn run<
 }
 
 /// What the program ends with where its words were refused. Help and the version are asked for, and no fault.
-fn told(rt: &(impl Print + Eprint), refusal: Refusal) -> Result<(), ProgramFault> {
+fn told<R: Print + Eprint + AllocGlobal + Files<File = File>>(
+    rt: &R,
+    refusal: Refusal,
+) -> Result<(), ProgramFault> {
     let error = match refusal {
+        Refusal::Listen => return Err(ProgramFault::Listen),
         Refusal::Shares => return Err(ProgramFault::Shares),
         Refusal::Stores => return Err(ProgramFault::Stores),
         Refusal::Room => return Err(ProgramFault::Room),
         Refusal::Memory => return Err(ProgramFault::Memory),
         Refusal::New => return Err(ProgramFault::New),
+        Refusal::Missing => return Err(ProgramFault::Missing),
+        Refusal::AllMissing => return Err(ProgramFault::AllMissing),
         Refusal::Words(error) => error,
     };
     if error.kind() == clap::error::ErrorKind::OutOfMemory {
         return Err(ProgramFault::NoMemory);
+    }
+    if error.kind() == clap::error::ErrorKind::DisplayVersion {
+        return tell_version(rt);
     }
     let _ = error.print(rt);
     match error.exit_code() {
         0 => Ok(()),
         _ => Err(ProgramFault::Arguments),
     }
+}
+
+/// Tells the version, and the commit where it is known.
+fn tell_version<R: Print + AllocGlobal + Files<File = File>>(rt: &R) -> Result<(), ProgramFault> {
+    let _ = match read_commit(rt)? {
+        Some(commit) => println!(rt; "wozhinnam {} ({})", VERSION, commit.as_str()),
+        None => println!(rt; "wozhinnam {}", VERSION),
+    };
+    Ok(())
 }
 
 /// The words of the command line, the program's name first. `Arguments` where one of them is no UTF-8.
@@ -145,28 +173,44 @@ fn serve<
     }
     let told = &log_of(rt, options)?;
     let opening = &StoreRuntime::new(rt.clone()?, told.clone()?);
+    let mut answers = control_of(rt, options)?;
     let pages = pages_of(opening, options)?;
     let mut lobby = Lobby::new(open_gateway(opening, options, pages)?);
     let listeners = listen_for(rt, options)?;
     let serving = &ServingRuntime::new(rt, told);
-    serve_with(serving, options, listeners, &mut lobby)
+    serve_with(serving, options, listeners, &mut lobby, &mut answers)
+}
+
+/// What answers control requests: it wants the token that its file has, where one is named.
+fn control_of<R: AllocGlobal + Files<File = File>>(
+    rt: &R,
+    options: &Options<'_>,
+) -> Result<StatusControl, ProgramFault>
+    ensures { IfOk result (λ control.
+        is_some control.token ≡ is_some options.now.control_token_file) }
+{
+    let token = read_token(rt, options.control_token_file)?;
+    let commit = read_commit(rt)?;
+    Ok(StatusControl { token, commit })
 }
 
 /// Where connections are accepted, and control requests if they are anywhere.
 #[derive(Drop)]
 struct Listeners {
-    connections: TcpListener,
+    connections: Vec<Listener>,
     control: Option<TcpListener>,
 }
 
 /// Listens where it is asked for, and prints the addresses.
-fn listen_for<R: Print + Net>(rt: &R, options: &Options<'_>) -> Result<Listeners, ProgramFault>
+fn listen_for<R: Print + Eprint + AllocGlobal + Files + Net>(
+    rt: &R,
+    options: &Options<'_>,
+) -> Result<Listeners, ProgramFault>
     ensures { IfOk result (λ listeners. is_some listeners.control ≡ is_some options.now.control) }
 {
-    let connections = listen(rt, options.listen, "listening")?;
-    bound_buffer(&connections);
+    let connections = listen_for_connections(rt, options)?;
     let control = listen_for_control(rt, options)?;
-    tell(rt, "listening on", &connections)?;
+    tell_each(rt, &connections)?;
     if let Some(listener) = &control {
         tell(rt, "control on", listener)?;
     }
@@ -174,6 +218,14 @@ fn listen_for<R: Print + Net>(rt: &R, options: &Options<'_>) -> Result<Listeners
         connections,
         control,
     })
+}
+
+/// Prints the addresses where connections are accepted, in the order of their listeners.
+fn tell_each<R: Print>(rt: &R, listeners: &[Listener]) -> Result<(), ProgramFault> {
+    for listener in listeners {
+        tell(rt, "listening on", &listener.socket)?;
+    }
+    Ok(())
 }
 
 /// Bounds what the system buffers of each connection that comes here, which takes it over from its listener. By itself it
@@ -210,21 +262,16 @@ fn serve_with<R: AllocGlobal + Clock + CpuClock + Net + Log, S: Store>(
     options: &Options<'_>,
     listeners: Listeners,
     lobby: &mut Lobby<S>,
+    answers: &mut StatusControl,
 ) -> Result<(), ProgramFault> {
     let Listeners {
         connections,
         control,
     } = listeners;
     info!(serving; "started: at most {} connections, {} bytes of requests and replies", options.connections, options.memory);
+    log_secrets(serving, &connections);
     let limits = limits_of(options);
-    match serve_on(
-        serving,
-        connections,
-        control,
-        &limits,
-        lobby,
-        &mut StatusControl,
-    ) {
+    match serve_on(serving, connections, control, &limits, lobby, answers) {
         Ok(counts) => {
             info!(serving; "stopped: {} connections were opened", counts.opened);
             Ok(())
@@ -289,7 +336,7 @@ fn open_under<R: AllocGlobal + Files<File = File> + Net + Clock + Clone + Drop +
         return Err(ProgramFault::Stores);
     };
     let Shares { needed, made } = options.shares;
-    let first = Settings::new(0, servers, needed, made, secret.bytes());
+    let first = StoreSettings::new(0, servers, needed, made, secret.bytes());
     let stores = open_stores(rt, options, &first)?;
     gateway_over(rt.alloc(), options.shares, stores, secret.bytes())
 }
@@ -327,13 +374,16 @@ fn gateway_over<S: Store + Drop>(
     }
 }
 
-/// The fault that there are fewer handles than connections, locks of folders and connections to Redis servers need, if
-/// the system says so.
+/// The fault that there are fewer handles than connections, listeners, locks of folders and connections to Redis servers
+/// need, if the system says so.
 fn few_handles<R: AllocGlobal + Files>(rt: &R, options: &Options<'_>) -> Option<ProgramFault>
     ensures few { IfSome result (λ fault. (allowed needed : ℕ)
         × (fault ≡ ProgramFault.FewHandles allowed needed) × (allowed < needed)) }
 {
-    let needed = handles::needed_for(options.connections, options.with_handles());
+    let kept = options
+        .with_handles()
+        .saturating_add(options.listen.len().saturating_sub(1));
+    let needed = handles::needed_for(options.connections, kept);
     let allowed = handles::allowed(rt)?;
     judge_handles(allowed, needed)
 }

@@ -1,4 +1,4 @@
-//! The gateway's secret.
+//! The secrets of the gateway and of listeners.
 ghost use Rattle.std.specs.Prelude.{◌≡◌, ◌<◌, ◌≤◌, [], length, is_some, false, Err, IfOk, IsOkAnd};
 
 use server_stores::ProgramFault;
@@ -31,6 +31,13 @@ impl<'a> Secret<'a> {
             Ok(bytes) => Ok(Secret { file, bytes }),
             Err(fault) => Err(fault),
         }
+    }
+
+    /// Its bytes, which aren't copied.
+    pub fn into_bytes(self) -> Vec<u8>
+        ensures { result ≡ self.entry.bytes }
+    {
+        self.bytes
     }
 
     /// Its bytes.

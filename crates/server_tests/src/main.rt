@@ -3,9 +3,15 @@
 //! own. The program itself does nothing.
 #![tactic(auto)]
 
+/// Stores whose folders are missing.
+#[cfg(test)]
+mod missing;
 /// Words, control requests, figures, and one folder.
 #[cfg(test)]
 mod serving;
+/// A grid in folders, laid into others.
+#[cfg(test)]
+mod reshaping;
 
 /// Nothing: the tests are all that this crate has.
 fn main() {}

@@ -2,14 +2,14 @@
 ghost use Rattle.std.specs.Prelude.{◌<◌, length, IfOk};
 ghost use Rattle.std.specs.Rc.{rc_slice_items};
 
-use folder_shelf::{FolderFault, Settings};
+use folder_shelf::{FolderFault, StoreSettings};
 use gate_core::Tally;
-use gate_poll::Counts;
+use gate_poll::{Counts, Latencies, RequestKind};
 use server_board::figures::StoreFigures;
-use server_board::{Asked, Method, asked_by, metrics_text, status_text};
+use server_board::{Asked, Commit, ControlToken, Method, asked_by, metrics_text, status_text};
 use server_options::{
-    LogFormat, LogLevel, Options, RedisPlace, Restoring, Shares, StoreWanted, Task, read_config,
-    read_size, read_store, read_words,
+    ListenWanted, LogFormat, LogLevel, Options, RedisPlace, Refusal, Restoring, Shares,
+    StoreWanted, Task, read_config, read_size, read_store, read_words,
 };
 use server_stores::difference::Difference;
 use server_stores::folders::{Found, Opening, look, open_folder, open_on_disk};
@@ -19,6 +19,7 @@ use share_store::Store;
 use std::alloc::Global;
 use std::rc::RcSlice;
 use std::test::Fail;
+use std::time::Duration;
 use std::{env, fs, process};
 
 /// Two lines of a system's file of limits.
@@ -54,8 +55,12 @@ fn options_have_defaults(rt: HostRuntime) -> Result<(), Fail> {
     let Ok(Task::Serve(options)) = read_words(rt.alloc(), &words) else {
         return Err(Fail::from("no options"));
     };
-    assert!(rt; options.listen == "127.0.0.1:3456");
+    assert_eq!(rt;
+        options.listen.as_slice(),
+        [listened("127.0.0.1:3456", None)].as_slice()
+    );
     assert!(rt; options.control.is_none());
+    assert!(rt; options.control_token_file.is_none());
     assert_eq!(rt;
         options.shares,
         Shares {
@@ -94,13 +99,49 @@ fn restored_with(alloc: Global, words: &[String]) -> Result<Restoring<'_>, Fail>
     }
 }
 
+/// Where connections are accepted.
+fn listened<'a>(address: &'a str, secret_file: Option<&'a str>) -> ListenWanted<'a> {
+    ListenWanted {
+        address,
+        secret_file,
+    }
+}
+
+#[test]
+fn listeners_may_have_secrets(rt: HostRuntime) -> Result<(), Fail> {
+    let words = words_of(
+        rt.alloc(),
+        &[
+            "serve",
+            "--listen",
+            "a:1,secret=/one,two",
+            "--listen",
+            "b:2",
+        ],
+    )?;
+    assert_eq!(rt;
+        served_with(rt.alloc(), &words)?.listen.as_slice(),
+        [listened("a:1", Some("/one,two")), listened("b:2", None)].as_slice()
+    );
+    for text in ["a:1,", "a:1,secret=", "a:1,secrets=/x", "a:1,/x"] {
+        let words = words_of(rt.alloc(), &["serve", "--listen", text])?;
+        assert!(rt; matches!(read_words(rt.alloc(), &words), Err(Refusal::Listen)));
+    }
+    Ok(())
+}
+
 #[test]
 fn each_text_that_is_given_is_taken(rt: HostRuntime) -> Result<(), Fail> {
     for value in ["127.0.0.1:1", "[::1]:2"] {
         let words = words_of(rt.alloc(), &["serve", "--listen", value])?;
-        assert!(rt; served_with(rt.alloc(), &words)?.listen == value);
+        assert_eq!(rt;
+            served_with(rt.alloc(), &words)?.listen.as_slice(),
+            [listened(value, None)].as_slice()
+        );
         let words = words_of(rt.alloc(), &["serve", "--control", value])?;
         assert!(rt; served_with(rt.alloc(), &words)?.control == Some(value));
+        let words = words_of(rt.alloc(), &["serve", "--control-token-file", value])?;
+        assert!(rt; served_with(rt.alloc(), &words)?.control_token_file == Some(value));
         let words = words_of(rt.alloc(), &["serve", "--secret-file", value])?;
         assert!(rt; served_with(rt.alloc(), &words)?.secret_file == Some(value));
         let words = words_of(rt.alloc(), &["serve", "--redis-password-file", value])?;
@@ -430,7 +471,7 @@ fn a_folder_outlives_the_store_over_it(rt: HostRuntime) -> Result<(), Fail> {
     let folder = format!(in alloc; "{}/wozhinnam-{}", top.as_str(), process::id(rt.process()))?;
     let folder = folder.as_str();
     let opening = Opening {
-        settings: Settings::new(0, 1, 1, 1, b"secret"),
+        settings: StoreSettings::new(0, 1, 1, 1, b"secret"),
         room: 1000,
         synced: false,
     };
@@ -441,7 +482,7 @@ fn a_folder_outlives_the_store_over_it(rt: HostRuntime) -> Result<(), Fail> {
         let again = open_folder(&rt, folder, &opening);
         assert!(rt; again.err() == Some(ProgramFault::Folder(FolderFault::InUse)));
     }
-    let other = Settings::new(0, 1, 1, 1, b"other");
+    let other = StoreSettings::new(0, 1, 1, 1, b"other");
     let another_secret = Difference {
         place: None,
         servers: None,
@@ -465,14 +506,14 @@ fn a_folder_outlives_the_store_over_it(rt: HostRuntime) -> Result<(), Fail> {
 
 #[test]
 fn what_differs_is_told(rt: HostRuntime) -> Result<(), Fail> {
-    let there = Settings::new(1, 3, 2, 3, b"secret");
-    let wanted = Settings::new(0, 1, 4, 10, b"other");
+    let there = StoreSettings::new(1, 3, 2, 3, b"secret");
+    let wanted = StoreSettings::new(0, 1, 4, 10, b"other");
     let text = format!(in rt.alloc(); "{}", Difference::between(&there, &wanted))?;
     assert!(rt;
         text.as_str()
             == "the folder belongs to another grid: place 1 and not 0; 3 servers and not 1; 2 shares needed and not 4; 3 shares made and not 10; another secret"
     );
-    let wanted = Settings::new(1, 3, 2, 5, b"secret");
+    let wanted = StoreSettings::new(1, 3, 2, 5, b"secret");
     let text = format!(in rt.alloc(); "{}", Difference::between(&there, &wanted))?;
     assert!(rt;
         text.as_str()
@@ -538,6 +579,45 @@ fn control_requests_are_told_apart(rt: HostRuntime) {
     assert_eq!(rt; asked_by(get, b"/stop/".as_slice()), Asked::Nothing);
 }
 
+#[test]
+fn tokens_are_visible_lines(rt: HostRuntime) -> Result<(), Fail> {
+    for (bytes, is_one) in [
+        (b"secret\n".as_slice(), true),
+        (b"!~".as_slice(), true),
+        (b"".as_slice(), false),
+        (b"\n".as_slice(), false),
+        (b"two words\n".as_slice(), false),
+        (b"secret\r\n".as_slice(), false),
+        (b"secret\n\n".as_slice(), false),
+        (b"\xc3\xa9".as_slice(), false),
+        ([b'a'; 256].as_slice(), true),
+        ([b'a'; 257].as_slice(), false),
+    ] {
+        assert_eq!(rt; ControlToken::of(rt.alloc(), bytes)?.is_some(), is_one);
+    }
+    Ok(())
+}
+
+#[test]
+fn commits_are_hexadecimal(rt: HostRuntime) -> Result<(), Fail> {
+    for (bytes, is_one) in [
+        (
+            b"0123456789abcdef0123456789abcdef01234567\n".as_slice(),
+            true,
+        ),
+        (b"0123abc".as_slice(), true),
+        (b"0123ab\n".as_slice(), false),
+        (b"0123abg".as_slice(), false),
+        (b"0123abc-dirty\n".as_slice(), false),
+        (b"".as_slice(), false),
+        ([b'f'; 64].as_slice(), true),
+        ([b'f'; 65].as_slice(), false),
+    ] {
+        assert_eq!(rt; Commit::named_by(rt.alloc(), bytes)?.is_some(), is_one);
+    }
+    Ok(())
+}
+
 /// Figures that are all different.
 fn counts() -> Counts {
     Counts {
@@ -554,7 +634,16 @@ fn counts() -> Counts {
         bytes_in: 9,
         bytes_out: 10,
         seconds: 24,
+        latencies: latencies(),
     }
+}
+
+/// Times of two requests that were got, one of them at a bound.
+fn latencies() -> Latencies {
+    let mut latencies = Latencies::new();
+    latencies.observes(RequestKind::Get, Duration::from_millis(10));
+    latencies.observes(RequestKind::Get, Duration::from_micros(2_000_500));
+    latencies
 }
 
 /// Replies of which each status has another number.
@@ -582,7 +671,7 @@ const STORES: [StoreFigures; 1] = [StoreFigures {
 
 #[test]
 fn the_status_is_json(rt: HostRuntime) -> Result<(), Fail> {
-    let text = status_text(rt.alloc(), &counts(), &tally(), STORES.as_slice())?;
+    let text = status_text(rt.alloc(), None, &counts(), &tally(), STORES.as_slice())?;
     assert!(rt;
         text.as_str()
             == "{\"connections\":{\"accept_paused\":8,\"failed\":4,\"late\":5,\"open\":1,\"opened\":2,\"over\":3,\"refused\":7,\"stopped\":6,\"waiting\":26},\"kept\":25,\"received\":9,\"replies\":{\"200\":14,\"206\":15,\"304\":27,\"400\":16,\"404\":17,\"405\":18,\"410\":19,\"413\":20,\"416\":21,\"501\":22,\"503\":23},\"sent\":10,\"stores\":[{\"failures\":13,\"held\":12,\"room\":11}],\"uptime_seconds\":24,\"version\":\"0.1.0\"}"
@@ -592,9 +681,21 @@ fn the_status_is_json(rt: HostRuntime) -> Result<(), Fail> {
 
 #[test]
 fn metrics_have_a_line_each(rt: HostRuntime) -> Result<(), Fail> {
-    let text = metrics_text(rt.alloc(), &counts(), &tally(), STORES.as_slice())?;
+    let commit = Commit::named_by(rt.alloc(), b"0123abc\n")?;
+    let text = metrics_text(
+        rt.alloc(),
+        commit.as_ref(),
+        &counts(),
+        &tally(),
+        STORES.as_slice(),
+    )?;
     let wanted = [
-        "# TYPE wozhinnam_build_info gauge\nwozhinnam_build_info{version=\"0.1.0\"} 1\n",
+        "# TYPE wozhinnam_build_info gauge\nwozhinnam_build_info{version=\"0.1.0\",commit=\"0123abc\"} 1\n",
+        "# TYPE wozhinnam_request_seconds histogram\nwozhinnam_request_seconds_bucket{kind=\"get\",le=\"0.001\"} 0\n",
+        "{kind=\"get\",le=\"0.003\"} 0\nwozhinnam_request_seconds_bucket{kind=\"get\",le=\"0.01\"} 1\n",
+        "{kind=\"get\",le=\"1\"} 1\nwozhinnam_request_seconds_bucket{kind=\"get\",le=\"3\"} 2\nwozhinnam_request_seconds_bucket{kind=\"get\",le=\"10\"} 2\n",
+        "wozhinnam_request_seconds_bucket{kind=\"get\",le=\"+Inf\"} 2\nwozhinnam_request_seconds_sum{kind=\"get\"} 2.0105\nwozhinnam_request_seconds_count{kind=\"get\"} 2\n",
+        "wozhinnam_request_seconds_sum{kind=\"put\"} 0\nwozhinnam_request_seconds_count{kind=\"put\"} 0\n",
         "# TYPE wozhinnam_uptime_seconds gauge\nwozhinnam_uptime_seconds 24\n",
         "# HELP wozhinnam_connections Connections that are open.\n",
         "# TYPE wozhinnam_connections gauge\nwozhinnam_connections 1\n",

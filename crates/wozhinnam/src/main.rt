@@ -1,10 +1,12 @@
 //! The web gateway as a program that runs until it is stopped, and the care of the folders in which it keeps shares.
 //!
-//!     wozhinnam serve [--config FILE] [--listen ADDR] [--control ADDR] [--shares K,N] [--store STORE]..
-//!                     [--new PATH].. [--servers COUNT] [--room BYTES] [--no-sync] [--secret-file PATH]
+//!     wozhinnam serve [--config FILE] [--listen ADDR[,secret=PATH]].. [--control ADDR] [--shares K,N]
+//!                     [--store STORE].. [--new PATH].. [--servers COUNT] [--room BYTES] [--no-sync] [--secret-file PATH]
 //!                     [--redis-password-file PATH] [--connections MAX] [--idle SECONDS]
 //!                     [--log-level LEVEL] [--log-format FORMAT]
 //!     wozhinnam check PATH..
+//!     wozhinnam repair [--new PATH].. [--no-sync] [--redis-password-file PATH] PATH..
+//!     wozhinnam reshape [--no-sync] PATH.. --into PATH..
 //!     wozhinnam image PATH.. > FILE
 //!     wozhinnam restore [--shares K,N] [--secret-file PATH] [--no-sync] FILE PATH..
 #![tactic(auto)]

@@ -36,3 +36,7 @@ returns-clause-no_shares c = λ none.
 pub returns-in_err-memory-clause-no_shares : goal.returns-in_err-memory-clause-no_shares
 returns-in_err-memory-clause-no_shares c = λ none.
     absurd (not_none _ _ c.in-Some.shares c.text_of.ensures c.in-Some.ensures.pair c.in-Some.ensures.sharing none)
+
+pub returns-in_err-listen-clause-no_shares : goal.returns-in_err-listen-clause-no_shares
+returns-in_err-listen-clause-no_shares c = λ none.
+    absurd (not_none _ _ c.in-Some.shares c.text_of.ensures c.in-Some.ensures.pair c.in-Some.ensures.sharing none)

@@ -12,7 +12,7 @@ one_more count xs i x before is below none =
 
 pub loop-store-preserved : goal.loop-store-preserved
 loop-store-preserved g c =
-    one_more (λ store. store.index.held) c.args.stores.now c.loop-store.store-index c.store-item.result c.loop-store.invariant c.store-item.is
+    one_more (λ store. store.sizes.held) c.args.stores.now c.loop-store.store-index c.store-item.result c.loop-store.invariant c.store-item.is
     c.loop-store-test.true (sym c.held.ensures ∙ c.if-held-ne0.false)
 
 pub returns : goal.returns

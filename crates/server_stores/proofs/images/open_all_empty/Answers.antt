@@ -7,5 +7,5 @@ of_the_same : {X : Type 0} (P : X → Type 0) {xs ys : List X} → xs ≡ ys →
 of_the_same P is all = subst (λ (zs : List _). All P zs) is all
 
 pub returns-clause-empty : goal.returns-clause-empty
-returns-clause-empty g c = of_the_same (λ store. store.index.held ≡ 0) c.deref.ensures.value
+returns-clause-empty g c = of_the_same (λ store. store.sizes.held ≡ 0) c.deref.ensures.value
     (c.hold_nothing.ensures c.if-not-hold_nothing.false)

@@ -2,7 +2,7 @@ use Rattle.std.proofs.Common.{◌≡◌, ◌≢◌, ◌<◌, ◌+◌, ℕ, List,
 use Rattle.std.specs.List.{AllWithin}
 use Rattle.std.proofs.lemmas.List.{get_or_default}
 use Rattle.std.proofs.lemmas.List.Elements.{AllWithin-more}
-use Rattle.server_stores.proofs.seen.is_among.Goals as goal
+use Rattle.server_stores.proofs.folder_look.is_among.Goals as goal
 
 -- what holds of the elements before one, and of it
 one_more : {X : Type 0} (P : X → Type 0) (xs : List X) (i : ℕ) (x : X) → AllWithin P xs 0 i → i < length xs → P (get_or xs i x)
