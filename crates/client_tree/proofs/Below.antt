@@ -1,14 +1,14 @@
 -- Files that are stored below children.
-use Rattle.std.proofs.Common.{◌≡◌, ℕ, List, [], ◌∷◌, ◌++◌, Some, refl, sym, ap, ◌∙◌, subst, append-nil, append_assoc, arith}
+use Rattle.std.proofs.Common.{◌≡◌, ℕ, List, [], ◌∷◌, ◌++◌, refl, sym, ap, ◌∙◌, subst, append-nil, append_assoc, arith}
 use Rattle.std.specs.Prelude.{Contains, flat_map}
 use Rattle.std.proofs.lemmas.List.Concat.{flat_map-append}
-use Rattle.std.proofs.lemmas.List.Elements.{All-nil, All-append, All-cons, All-weaker, All-contains, Contains-append_left, Contains-append_right}
+use Rattle.std.proofs.lemmas.List.Elements.{All-nil, All-append, All-cons, All-weaker, Contains-append_left, Contains-append_right}
 use Rattle.caps.specs.declared.cap.Cap.{Cap}
-use Rattle.path_walk.specs.Walk.{cap_named}
 use Rattle.client_core.specs.Way.{IsChildOf}
 use Rattle.client_tree.specs.Runs.{File, AreGroups}
 use Rattle.client_tree.specs.Stored.{stored_name, IsStoredAt, IsStoredFile, IsStoredBelow, HasChildren}
 use Rattle.client_tree.specs.declared.children.Child.{Child}
+use Rattle.client_tree.proofs.ChildLemmas.{among_is_child}
 
 -- no groups, one of them, those of which more is known, and those behind others
 pub no_groups : (holds : List File → Type 0) → AreGroups holds []
@@ -39,13 +39,7 @@ own_stored cap path files stored =
 pub stored_above : (cap : Cap) (children : List Child) (path : List (List ℕ)) (files : List File) → HasChildren children cap → IsStoredBelow children path files → IsStoredFile cap path files
 stored_above cap children path files has below =
     let child : Child = below.child in
-    let named : cap_named child.stored has.entries ≡ Some child.cap =
-    All-contains (λ (c : Child). cap_named c.stored has.entries ≡ Some c.cap) children child has.named below.among in
-    let is : IsChildOf cap (stored_name child.name) child.cap = record {
-      entries = has.entries;
-      of_cap = has.of_cap;
-      found = ap (λ (n : List ℕ). cap_named n has.entries) (sym below.stored) ∙ named;
-    } in
+    let is : IsChildOf cap (stored_name child.name) child.cap = among_is_child cap children child has below.among below.stored in
     record {
       names = child.name ∷ below.bound.names;
       end = below.bound.end;

@@ -1,13 +1,13 @@
 -- Files whose caps a source knew, and steps in which nothing is read.
-use Rattle.std.proofs.Common.{◌≡◌, ℕ, List, [], ◌∷◌, ◌++◌, Some, refl, sym, ap, ◌∙◌, inl, inr, append-nil, append_assoc}
-use Rattle.std.proofs.lemmas.List.Elements.{All-contains, Contains-append_left, Contains-append_right, Contains-push}
+use Rattle.std.proofs.Common.{◌≡◌, ℕ, List, [], ◌∷◌, ◌++◌, refl, sym, ap, ◌∙◌, inl, inr, append-nil, append_assoc}
+use Rattle.std.proofs.lemmas.List.Elements.{Contains-append_left, Contains-append_right, Contains-push}
 use Rattle.caps.specs.declared.cap.Cap.{Cap}
-use Rattle.path_walk.specs.Walk.{cap_named}
 use Rattle.client_core.specs.Way.{IsChildOf}
 use Rattle.client_tree.specs.Runs.{File, FileRun, none, rests, passes, Passes}
 use Rattle.client_tree.specs.Stored.{stored_name, HasChildren}
 use Rattle.client_tree.specs.Known.{IsKnownFile, IsKnownBelow, IsIdle, IsKnownChild}
 use Rattle.client_tree.specs.declared.children.Child.{Child}
+use Rattle.client_tree.proofs.ChildLemmas.{among_is_child}
 
 -- a run of which more is known between the files
 rested_run : {A : Type 0} {step : A → File → A → Type 0} (rest other : A → A → Type 0) → ((old new : A) → rest old new → other old new)
@@ -52,13 +52,7 @@ known_last children child path file known stored led = record { child = child; a
 pub known_above : (cap : Cap) (children : List Child) (path file : List (List ℕ)) (known : Cap) → HasChildren children cap → IsKnownBelow children path file known → IsKnownFile cap path file known
 known_above cap children path file known has below =
     let child : Child = below.child in
-    let named : cap_named child.stored has.entries ≡ Some child.cap =
-    All-contains (λ (c : Child). cap_named c.stored has.entries ≡ Some c.cap) children child has.named below.among in
-    let is : IsChildOf cap (stored_name child.name) child.cap = record {
-      entries = has.entries;
-      of_cap = has.of_cap;
-      found = ap (λ (n : List ℕ). cap_named n has.entries) (sym below.stored) ∙ named;
-    } in
+    let is : IsChildOf cap (stored_name child.name) child.cap = among_is_child cap children child has below.among below.stored in
     record {
       names = child.name ∷ below.led.names;
       file_is = below.led.file_is ∙ append_assoc path (child.name ∷ []) below.led.names;

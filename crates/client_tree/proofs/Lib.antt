@@ -1,5 +1,6 @@
 pub mod Running
 pub mod Bound
+pub mod ChildLemmas
 pub mod Below
 pub mod PartSizes
 pub mod Joined
