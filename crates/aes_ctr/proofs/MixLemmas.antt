@@ -8,7 +8,7 @@ use Rattle.std.proofs.lemmas.Nat.Bits.{bit_at-lt}
 use Rattle.aes_ctr.specs.Field.{times, times_x}
 use Rattle.aes_ctr.specs.State.{cell, state}
 use Rattle.aes_ctr.specs.Rounds.{mixed, mix_columns, add_round_key}
-use Rattle.aes_ctr.specs.Planes.{byte_of, sliced, slices, raised, doubled}
+use Rattle.aes_ctr.specs.Planes.{byte_of, sliced, slices, raised_rows, doubled}
 use Rattle.aes_ctr.proofs.BitLemmas.{bits, below_8, bit_of_xor, byte_of_xor, same_bytes}
 use Rattle.aes_ctr.proofs.ByteLemmas.{add_low, state_low, times_x_low}
 use Rattle.aes_ctr.proofs.TableLemmas.{same_values, double_of, triple_of}
@@ -95,16 +95,16 @@ module _ (a b : ℕ) (al : a < 256) (bl : b < 256) where
 
 -- MixColumns by sums of neighbours
 pub mix_by_sums : (s : List ℕ) → ((i : ℕ) → get_or s i 0 < 256)
-    → (let sums = add_round_key s (raised 1 s) in
-    add_round_key (add_round_key (doubled sums) (raised 1 s)) (raised 2 sums)) ≡ mix_columns s
-unfolding add_round_key raised doubled mix_columns
+    → (let sums = add_round_key s (raised_rows 1 s) in
+    add_round_key (add_round_key (doubled sums) (raised_rows 1 s)) (raised_rows 2 sums)) ≡ mix_columns s
+unfolding add_round_key raised_rows doubled mix_columns
 mix_by_sums s low = λ i. state (λ row column.
     mixed_by_sums (cell s row column) (cell s ((row + 1) % 4) column) (low (row + 4 * column)) (low ((row + 1) % 4 + 4 * column))
     (cell s ((row + 2) % 4) column) (cell s ((row + 3) % 4) column) i)
 
 -- sums of neighbours are bytes
-pub sums_low : (s : List ℕ) → ((i : ℕ) → get_or s i 0 < 256) → (i : ℕ) → get_or (add_round_key s (raised 1 s)) i 0 < 256
-unfolding raised
+pub sums_low : (s : List ℕ) → ((i : ℕ) → get_or s i 0 < 256) → (i : ℕ) → get_or (add_round_key s (raised_rows 1 s)) i 0 < 256
+unfolding raised_rows
 sums_low s low i =
-    add_low s (raised 1 s) low
+    add_low s (raised_rows 1 s) low
     (state_low (λ row column. cell s ((row + 1) % 4) column) (λ row column. low ((row + 1) % 4 + 4 * column))) i

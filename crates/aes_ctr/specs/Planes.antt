@@ -15,8 +15,8 @@ lanes f =
     ∷ f 16 ∷ f 17 ∷ f 18 ∷ f 19 ∷ f 20 ∷ f 21 ∷ f 22 ∷ f 23 ∷ f 24 ∷ f 25 ∷ f 26 ∷ f 27 ∷ f 28 ∷ f 29 ∷ f 30 ∷ f 31 ∷ []
 
 -- n vectors, with the first n numbers of f i in lane i
-abbrev pub vectors : ℕ → (ℕ → List ℕ) → List (List ℕ)
-vectors n f = map (λ k. lanes (λ i. slice_index (f i) k)) (range_with_len 0 n)
+abbrev pub plane_vectors : ℕ → (ℕ → List ℕ) → List (List ℕ)
+plane_vectors n f = map (λ k. lanes (λ i. slice_index (f i) k)) (range_with_len 0 n)
 
 -- the vector with the 16 bytes of s 0 in its lower half, and those of s 1 in its upper half
 abbrev pub halves : (ℕ → List ℕ) → List ℕ
@@ -41,15 +41,15 @@ byte_in s i j = slice_index (s (j + 8 * (i / 16))) (i % 16)
 
 -- sixteen states bit by bit
 abbrev pub planes : (ℕ → List ℕ) → List (List ℕ)
-planes s = vectors 8 (λ i. slices (byte_in s i))
+planes s = plane_vectors 8 (λ i. slices (byte_in s i))
 
 -- the vectors of sixteen states, each of 16 bytes: state j lies beside state j + 8
 abbrev pub each_block : (ℕ → List ℕ) → List (List ℕ)
 each_block s = map (λ j. lanes (λ i. byte_in s i j)) (range_with_len 0 8)
 
 -- a state whose rows went up by n, the first ones to the end
-unfoldable pub raised : ℕ → List ℕ → List ℕ
-raised n s = state (λ row column. cell s ((row + n) % 4) column)
+unfoldable pub raised_rows : ℕ → List ℕ → List ℕ
+raised_rows n s = state (λ row column. cell s ((row + n) % 4) column)
 
 -- each byte of a state times x
 unfoldable pub doubled : List ℕ → List ℕ
@@ -60,8 +60,8 @@ abbrev pub AreKeyPlanes : List ℕ → List (List (List ℕ)) → Type 0
 AreKeyPlanes key keys = (n : ℕ) → n < 11 → slice_index_or keys n [] ≡ planes (λ j. round_key key n)
 
 -- whether each number of sixteen states is a byte
-abbrev pub AreBytes : (ℕ → List ℕ) → Type 0
-AreBytes s = (j i : ℕ) → slice_index (s j) i < 256
+abbrev pub AreByteStates : (ℕ → List ℕ) → Type 0
+AreByteStates s = (j i : ℕ) → slice_index (s j) i < 256
 
 -- the block whose last byte is j, after zeros
 unfoldable pub place : ℕ → List ℕ

@@ -3,7 +3,7 @@
 
 ghost use Rattle.std.specs.Prelude.{◌≡◌, ℕ, ◌<◌, List, slice_index};
 ghost use Rattle.aes_ctr.specs.Circuit.{input_sums, inverse_of_norm, norm, output_sums, products};
-ghost use Rattle.aes_ctr.specs.Planes.{planes, vectors};
+ghost use Rattle.aes_ctr.specs.Planes.{planes, plane_vectors};
 ghost use Rattle.aes_ctr.specs.Rounds.{sub_bytes};
 
 use std::simd::prelude::*;
@@ -11,7 +11,7 @@ use std::simd::prelude::*;
 /// The sums of planes that are multiplied: the lowest plane itself, and y1 to y21.
 #[inline(always)]
 fn input_sums(x: [u8x32; 8]) -> [u8x32; 22]
-    ensures { (f : ℕ → List ℕ) → x ≡ vectors 8 f → result ≡ vectors 22 (λ i. input_sums (f i)) }
+    ensures { (f : ℕ → List ℕ) → x ≡ plane_vectors 8 f → result ≡ plane_vectors 22 (λ i. input_sums (f i)) }
 {
     let [u7, u6, u5, u4, u3, u2, u1, u0] = x;
     let y14 = u3 ^ u5;
@@ -46,7 +46,7 @@ fn input_sums(x: [u8x32; 8]) -> [u8x32; 22]
 /// The norms of the bytes in the field of 16 elements, whose inverses are wanted: t21 to t24.
 #[inline(always)]
 fn norm(y: [u8x32; 22]) -> [u8x32; 4]
-    ensures { (f : ℕ → List ℕ) → y ≡ vectors 22 f → result ≡ vectors 4 (λ i. norm (f i)) }
+    ensures { (f : ℕ → List ℕ) → y ≡ plane_vectors 22 f → result ≡ plane_vectors 4 (λ i. norm (f i)) }
 {
     let t2 = y[12] & y[15];
     let t3 = y[3] & y[6];
@@ -77,7 +77,7 @@ fn norm(y: [u8x32; 22]) -> [u8x32; 4]
 /// The inverses in the field of 16 elements, t29, t33, t37 and t40, and the sums of their bits, t41 to t45.
 #[inline(always)]
 fn inverse_of_norm(t: [u8x32; 4]) -> [u8x32; 9]
-    ensures { (f : ℕ → List ℕ) → t ≡ vectors 4 f → result ≡ vectors 9 (λ i. inverse_of_norm (f i)) }
+    ensures { (f : ℕ → List ℕ) → t ≡ plane_vectors 4 f → result ≡ plane_vectors 9 (λ i. inverse_of_norm (f i)) }
 {
     let [t21, t22, t23, t24] = t;
     let t25 = t21 ^ t22;
@@ -107,8 +107,8 @@ fn inverse_of_norm(t: [u8x32; 4]) -> [u8x32; 9]
 /// The products of these inverses and the sums of the input: z0 to z17.
 #[inline(always)]
 fn products(y: [u8x32; 22], t: [u8x32; 9]) -> [u8x32; 18]
-    ensures { (f g : ℕ → List ℕ) → y ≡ vectors 22 f → t ≡ vectors 9 g
-        → result ≡ vectors 18 (λ i. products (f i) (g i)) }
+    ensures { (f g : ℕ → List ℕ) → y ≡ plane_vectors 22 f → t ≡ plane_vectors 9 g
+        → result ≡ plane_vectors 18 (λ i. products (f i) (g i)) }
 {
     let [t29, t33, t37, t40, t41, t42, t43, t44, t45] = t;
     [
@@ -136,7 +136,7 @@ fn products(y: [u8x32; 22], t: [u8x32; 9]) -> [u8x32; 18]
 /// The planes of the outcome, from the products.
 #[inline(always)]
 fn output_sums(z: [u8x32; 18]) -> [u8x32; 8]
-    ensures { (f : ℕ → List ℕ) → z ≡ vectors 18 f → result ≡ vectors 8 (λ i. output_sums 255 (f i)) }
+    ensures { (f : ℕ → List ℕ) → z ≡ plane_vectors 18 f → result ≡ plane_vectors 8 (λ i. output_sums 255 (f i)) }
 {
     let ones = u8x32::splat(255);
     let t46 = z[15] ^ z[16];

@@ -3,7 +3,7 @@
 
 ghost use Rattle.std.specs.Prelude.{◌≡◌, ◌+◌, ◌*◌, ◌/◌, ◌%◌, ◌<◌, ℕ, List, slice_index};
 ghost use Rattle.aes_ctr.specs.Rounds.{add_round_key, shift_rows, mix_columns};
-ghost use Rattle.aes_ctr.specs.Planes.{lanes, planes, raised, doubled, AreBytes};
+ghost use Rattle.aes_ctr.specs.Planes.{lanes, planes, raised_rows, doubled, AreByteStates};
 
 use std::simd::prelude::*;
 
@@ -58,7 +58,7 @@ fn turned(plane: u8x32) -> u8x32
 /// taken modulo.
 #[inline(always)]
 fn doubled(x: [u8x32; 8]) -> [u8x32; 8]
-    ensures { (s : ℕ → List ℕ) → AreBytes s → x ≡ planes s
+    ensures { (s : ℕ → List ℕ) → AreByteStates s → x ≡ planes s
         → result ≡ planes (λ j. doubled (s j)) }
 {
     [
@@ -76,7 +76,7 @@ fn doubled(x: [u8x32; 8]) -> [u8x32; 8]
 /// The rows of sixteen states, each in the place of the row above it, and the first in that of the last.
 #[inline(always)]
 fn raised(x: [u8x32; 8]) -> [u8x32; 8]
-    ensures { (s : ℕ → List ℕ) → x ≡ planes s → result ≡ planes (λ j. raised 1 (s j)) }
+    ensures { (s : ℕ → List ℕ) → x ≡ planes s → result ≡ planes (λ j. raised_rows 1 (s j)) }
 {
     const ROWS: [usize; 32] = [
         1, 2, 3, 0, 5, 6, 7, 4, 9, 10, 11, 8, 13, 14, 15, 12, 17, 18, 19, 16, 21, 22, 23, 20, 25,
@@ -97,7 +97,7 @@ fn raised(x: [u8x32; 8]) -> [u8x32; 8]
 /// The rows of sixteen states, each in the place of the one two above it.
 #[inline(always)]
 fn raised_twice(x: [u8x32; 8]) -> [u8x32; 8]
-    ensures { (s : ℕ → List ℕ) → x ≡ planes s → result ≡ planes (λ j. raised 2 (s j)) }
+    ensures { (s : ℕ → List ℕ) → x ≡ planes s → result ≡ planes (λ j. raised_rows 2 (s j)) }
 {
     const ROWS: [usize; 32] = [
         2, 3, 0, 1, 6, 7, 4, 5, 10, 11, 8, 9, 14, 15, 12, 13, 18, 19, 16, 17, 22, 23, 20, 21, 26,
@@ -119,7 +119,7 @@ fn raised_twice(x: [u8x32; 8]) -> [u8x32; 8]
 /// sum of each byte and the one below it, a byte becomes the double of its sum, b and the sum two rows below.
 #[inline(always)]
 pub(crate) fn mixed(x: [u8x32; 8]) -> [u8x32; 8]
-    ensures { (s : ℕ → List ℕ) → AreBytes s → x ≡ planes s
+    ensures { (s : ℕ → List ℕ) → AreByteStates s → x ≡ planes s
         → result ≡ planes (λ j. mix_columns (s j)) }
 {
     let below = raised(x);

@@ -18,7 +18,7 @@ use Rattle.caps.specs.Refusals.{parts, HasFields}
 use Rattle.octets.specs.Decimal.{number_to}
 use Rattle.octets.specs.Sharing.{is_sharing}
 use Rattle.octets.proofs.NumberLaws.{one_text}
-use Rattle.caps.specs.Reading.{numeral, if_long, bytes_spelled}
+use Rattle.caps.specs.Reading.{numeral, if_of_length, bytes_spelled}
 
 -- the texts of digits and their values
 pub digits : IsNumeralModel (AllDigits 10) (digits_value 10)
@@ -66,7 +66,7 @@ bytes_by_length count text bytes false r e = λ other s long.
     let yes : (length bytes == count) ≡ true = eq-eqb (length bytes) count (ap length (sym one) ∙ long) in
     cc
 
-bytes_by : (count : ℕ) (text : List ℕ) (r : Result (List ℕ) B32Fault) → reading text ≡ r → BytesSay count text (if_long count r)
+bytes_by : (count : ℕ) (text : List ℕ) (r : Result (List ℕ) B32Fault) → reading text ≡ r → BytesSay count text (if_of_length count r)
 bytes_by count text (Ok bytes) e = bytes_by_length count text bytes _ e refl
 bytes_by count text (Err fault) e = λ bytes s long. let same : Ok bytes ≡ Err fault = sym ((reading_is_spelled text bytes).0 s) ∙ e in cc
 
@@ -77,7 +77,7 @@ bytes_say count text = bytes_by count text (reading text) refl
 pub bytes_spelled-spells : (count : ℕ) (text bytes : List ℕ) → Spells text bytes → length bytes ≡ count → bytes_spelled count text ≡ Some bytes
 unfolding bytes_spelled
 bytes_spelled-spells count text bytes s long =
-    ap (if_long count) ((reading_is_spelled text bytes).0 s)
+    ap (if_of_length count) ((reading_is_spelled text bytes).0 s)
     ∙ (let yes : (length bytes == count) ≡ true = eq-eqb (length bytes) count long in rw yes refl)
 
 pub sharing_test : (k n : ℕ) → IsSharing k n → is_sharing k n ≡ true

@@ -14,7 +14,7 @@ use Rattle.base32_text.specs.declared.fault.B32Fault.TheVariants.{BadCharacter, 
 use Rattle.base32_text.specs.declared.fault.B32Fault.TheVariants as b32
 use Rattle.base32_text.proofs.ReadingLemmas.{spelled_or_refused}
 use Rattle.caps.specs.CapTexts.{IsFieldsText, IsCapText}
-use Rattle.caps.specs.Refusals.{parts, Refuses}
+use Rattle.caps.specs.Refusals.{parts, RefusesCap}
 use Rattle.caps.specs.Reading.{cap_reading}
 use Rattle.caps.specs.Steps.{field_fault, RefusesCount, RefusesBytes, RefusesRest}
 use Rattle.caps.specs.Beginnings.{beginning}
@@ -77,7 +77,7 @@ read_answer text cap t = sym (text_reads cap text t)
 abbrev pub Answered : List ℕ → Result Cap CapFault → Type 0
 Answered text result = (result ≡ cap_reading text) ⊎ (result ≡ Err NoMemory)
 
-pub refused_answer : (text : List ℕ) (fault : CapFault) → Refuses fault text → Answered text (Err fault)
+pub refused_answer : (text : List ℕ) (fault : CapFault) → RefusesCap fault text → Answered text (Err fault)
 refused_answer text UnknownKind r = inl (sym (refused_reads text UnknownKind (λ e. cc) r))
 refused_answer text Mutable r = inl (sym (refused_reads text Mutable (λ e. cc) r))
 refused_answer text BadField r = inl (sym (refused_reads text BadField (λ e. cc) r))
@@ -91,7 +91,7 @@ pub rest_read : (text rest : List ℕ) (kind : Kind) (r : Result Cap CapFault) �
 rest_read text rest kind (Ok cap) e m = subst (IsCapText cap) (sym e) m
 rest_read text rest kind (Err fault) e m = tt
 
-refused_of_rest : (text rest : List ℕ) (kind : Kind) (fault : CapFault) → text ≡ beginning kind ++ rest → RefusesRest fault kind rest → Refuses fault text
+refused_of_rest : (text rest : List ℕ) (kind : Kind) (fault : CapFault) → text ≡ beginning kind ++ rest → RefusesRest fault kind rest → RefusesCap fault text
 refused_of_rest text rest kind UnknownKind e m = absurd m
 refused_of_rest text rest kind Mutable e m = absurd m
 refused_of_rest text rest kind BadField e m = (kind, rest, e, m)
@@ -100,7 +100,7 @@ refused_of_rest text rest kind NoMemory e m = tt
 
 pub rest_refused : (text rest : List ℕ) (kind : Kind) (r : Result Cap CapFault) → text ≡ beginning kind ++ rest
     → MatchResult r (λ cap. IsCapText cap (beginning kind ++ rest)) (λ fault. RefusesRest fault kind rest)
-    → IfErr r (λ fault. Refuses fault text)
+    → IfErr r (λ fault. RefusesCap fault text)
 rest_refused text rest kind (Ok cap) e m = tt
 rest_refused text rest kind (Err fault) e m = refused_of_rest text rest kind fault e m
 

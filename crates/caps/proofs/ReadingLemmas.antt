@@ -6,9 +6,9 @@ use Rattle.base32_text.specs.Reading.{reading}
 use Rattle.base32_text.specs.declared.fault.B32Fault.{B32Fault}
 use Rattle.base32_text.proofs.SpellingLemmas.{is_spelling, spells_spelling}
 use Rattle.base32_text.proofs.ReadingLemmas.{reads, reading_is_spelled, spelled_or_refused, Reads}
-use Rattle.caps.specs.CapTexts.{IsFieldsText, IsCapText, IsStored, IsCap, fields_text, cap_text}
+use Rattle.caps.specs.CapTexts.{IsFieldsText, IsCapText, IsStoredCap, IsCap, fields_text, cap_text}
 use Rattle.caps.specs.Beginnings.{begins_with, beginning, kinds, is_mutable}
-use Rattle.caps.specs.Refusals.{is_literal, LacksBytes, LacksFields, HasBadField, HasBadNumber, Refuses}
+use Rattle.caps.specs.Refusals.{is_literal, LacksBytes, LacksFields, HasBadField, HasBadNumber, RefusesCap}
 use Rattle.caps.specs.Reading.{literal, rest_reading, reading_of_kind, cap_reading}
 use Rattle.caps.specs.declared.cap.Cap.{Cap}
 use Rattle.caps.specs.declared.cap.Cap.TheVariants.{Chk, Lit, DirChk, DirLit, ChkVerify, DirChkVerify}
@@ -36,7 +36,7 @@ text_is (DirLit bytes) text t = t.1 ∙ ap (λ rest. codes "URI:DIR2-LIT:" ++ re
 text_is (ChkVerify f) text t = t.1 ∙ ap (λ rest. codes "URI:CHK-Verifier:" ++ rest) (stored_text f.si f.ueb t.0 f.k f.n f.size t.2)
 text_is (DirChkVerify f) text t = t.1 ∙ ap (λ rest. codes "URI:DIR2-CHK-Verifier:" ++ rest) (stored_text f.si f.ueb t.0 f.k f.n f.size t.2)
 
-stored_has_text : (name ueb : List ℕ) (k n size : ℕ) → IsStored name ueb k n size → IsFieldsText name ueb k n size (fields_text name ueb k n size)
+stored_has_text : (name ueb : List ℕ) (k n size : ℕ) → IsStoredCap name ueb k n size → IsFieldsText name ueb k n size (fields_text name ueb k n size)
 stored_has_text name ueb k n size s = record {
   name_text = spelling name;
   ueb_text = spelling ueb;
@@ -128,7 +128,7 @@ rest_says VerifyDirectory rest = by_fields VerifyDirectory rest _ refl (λ name 
 -- what the reading says of a text
 abbrev pub CapSays : List ℕ → Result Cap CapFault → Type 0
 CapSays text (Ok cap) = IsCapText cap text
-CapSays text (Err fault) = (fault ≢ NoMemory) × Refuses fault text
+CapSays text (Err fault) = (fault ≢ NoMemory) × RefusesCap fault text
 
 by_rest : (kind : Kind) (text rest : List ℕ) → text ≡ beginning kind ++ rest → (r : Result Cap CapFault) → RestSays kind rest r → CapSays text r
 by_rest kind text rest e (Ok cap) s = subst (IsCapText cap) (sym e) s
@@ -185,7 +185,7 @@ mutable_as text (Some kind) f e =
     (let h : is_mutable text ≡ false = ap is_mutable (begins text (beginning kind) f) ∙ is_mutable-beginning kind (drop (length (beginning kind)) text) in cc)
 mutable_as text None f e = ap (λ b. cond b (Err Mutable) (Err UnknownKind)) e
 
-pub refused_reads : (text : List ℕ) (fault : CapFault) → fault ≢ NoMemory → Refuses fault text → cap_reading text ≡ Err fault
+pub refused_reads : (text : List ℕ) (fault : CapFault) → fault ≢ NoMemory → RefusesCap fault text → cap_reading text ≡ Err fault
 unfolding cap_reading
 refused_reads text UnknownKind some r = unknown_as text (kind_of text) (found (λ kind. begins_with text (beginning kind)) kinds) r.0 r.1
 refused_reads text Mutable some r = mutable_as text (kind_of text) (found (λ kind. begins_with text (beginning kind)) kinds) r
@@ -196,7 +196,7 @@ refused_reads text NoMemory some r = absurd (some refl)
 pub reading_is_read : (text : List ℕ) (cap : Cap) → IsCapText cap text ↔ (cap_reading text ≡ Ok cap)
 reading_is_read text cap = (text_reads cap text, λ e. subst (CapSays text) e (cap_says text))
 
-pub reading_is_refused : (text : List ℕ) (fault : CapFault) → fault ≢ NoMemory → (Refuses fault text ↔ (cap_reading text ≡ Err fault))
+pub reading_is_refused : (text : List ℕ) (fault : CapFault) → fault ≢ NoMemory → (RefusesCap fault text ↔ (cap_reading text ≡ Err fault))
 reading_is_refused text fault some = (refused_reads text fault some, λ e. (subst (CapSays text) e (cap_says text)).1)
 
 pub reading_is_total : (text : List ℕ) → cap_reading text ≢ Err NoMemory

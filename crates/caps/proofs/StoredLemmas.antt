@@ -3,7 +3,7 @@ use Rattle.std.proofs.Common.{◌≡◌, ℕ, ◌<◌, ◌^◌, Bool, true, fals
 use Rattle.std.proofs.lemmas.Fmt.{decimal_injective}
 use Rattle.base32_text.specs.Base32.{Spells}
 use Rattle.caps.specs.CapTexts.{IsFieldsText}
-use Rattle.caps.specs.Refusals.{parts, HasFields, AreNumbers, LacksFields, LacksNumbers}
+use Rattle.caps.specs.Refusals.{parts, HasFields, AreNumberTexts, LacksFields, LacksNumbers}
 use Rattle.caps.specs.Reading.{numeral, bytes_spelled, numbered, named, stored}
 use Rattle.octets.specs.Sharing.{is_sharing}
 use Rattle.caps.specs.declared.cap.Cap.{Cap}
@@ -35,7 +35,7 @@ abbrev pub StoredSays : Maker → List ℕ → Result Cap CapFault → Type 0
 StoredSays make text (Ok cap) = MadeOf make text cap
 StoredSays make text (Err fault) = SaysFault text fault
 
-lacking : (text kt nt st : List ℕ) → HasFields text kt nt st → (AreNumbers kt nt st → ⊥) → LacksNumbers text
+lacking : (text kt nt st : List ℕ) → HasFields text kt nt st → (AreNumberTexts kt nt st → ⊥) → LacksNumbers text
 lacking text kt nt st h bad = record { k_text = kt; n_text = nt; size_text = st; fields = h; bad = bad }
 
 by_sharing : (make : Maker) (text kt nt st : List ℕ) (h : HasFields text kt nt st) (k n size : ℕ) (b : Bool) → is_sharing k n ≡ b
@@ -140,7 +140,7 @@ stored_reads make name ueb text k n size f =
     ∙ ap (λ b. cond b (Ok (make name ueb k n size)) (Err BadNumber)) (sharing_test k n f.sharing)
 
 numbers_of : (name ueb text : List ℕ) (k n size : ℕ) → IsFieldsText name ueb k n size text → (kt nt st : List ℕ) → HasFields text kt nt st
-    → AreNumbers kt nt st
+    → AreNumberTexts kt nt st
 numbers_of name ueb text k n size f kt nt st h =
     let same : (kt ≡ decimal k) × (nt ≡ decimal n) × (st ≡ decimal size) =
     same_texts text kt nt st (decimal k) (decimal n) (decimal size) h (has_fields name ueb text k n size f) in

@@ -37,7 +37,7 @@ IsCapText (DirChkVerify fields) text =
     (rest : List ℕ) × (text ≡ codes "URI:DIR2-CHK-Verifier:" ++ rest) × IsVerifyText fields rest
 
 -- the fields that a cap of stored bytes can have
-pub record IsStored (name ueb : List ℕ) (k n size : ℕ) : Type 0 where
+pub record IsStoredCap (name ueb : List ℕ) (k n size : ℕ) : Type 0 where
   pub name_bytes : All (λ byte. byte < 256) name
   pub name_long : length name ≡ 16
   pub ueb_bytes : All (λ byte. byte < 256) ueb
@@ -47,12 +47,12 @@ pub record IsStored (name ueb : List ℕ) (k n size : ℕ) : Type 0 where
 
 -- what a `Cap` can be
 abbrev pub IsCap : Cap → Type 0
-IsCap (Chk fields) = IsStored fields.key fields.ueb fields.k fields.n fields.size
+IsCap (Chk fields) = IsStoredCap fields.key fields.ueb fields.k fields.n fields.size
 IsCap (Lit bytes) = All (λ byte. byte < 256) bytes
-IsCap (DirChk fields) = IsStored fields.key fields.ueb fields.k fields.n fields.size
+IsCap (DirChk fields) = IsStoredCap fields.key fields.ueb fields.k fields.n fields.size
 IsCap (DirLit bytes) = All (λ byte. byte < 256) bytes
-IsCap (ChkVerify fields) = IsStored fields.si fields.ueb fields.k fields.n fields.size
-IsCap (DirChkVerify fields) = IsStored fields.si fields.ueb fields.k fields.n fields.size
+IsCap (ChkVerify fields) = IsStoredCap fields.si fields.ueb fields.k fields.n fields.size
+IsCap (DirChkVerify fields) = IsStoredCap fields.si fields.ueb fields.k fields.n fields.size
 
 -- the text of five fields
 abbrev pub fields_text : List ℕ → List ℕ → ℕ → ℕ → ℕ → List ℕ

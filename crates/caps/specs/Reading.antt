@@ -18,13 +18,13 @@ use Rattle.caps.specs.declared.fault.CapFault.TheVariants.{UnknownKind, Mutable,
 unfoldable pub numeral : List ℕ → Option ℕ
 numeral text = number_to (2 ^ 64 - 1) text
 
-abbrev pub if_long : ℕ → Result (List ℕ) B32Fault → Option (List ℕ)
-if_long count (Ok bytes) = if length bytes == count then Some bytes else None
-if_long count (Err fault) = None
+abbrev pub if_of_length : ℕ → Result (List ℕ) B32Fault → Option (List ℕ)
+if_of_length count (Ok bytes) = if length bytes == count then Some bytes else None
+if_of_length count (Err fault) = None
 
 -- the bytes that a text spells, where they are so many
 unfoldable pub bytes_spelled : ℕ → List ℕ → Option (List ℕ)
-bytes_spelled count text = if_long count (reading text)
+bytes_spelled count text = if_of_length count (reading text)
 
 abbrev pub numbered : (ℕ → ℕ → ℕ → Cap) → Option ℕ → Option ℕ → Option ℕ → Result Cap CapFault
 numbered make (Some k) (Some n) (Some size) = if is_sharing k n then Ok (make k n size) else Err BadNumber

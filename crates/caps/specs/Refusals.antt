@@ -26,7 +26,7 @@ pub record HasFields (text k_text n_text size_text : List ℕ) : Type 0 where
   pub ueb_long : length ueb ≡ 32
 
 -- the decimal texts of a cap's three numbers
-pub record AreNumbers (k_text n_text size_text : List ℕ) : Type 0 where
+pub record AreNumberTexts (k_text n_text size_text : List ℕ) : Type 0 where
   pub k : ℕ
   pub n : ℕ
   pub size : ℕ
@@ -59,7 +59,7 @@ pub record LacksNumbers (rest : List ℕ) : Type 0 where
   pub n_text : List ℕ
   pub size_text : List ℕ
   pub fields : HasFields rest k_text n_text size_text
-  pub bad : ¬ (AreNumbers k_text n_text size_text)
+  pub bad : ¬ (AreNumberTexts k_text n_text size_text)
 
 -- what is said against that which follows the beginning of a kind
 abbrev pub HasBadField : Kind → List ℕ → Type 0
@@ -69,9 +69,9 @@ abbrev pub HasBadNumber : Kind → List ℕ → Type 0
 HasBadNumber kind rest = (is_literal kind ≡ false) × LacksNumbers rest
 
 -- what each refusal says of the text
-abbrev pub Refuses : CapFault → List ℕ → Type 0
-Refuses UnknownKind text = ((kind : Kind) → begins_with text (beginning kind) ≡ false) × (is_mutable text ≡ false)
-Refuses Mutable text = is_mutable text ≡ true
-Refuses BadField text = (kind : Kind) × (rest : List ℕ) × (text ≡ beginning kind ++ rest) × HasBadField kind rest
-Refuses BadNumber text = (kind : Kind) × (rest : List ℕ) × (text ≡ beginning kind ++ rest) × HasBadNumber kind rest
-Refuses NoMemory text = Unit {0}
+abbrev pub RefusesCap : CapFault → List ℕ → Type 0
+RefusesCap UnknownKind text = ((kind : Kind) → begins_with text (beginning kind) ≡ false) × (is_mutable text ≡ false)
+RefusesCap Mutable text = is_mutable text ≡ true
+RefusesCap BadField text = (kind : Kind) × (rest : List ℕ) × (text ≡ beginning kind ++ rest) × HasBadField kind rest
+RefusesCap BadNumber text = (kind : Kind) × (rest : List ℕ) × (text ≡ beginning kind ++ rest) × HasBadNumber kind rest
+RefusesCap NoMemory text = Unit {0}

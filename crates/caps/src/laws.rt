@@ -1,7 +1,7 @@
 //! What holds of caps and their texts.
 ghost use Rattle.std.specs.Prelude.{◌≡◌, ◌≢◌, ◌↔◌, ℕ, List, Ok, Err, Some};
 ghost use Rattle.caps.specs.CapTexts.{IsCapText, IsCap, cap_text};
-ghost use Rattle.caps.specs.Refusals.{Refuses};
+ghost use Rattle.caps.specs.Refusals.{RefusesCap};
 ghost use Rattle.caps.specs.Reading.{cap_reading};
 ghost use Rattle.caps.specs.Weakening.{weakened, cap_of};
 ghost use Rattle.caps.specs.declared.cap.Cap.{Cap};
@@ -26,7 +26,7 @@ pub fn texts_have_one_cap()
 pub fn reading_is_decided()
     ensures read { (text : List ℕ) (cap : Cap) → IsCapText cap text ↔ (cap_reading text ≡ Ok cap) }
     ensures refused { (text : List ℕ) (fault : CapFault) → fault ≢ NoMemory
-        → (Refuses fault text ↔ (cap_reading text ≡ Err fault)) }
+        → (RefusesCap fault text ↔ (cap_reading text ≡ Err fault)) }
     ensures total { (text : List ℕ) → cap_reading text ≢ Err NoMemory }
 {}
 

@@ -3,7 +3,7 @@ ghost use Rattle.std.specs.Prelude.{◌≡◌, ◌⊎◌, ◌++◌, IfOk, IfErr,
 ghost use Rattle.base32_text.specs.Base32.{Spells};
 ghost use Rattle.caps.specs.CapTexts.{IsCapText, IsReadText, IsVerifyText};
 ghost use Rattle.caps.specs.Beginnings.{beginning};
-ghost use Rattle.caps.specs.Refusals.{Refuses};
+ghost use Rattle.caps.specs.Refusals.{RefusesCap};
 ghost use Rattle.caps.specs.Reading.{cap_reading};
 ghost use Rattle.caps.specs.Steps.{RefusesBytes, RefusesFields, RefusesRest};
 
@@ -20,7 +20,7 @@ use std::alloc::Global;
 /// The cap whose text this is. Each fault says why it is no cap's, and is given where no fault before it holds.
 pub fn parse(alloc: Global, text: &str) -> Result<Cap, CapFault>
     ensures read { IfOk result (λ cap. IsCapText cap text.now) }
-    ensures refused { IfErr result (λ fault. Refuses fault text.now) }
+    ensures refused { IfErr result (λ fault. RefusesCap fault text.now) }
     ensures answer { (result ≡ cap_reading text.now) ⊎ (result ≡ Err CapFault.NoMemory) }
 {
     parse_bytes(alloc, text.as_bytes())
@@ -29,7 +29,7 @@ pub fn parse(alloc: Global, text: &str) -> Result<Cap, CapFault>
 /// The same of bytes, which need not be UTF-8: cap texts are ASCII.
 pub fn parse_bytes(alloc: Global, text: &[u8]) -> Result<Cap, CapFault>
     ensures read { IfOk result (λ cap. IsCapText cap text.now) }
-    ensures refused { IfErr result (λ fault. Refuses fault text.now) }
+    ensures refused { IfErr result (λ fault. RefusesCap fault text.now) }
     ensures answer { (result ≡ cap_reading text.now) ⊎ (result ≡ Err CapFault.NoMemory) }
 {
     let Some((kind, rest)) = kind_and_rest(text) else {

@@ -3,7 +3,7 @@ ghost use Rattle.std.specs.Prelude.{◌≡◌, ◌<◌, ◌^◌, length, decimal
 ghost use Rattle.base32_text.specs.Base32.{Spells};
 ghost use Rattle.octets.specs.Sharing.{IsSharing};
 ghost use Rattle.caps.specs.CapTexts.{IsFieldsText};
-ghost use Rattle.caps.specs.Refusals.{AreNumbers};
+ghost use Rattle.caps.specs.Refusals.{AreNumberTexts};
 ghost use Rattle.caps.specs.Steps.{RefusesCount, RefusesFields};
 
 use crate::fault::CapFault;
@@ -60,7 +60,7 @@ fn spelled<const N: usize>(alloc: Global, text: &[u8]) -> Result<[u8; N], CapFau
 
 /// The numbers k, n and size of these texts, where each is decimal and `1 <= k <= n <= 256`.
 fn numbers(k: &[u8], n: &[u8], size: &[u8]) -> Option<(u16, u16, u64)>
-    ensures { MatchOption result (¬ (AreNumbers k.now n.now size.now))
+    ensures { MatchOption result (¬ (AreNumberTexts k.now n.now size.now))
         (λ t. (k.now ≡ decimal t.0) × (n.now ≡ decimal t.1) × (size.now ≡ decimal t.2)
         × IsSharing t.0 t.1 × (t.2 < 2 ^ 64)) }
 {

@@ -16,7 +16,7 @@ use Rattle.dir_codec.specs.Names.{is_name}
 use Rattle.dir_codec.specs.Metadata.{json_of}
 use Rattle.dir_codec.specs.Children.{nfc_text}
 use Rattle.dir_codec.specs.Entries.{IsEntry, AreEntriesAbove, IsDirectory}
-use Rattle.dir_codec.specs.MadeOf.{listed, HasUri, IsEntryOf, RiseAbove, AreMadeOf}
+use Rattle.dir_codec.specs.MadeOf.{members_listed, HasUri, IsEntryOf, RiseAbove, AreMadeOf}
 use Rattle.dir_codec.specs.declared.entry.Entry.{Entry}
 use Rattle.children_json.specs.Texts.{kind, fields_value, entry_value, entries_value, children_text}
 use Rattle.children_json.proofs.Spelled.{spelled}
@@ -63,7 +63,7 @@ entry_of caps entry is =
       metadata = (metadata.good, metadata.is);
     }
 
-each : CapsAreRead → (name : List ℕ) (entries : List Entry) → AreEntriesAbove name entries → AllZip (λ m entry. IsEntryOf m.0 m.1 entry) (listed (entries_value entries)) entries
+each : CapsAreRead → (name : List ℕ) (entries : List Entry) → AreEntriesAbove name entries → AllZip (λ m entry. IsEntryOf m.0 m.1 entry) (members_listed (entries_value entries)) entries
 each caps name [] all = tt
 each caps name (entry ∷ more) all = (entry_of caps entry all.1, each caps entry.name more all.2)
 

@@ -12,7 +12,7 @@ use Rattle.erasure.specs.Blocks.{block_of, primary_from}
 use Rattle.erasure.specs.Code.{AreBytes, AreBlocks}
 use Rattle.erasure.specs.Given.{numbers_of, AreNumbers}
 use Rattle.share_codec.specs.Params.{ParamsValue}
-use Rattle.share_codec.specs.Segments.{segment_size, segment_count, segment_length, segments, padded, primary_blocks}
+use Rattle.share_codec.specs.Segments.{segment_size, segment_count, segment_length, segments, with_padding, primary_blocks}
 use Rattle.share_codec.specs.Shares.{blocks, roots_of}
 use Rattle.share_codec.specs.GoodShare.{GoodShare}
 use Rattle.chk_file.specs.Fit.{blocks_at, has_zeros, has_padding, segment_from, crypttext_from}
@@ -41,7 +41,7 @@ abbrev pub PrimaryAre : Type 0
 PrimaryAre = (k : ℕ) (segment : List ℕ) → 0 < k → AreBytes segment → AreBlocks (div_ceil (length segment) k) (primary_blocks k segment)
 
 abbrev pub JoinedPrimary : Type 0
-JoinedPrimary = (k : ℕ) (segment : List ℕ) → 0 < k → concat (primary_blocks k segment) ≡ padded k segment
+JoinedPrimary = (k : ℕ) (segment : List ℕ) → 0 < k → concat (primary_blocks k segment) ≡ with_padding k segment
 
 -- ---- padding
 
@@ -50,7 +50,7 @@ all_zeros zero = refl
 all_zeros (suc n) = all_zeros n
 
 zeros_after : JoinedPrimary → (k : ℕ) (segment : List ℕ) → 0 < k → list_all (λ b. b == 0) (drop (length segment) (concat (primary_blocks k segment))) ≡ true
-unfolding padded
+unfolding with_padding
 zeros_after joined_primary k segment some =
     let n = div_ceil (length segment) k * k - length segment in
     ap (λ xs. list_all (λ b. b == 0) (drop (length segment) xs)) (joined_primary k segment some)

@@ -19,13 +19,13 @@ use Rattle.erasure.specs.Blocks.{size_of, block_of, primary_from}
 use Rattle.erasure.specs.Code.{AreBytes, AreBlocks}
 use Rattle.erasure.specs.Given.{AreNumbers, AreDistinct, HaveOneLength, numbers_of, blocks_of}
 use Rattle.share_codec.specs.Params.{ParamsValue}
-use Rattle.share_codec.specs.Segments.{block_size, segment_count, segment_length, block_length, padded, primary_blocks, cut_blocks}
-use Rattle.share_codec.specs.Texts.{Texts, share_text}
+use Rattle.share_codec.specs.Segments.{block_size, segment_count, segment_length, block_length, with_padding, primary_blocks, cut_blocks}
+use Rattle.share_codec.specs.Texts.{ShareTexts, share_text}
 use Rattle.share_codec.specs.Shares.{blocks, roots_of}
 use Rattle.share_codec.specs.GoodShare.{GoodShare, good_share}
-use Rattle.chk_file.specs.Row.{ShareTable, Place, places, first_good, good_at, good_shares}
+use Rattle.chk_file.specs.Row.{ShareTable, ServerShare, places, first_good, good_at, good_shares}
 use Rattle.chk_file.specs.Taken.{AreTaken}
-use Rattle.chk_file.specs.Fit.{blocks_at, decoded_at, segment_from, has_zeros, has_padding, has_root, is_of, crypttext_from, given_by, fit_in}
+use Rattle.chk_file.specs.Fit.{blocks_at, decoded_at, segment_from, has_zeros, has_padding, has_root, are_shares_of, crypttext_from, given_by, fit_in}
 use Rattle.chk_file.specs.IsFit.{IsByteRow, IsGivenBy}
 use Rattle.chk_file.proofs.Tools.{true_or_false, All-filter_map}
 use Rattle.chk_file.proofs.Pieces.{not_all}
@@ -49,7 +49,7 @@ unfolding netstring
 netstring_bytes v all =
     left_bytes v (44 ∷ []) (All-tail (λ b. b < 256) 58 (v ++ 44 ∷ []) (right_bytes (decimal_text (length v)) (58 ∷ (v ++ 44 ∷ [])) all))
 
-block_bytes : (t : Texts) → AreBytes (share_text t) → AreBytes t.blocks
+block_bytes : (t : ShareTexts) → AreBytes (share_text t) → AreBytes t.blocks
 unfolding share_text
 block_bytes t all =
     netstring_bytes t.blocks
@@ -75,17 +75,17 @@ module _ (read : ReadFrom) (p : ParamsValue) (ueb : List ℕ) where
       let from = read s number p ueb good e in
       subst (All AreBytes) (sym from.cut) (chunk_bytes (block_size p) (segment_count p) from.texts.blocks (block_bytes from.texts (subst AreBytes from.meets.six.text are)))
 
-  first_bytes : (number : ℕ) (found : List Place) → All (λ (place : Place). AreBytes place.1) found → IfSome (first_good p ueb number found) HasBytes
+  first_bytes : (number : ℕ) (found : List ServerShare) → All (λ (place : ServerShare). AreBytes place.1) found → IfSome (first_good p ueb number found) HasBytes
   first_bytes number [] all = tt
   first_bytes number (place ∷ found) all =
-      either (good_share place.1 number p ueb) (first_good p ueb number found) (good_bytes place.1 number (good_share place.1 number p ueb) (All-head (λ (q : Place). AreBytes q.1) place found all) refl)
-      (first_bytes number found (All-tail (λ (q : Place). AreBytes q.1) place found all))
+      either (good_share place.1 number p ueb) (first_good p ueb number found) (good_bytes place.1 number (good_share place.1 number p ueb) (All-head (λ (q : ServerShare). AreBytes q.1) place found all) refl)
+      (first_bytes number found (All-tail (λ (q : ServerShare). AreBytes q.1) place found all))
     where
       either : (one other : Option GoodShare) → IfSome one HasBytes → IfSome other HasBytes → IfSome (option_or one other) HasBytes
       either None other first second = second
       either (Some share) other first second = first
 
-  place_bytes : (server : ℕ) (o : Option (List ℕ)) → IfSome o AreBytes → IfSome (option_map (λ s. (server, s)) o) (λ (place : Place). AreBytes place.1)
+  place_bytes : (server : ℕ) (o : Option (List ℕ)) → IfSome o AreBytes → IfSome (option_map (λ s. (server, s)) o) (λ (place : ServerShare). AreBytes place.1)
   place_bytes server None are = tt
   place_bytes server (Some s) are = are
 
@@ -93,7 +93,7 @@ module _ (read : ReadFrom) (p : ParamsValue) (ueb : List ℕ) where
   row_bytes row are =
       All-filter_map HasBytes (good_at p ueb row) (range_with_len 0 p.n)
       (λ number. first_bytes number (places row number)
-      (All-filter_map (λ (place : Place). AreBytes place.1) (λ server. option_map (λ s. (server, s)) (row server number)) (range_with_len 0 _) (λ server. place_bytes server (row server number) (are server number))))
+      (All-filter_map (λ (place : ServerShare). AreBytes place.1) (λ server. option_map (λ s. (server, s)) (row server number)) (range_with_len 0 _) (λ server. place_bytes server (row server number) (are server number))))
 
 -- ---- one segment
 
@@ -124,8 +124,8 @@ module _ (count : DecodedCount) (are : DecodedBlocks) (back : DecodedGiven) (p :
     size_is : size_of (blocks_of given) ≡ block_length p at
     size_is = first_long p shares at inside taken.cut (let h = taken.sharing.some in let e = taken.many in omega arith)
 
-    padded_is : has_zeros p shares at ≡ true → padded p.k (segment_from p shares at) ≡ decoded_at p shares at
-    unfolding padded block_length
+    padded_is : has_zeros p shares at ≡ true → with_padding p.k (segment_from p shares at) ≡ decoded_at p shares at
+    unfolding with_padding block_length
     padded_is zeros =
         let d = decoded_at p shares at in
         let l = segment_length p at in
@@ -145,8 +145,8 @@ module _ (count : DecodedCount) (are : DecodedBlocks) (back : DecodedGiven) (p :
         let s = segment_from p shares at in
         let long : length s ≡ segment_length p at = length-segment_from count are p shares taken at inside in
         let size : div_ceil (length s) p.k ≡ size_of (blocks_of given) = ap (λ m. div_ceil m p.k) long ∙ sym size_is in
-        ap (λ n. first_chunks n p.k (padded p.k s)) size
-        ∙ ap (λ m. first_chunks (size_of (blocks_of given)) m (padded p.k s)) (sym (count p.k given))
+        ap (λ n. first_chunks n p.k (with_padding p.k s)) size
+        ∙ ap (λ m. first_chunks (size_of (blocks_of given)) m (with_padding p.k s)) (sym (count p.k given))
         ∙ ap (first_chunks (size_of (blocks_of given)) (length primary)) (padded_is zeros)
         ∙ chunks_back (size_of (blocks_of given)) primary (are p.k given)
 
@@ -213,7 +213,7 @@ module _ (read : ReadFrom) (is_cut : GoodIsCut) (count : DecodedCount) (are : De
       let all = good_shares p ueb row in
       let shares = take p.k all in
       let c = crypttext_from p shares in
-      let both = cond_some (is_of p c shares) (crypt key c) bytes e in
+      let both = cond_some (are_shares_of p c shares) (crypt key c) bytes e in
       let parts = and_parts (has_padding p shares) (has_root p c shares) both.0 in
       let many : p.k ≤ length shares = (let h = length-take-le p.k all enough in omega arith) in
       let taken : AreTaken p shares = all_taken read is_cut p ueb (good_at p ueb row) (λ number. of_first read is_cut p ueb number (places row number)) sharing p.n shares refl many in

@@ -7,7 +7,7 @@ use Rattle.std.proofs.lemmas.List.{take_at, take-append-le, length-append}
 use Rattle.aes_ctr.specs.Crypt.{crypt}
 use Rattle.share_codec.specs.Params.{ParamsValue}
 use Rattle.share_codec.specs.GoodShare.{GoodShare}
-use Rattle.chk_file.specs.Fit.{crypttext_from, is_of, given_by, fit_in}
+use Rattle.chk_file.specs.Fit.{crypttext_from, are_shares_of, given_by, fit_in}
 
 never_some : (b : Bool) (x : List ℕ) → None ≡ cond b (Some x) None → b ≡ false
 never_some true x e = absurd (none-some x e)
@@ -25,12 +25,12 @@ module _ (p : ParamsValue) (key : List ℕ) (goods shares : List GoodShare) (is 
       let h = long in
       ap (λ b. cond b (given_by p key (take p.k goods)) None) (le-leb p.k (length goods) (omega arith)) ∙ ap (given_by p key) (sym is)
 
-  pub not_of : p.k ≤ length shares → None ≡ cond (is_of p (crypttext_from p shares) shares) (Some (crypttext_from p shares)) None → fit_in p key goods ≡ None
+  pub not_of : p.k ≤ length shares → None ≡ cond (are_shares_of p (crypttext_from p shares) shares) (Some (crypttext_from p shares)) None → fit_in p key goods ≡ None
   not_of many e =
-      enough many ∙ ap (λ b. cond b (Some (crypt key (crypttext_from p shares))) None) (never_some (is_of p (crypttext_from p shares) shares) (crypttext_from p shares) e)
+      enough many ∙ ap (λ b. cond b (Some (crypt key (crypttext_from p shares))) None) (never_some (are_shares_of p (crypttext_from p shares) shares) (crypttext_from p shares) e)
 
-  pub of_bytes : (bytes : List ℕ) → p.k ≤ length shares → Some bytes ≡ cond (is_of p (crypttext_from p shares) shares) (Some (crypttext_from p shares)) None → fit_in p key goods ≡ Some (crypt key bytes)
-  of_bytes bytes many e = enough many ∙ by_case (is_of p (crypttext_from p shares) shares) e
+  pub of_bytes : (bytes : List ℕ) → p.k ≤ length shares → Some bytes ≡ cond (are_shares_of p (crypttext_from p shares) shares) (Some (crypttext_from p shares)) None → fit_in p key goods ≡ Some (crypt key bytes)
+  of_bytes bytes many e = enough many ∙ by_case (are_shares_of p (crypttext_from p shares) shares) e
     where
       by_case : (b : Bool) → Some bytes ≡ cond b (Some (crypttext_from p shares)) None → cond b (Some (crypt key (crypttext_from p shares))) None ≡ Some (crypt key bytes)
       by_case true e = ap (λ c. Some (crypt key c)) (sym (same_Some bytes (crypttext_from p shares) e))

@@ -11,12 +11,12 @@ use Rattle.grid.specs.Leaves.{Leaves}
 use Rattle.grid.specs.Stamped.{IsStamped}
 use Rattle.caps.specs.Fields.{ReadValue}
 use Rattle.caps.specs.StorageIndex.{index_of}
-use Rattle.chk_file.specs.Row.{ShareTable, row_of}
+use Rattle.chk_file.specs.Row.{ShareTable, table_of}
 use Rattle.chk_file.specs.Fit.{fit}
-use Rattle.chk_file.specs.Cached.{CacheEntry, IsWithin, IsWithinOr, IsCurrent, IsFresh}
+use Rattle.chk_file.specs.Cached.{CacheEntry, IsWithin, IsWithinOr, IsCurrent, IsCacheCurrent}
 
 -- what stands under an index whose stamp stayed is what stood
-pub row_stays : (old new : GridState) → Leaves old new → IsStamped old new → (si : List ℕ) → IsHonest new → raised_at new si ≡ raised_at old si → raised_at new si ≢ last_count → row_of (stood new) si ≡ row_of (stood old) si
+pub row_stays : (old new : GridState) → Leaves old new → IsStamped old new → (si : List ℕ) → IsHonest new → raised_at new si ≡ raised_at old si → raised_at new si ≢ last_count → table_of (stood new) si ≡ table_of (stood old) si
 row_stays old new left stamped si all same fits = λ i server number. stamped.tells (left.was_honest all) si same fits server number i
 
 pub current_stays : (old new : GridState) → Leaves old new → IsStamped old new → (entry : CacheEntry) → IsCurrent old entry → IsCurrent new entry
@@ -31,13 +31,13 @@ current_stays old new left stamped entry current =
     }
 
 -- a call of a grid keeps a cache fresh
-pub fresh_stays : (cache : List CacheEntry) (old new : GridState) → Leaves old new → IsStamped old new → IsFresh cache old → IsFresh cache new
+pub fresh_stays : (cache : List CacheEntry) (old new : GridState) → Leaves old new → IsStamped old new → IsCacheCurrent cache old → IsCacheCurrent cache new
 fresh_stays cache old new left stamped fresh entry there = current_stays old new left stamped entry (fresh entry there)
 
-pub fresh_within : (old new : List CacheEntry) (grid : GridState) → IsWithin old new → IsFresh old grid → IsFresh new grid
+pub fresh_within : (old new : List CacheEntry) (grid : GridState) → IsWithin old new → IsCacheCurrent old grid → IsCacheCurrent new grid
 fresh_within old new grid within fresh entry there = fresh entry (within entry there)
 
-pub fresh_none : (grid : GridState) → IsFresh [] grid
+pub fresh_none : (grid : GridState) → IsCacheCurrent [] grid
 fresh_none grid entry there = absurd (Contains-nil entry there)
 
 -- what a stamp tells of the count
@@ -52,16 +52,16 @@ stamp_tells n stamp is = by_test (n == last_count) refl
         (same, λ last. (let k : n ≡ last_count = same ∙ last in grind (arith, nat_tests)))
 
 -- what was found at the present stamp is what verification finds
-pub found_fits : (cache : List CacheEntry) (grid : GridState) (f : ReadValue) (stamp : ℕ) (bytes : List ℕ) → IsFresh cache grid → IsHonest grid → Some stamp ≡ stamp_of (raised_at grid (index_of f.key)) → Contains cache (f, (stamp, bytes))
-    → fit (row_of (stood grid) (index_of f.key)) f ≡ Some bytes
+pub found_fits : (cache : List CacheEntry) (grid : GridState) (f : ReadValue) (stamp : ℕ) (bytes : List ℕ) → IsCacheCurrent cache grid → IsHonest grid → Some stamp ≡ stamp_of (raised_at grid (index_of f.key)) → Contains cache (f, (stamp, bytes))
+    → fit (table_of (stood grid) (index_of f.key)) f ≡ Some bytes
 found_fits cache grid f stamp bytes fresh all is there =
     let told = stamp_tells (raised_at grid (index_of f.key)) stamp is in
     (fresh (f, (stamp, bytes)) there).counts all told.0 told.1
 
 -- what was read and kept, where no store failed
 pub fresh_kept : (cache kept : List CacheEntry) (old new : GridState) (f : ReadValue) (stamp : ℕ) (bytes : List ℕ) → Leaves old new → IsStamped old new → NoneFailed old new
-    → Some stamp ≡ stamp_of (raised_at old (index_of f.key)) → (IsHonest old → NoneFailed old new → fit (row_of (stood old) (index_of f.key)) f ≡ Some bytes)
-    → IsWithinOr cache kept (f, (stamp, bytes)) → IsFresh cache old → IsFresh kept new
+    → Some stamp ≡ stamp_of (raised_at old (index_of f.key)) → (IsHonest old → NoneFailed old new → fit (table_of (stood old) (index_of f.key)) f ≡ Some bytes)
+    → IsWithinOr cache kept (f, (stamp, bytes)) → IsCacheCurrent cache old → IsCacheCurrent kept new
 fresh_kept cache kept old new f stamp bytes left stamped calm is read within fresh entry there =
     let si = index_of f.key in
     let told = stamp_tells (raised_at old si) stamp is in
@@ -78,9 +78,9 @@ fresh_kept cache kept old new f stamp bytes left stamped calm is read within fre
     ]
 
 pub fresh_kept_if : (o : Option ℕ) (cache kept : List CacheEntry) (old new : GridState) (f : ReadValue) (bytes : List ℕ) → Leaves old new → IsStamped old new → NoneFailed old new
-    → o ≡ stamp_of (raised_at old (index_of f.key)) → (IsHonest old → NoneFailed old new → fit (row_of (stood old) (index_of f.key)) f ≡ Some bytes)
-    → MatchOption o (kept ≡ cache) (λ stamp. IsWithinOr cache kept (f, (stamp, bytes))) → IsFresh cache old → IsFresh kept new
-fresh_kept_if None cache kept old new f bytes left stamped calm is read same fresh = subst (λ entries. IsFresh entries new) (sym same) (fresh_stays cache old new left stamped fresh)
+    → o ≡ stamp_of (raised_at old (index_of f.key)) → (IsHonest old → NoneFailed old new → fit (table_of (stood old) (index_of f.key)) f ≡ Some bytes)
+    → MatchOption o (kept ≡ cache) (λ stamp. IsWithinOr cache kept (f, (stamp, bytes))) → IsCacheCurrent cache old → IsCacheCurrent kept new
+fresh_kept_if None cache kept old new f bytes left stamped calm is read same fresh = subst (λ entries. IsCacheCurrent entries new) (sym same) (fresh_stays cache old new left stamped fresh)
 fresh_kept_if (Some stamp) cache kept old new f bytes left stamped calm is read within fresh = fresh_kept cache kept old new f stamp bytes left stamped calm is read within fresh
 
 -- what a look-up found

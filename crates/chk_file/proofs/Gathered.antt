@@ -16,14 +16,14 @@ use Rattle.grid.specs.FoundLaws.{FoundLaws}
 use Rattle.grid.specs.Standing.{standing}
 use Rattle.share_codec.specs.Params.{ParamsValue}
 use Rattle.share_codec.specs.GoodShare.{GoodShare}
-use Rattle.chk_file.specs.Row.{ShareTable, row_of, most_servers, Place, places, first_good, good_at}
+use Rattle.chk_file.specs.Row.{ShareTable, table_of, most_servers, ServerShare, places, first_good, good_at}
 use Rattle.chk_file.specs.Check.{is_some_place, standing_numbers, standing_places, standing_in, bad_places, good_places}
 use Rattle.chk_file.specs.Gathered.{Found, of_number, by_number, good_below, bad_below, places_below, some_below, standing_below}
 use Rattle.chk_file.proofs.Tools.{true_or_false, mapped_alike, kept_alike, flat_alike, filter_alike, none_past, begun}
 
 -- ---- one share more
 
-abbrev place_in : Found → Place
+abbrev place_in : Found → ServerShare
 place_in f = (f.0, f.2)
 
 module _ (number : ℕ) where
@@ -50,7 +50,7 @@ module _ (number : ℕ) where
   of_same fs f same =
       of_more fs f ∙ ap (λ b. of_number number fs ++ cond b ((f.0, f.2) ∷ []) []) (eq-eqb f.1 number same)
 
-abbrev pub of_each : List Found → ℕ → List Place
+abbrev pub of_each : List Found → ℕ → List ServerShare
 of_each fs number = of_number number fs
 
 pub row_at : (n number : ℕ) (fs : List Found) → number < n → get_or (by_number n fs) number [] ≡ of_number number fs
@@ -66,7 +66,7 @@ rows_past n fs f past = mapped_alike (of_each (fs ++ f ∷ [])) (of_each fs) n 0
 -- and any other in its number's
 pub rows_more : (n : ℕ) (fs : List Found) (f : Found) → f.1 < n → set (by_number n fs) f.1 (of_number f.1 fs ++ (f.0, f.2) ∷ []) ≡ by_number n (fs ++ f ∷ [])
 rows_more n fs f below =
-    let row : List Place = of_number f.1 fs ++ (f.0, f.2) ∷ [] in
+    let row : List ServerShare = of_number f.1 fs ++ (f.0, f.2) ∷ [] in
     let long : length (set (by_number n fs) f.1 row) ≡ n = length-set (by_number n fs) f.1 row ∙ length-rows n fs in
     ext_get_or [] (set (by_number n fs) f.1 row) (by_number n (fs ++ f ∷ [])) (long ∙ sym (length-rows n (fs ++ f ∷ [])))
     (λ number within.
@@ -87,7 +87,7 @@ rows_more n fs f below =
 
 -- what is found of a number is what stands of it
 pub of_standing : FoundLaws → (number : ℕ) (maps : List Shares) (index : List ℕ) → length maps ≤ 256
-    → of_number number (found_below maps index (length maps)) ≡ places (row_of (standing maps) index) number
+    → of_number number (found_below maps index (length maps)) ≡ places (table_of (standing maps) index) number
 unfolding most_servers
 of_standing laws number maps index few =
     laws.of_number maps index (length maps) number
@@ -97,7 +97,7 @@ of_standing laws number maps index few =
 -- ---- what is made of the rows is made of the row of which they are
 
 module _ (found : List Found) (row : ShareTable) (same : (number : ℕ) → of_number number found ≡ places row number) (n : ℕ) where
-  abbrev rows : List (List Place)
+  abbrev rows : List (List ServerShare)
   rows = by_number n found
 
   same_places : (number : ℕ) → number < n → get_or rows number [] ≡ places row number

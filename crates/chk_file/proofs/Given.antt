@@ -16,7 +16,7 @@ use Rattle.share_codec.specs.Segments.{segment_count, segment_length}
 use Rattle.share_codec.specs.Shares.{blocks, roots_of}
 use Rattle.share_codec.specs.GoodShare.{GoodShare}
 use Rattle.chk_file.specs.Row.{ShareTable, good_shares}
-use Rattle.chk_file.specs.Fit.{blocks_at, segment_from, has_zeros, has_padding, has_root, is_of, crypttext_from, given_by, fit_in}
+use Rattle.chk_file.specs.Fit.{blocks_at, segment_from, has_zeros, has_padding, has_root, are_shares_of, crypttext_from, given_by, fit_in}
 use Rattle.chk_file.specs.IsFit.{IsGivenBy}
 use Rattle.chk_file.proofs.Tools.{pairs_taken}
 use Rattle.chk_file.proofs.Decodes.{made_share}
@@ -84,8 +84,8 @@ module _ (read : ReadFrom) (is_cut : GoodIsCut) (decodes : Decodes) (padded : Pa
       } in
       let found : crypttext_from p taken ≡ c = same_crypttext p c taken given.blocks ∙ decodes p sharing c size c_bytes numbers (omega arith) apart some in
       let zeros : has_padding p taken ≡ true = same_padding p c taken given.blocks ∙ padded p sharing c size c_bytes numbers (omega arith) apart some in
-      let passes : is_of p c taken ≡ true = and_from _ _ zeros (root_first p c p.k goods needed one given.top) in
+      let passes : are_shares_of p c taken ≡ true = and_from _ _ zeros (root_first p c p.k goods needed one given.top) in
       ap (λ b. cond b (given_by p key taken) None) (le-leb p.k (length goods) enough)
-      ∙ ap (λ c'. cond (is_of p c' taken) (Some (crypt key c')) None) found
+      ∙ ap (λ c'. cond (are_shares_of p c' taken) (Some (crypt key c')) None) found
       ∙ ap (λ b. cond b (Some (crypt key c)) None) passes
       ∙ ap Some (crypt-twice twice is key bytes)

@@ -12,9 +12,9 @@ use Rattle.erasure.specs.Given.{AreDistinct, numbers_of, blocks_of, Repeats, Hav
 use Rattle.share_codec.specs.Params.{ParamsValue}
 use Rattle.share_codec.specs.Segments.{segment_count, block_length}
 use Rattle.share_codec.specs.Tags.{extension_hash}
-use Rattle.share_codec.specs.GoodShare.{GoodShare, IsCut}
+use Rattle.share_codec.specs.GoodShare.{GoodShare, IsCutInBlocks}
 use Rattle.share_codec.specs.GoodShare.{good_share}
-use Rattle.chk_file.specs.Row.{ShareTable, Place, places, first_good, good_at, good_shares}
+use Rattle.chk_file.specs.Row.{ShareTable, ServerShare, places, first_good, good_at, good_shares}
 use Rattle.chk_file.specs.Check.{if_bad, bad_places, if_good, good_places}
 use Rattle.chk_file.specs.Taken.{AreTaken}
 use Rattle.chk_file.specs.Fit.{blocks_at}
@@ -36,7 +36,7 @@ pub any_share : GoodShare
 any_share = record { number = 0; ueb = record { crypttext_root = []; share_root = [] }; blocks = [] }
 
 -- the blocks of a segment have its length
-block_long : (p : ParamsValue) (shares : List GoodShare) (at : ℕ) → at < segment_count p → All (IsCut p) shares → (i : ℕ) → i < length shares → length (get_or (blocks_of (blocks_at shares at)) i []) ≡ block_length p at
+block_long : (p : ParamsValue) (shares : List GoodShare) (at : ℕ) → at < segment_count p → All (IsCutInBlocks p) shares → (i : ℕ) → i < length shares → length (get_or (blocks_of (blocks_at shares at)) i []) ≡ block_length p at
 block_long p shares at inside cut i below =
     let block : GoodShare → List ℕ = λ share. get_or share.blocks at [] in
     ap (λ bs. length (get_or bs i [])) (contents-blocks_at shares at)
@@ -46,16 +46,16 @@ block_long p shares at inside cut i below =
 length-contents : (shares : List GoodShare) (at : ℕ) → length (blocks_of (blocks_at shares at)) ≡ length shares
 length-contents shares at = ap length (contents-blocks_at shares at) ∙ length-map shares (λ (share : GoodShare). get_or share.blocks at [])
 
-pub first_long : (p : ParamsValue) (shares : List GoodShare) (at : ℕ) → at < segment_count p → All (IsCut p) shares → 0 < length shares → size_of (blocks_of (blocks_at shares at)) ≡ block_length p at
+pub first_long : (p : ParamsValue) (shares : List GoodShare) (at : ℕ) → at < segment_count p → All (IsCutInBlocks p) shares → 0 < length shares → size_of (blocks_of (blocks_at shares at)) ≡ block_length p at
 first_long p shares at inside cut many = block_long p shares at inside cut 0 many
 
 -- so all are of one length
-pub one_length : (p : ParamsValue) (shares : List GoodShare) (at : ℕ) → at < segment_count p → All (IsCut p) shares → HasAnotherLength (blocks_of (blocks_at shares at)) → ⊥
+pub one_length : (p : ParamsValue) (shares : List GoodShare) (at : ℕ) → at < segment_count p → All (IsCutInBlocks p) shares → HasAnotherLength (blocks_of (blocks_at shares at)) → ⊥
 one_length p shares at inside cut (i, below, e) =
     let within : i < length shares = (let h = length-contents shares at in omega arith) in
     e (block_long p shares at inside cut i within ∙ sym (first_long p shares at inside cut (omega arith)))
 
-pub same_lengths : (p : ParamsValue) (shares : List GoodShare) (at : ℕ) → at < segment_count p → All (IsCut p) shares → HaveOneLength (blocks_of (blocks_at shares at))
+pub same_lengths : (p : ParamsValue) (shares : List GoodShare) (at : ℕ) → at < segment_count p → All (IsCutInBlocks p) shares → HaveOneLength (blocks_of (blocks_at shares at))
 same_lengths p shares at inside cut i d below =
     let within : i < length shares = (let h = length-contents shares at in omega arith) in
     ap length (get_or-d (blocks_of (blocks_at shares at)) i d [] below)
@@ -70,7 +70,7 @@ same_lengths p shares at inside cut i d below =
 pub from_images : {X Y : Type 0} (P : Y → Type 0) (f : X → Y) (xs : List X) → All P (map f xs) → All (λ x. P (f x)) xs
 from_images P f xs all k d below = subst P (get_or-map f xs k d (f d) below) (all k (f d) (let h = length-map xs f in omega arith))
 
-pub below_at : (p : ParamsValue) (shares : List GoodShare) (at : ℕ) → All (IsCut p) shares → All (λ (g : ℕ × List ℕ). g.0 < p.n) (blocks_at shares at)
+pub below_at : (p : ParamsValue) (shares : List GoodShare) (at : ℕ) → All (IsCutInBlocks p) shares → All (λ (g : ℕ × List ℕ). g.0 < p.n) (blocks_at shares at)
 below_at p shares at cut =
     All-map (λ (g : ℕ × List ℕ). g.0 < p.n) (λ (share : GoodShare). (share.number, get_or share.blocks at [])) shares (λ k d below. (cut k d below).below)
 
@@ -92,7 +92,7 @@ module _ (read : ReadFrom) (is_cut : GoodIsCut) (p : ParamsValue) (ueb : List �
   -- a good share of a number
   pub record IsOf (number : ℕ) (share : GoodShare) : Type 0 where
     pub numbered : share.number ≡ number
-    pub cut : IsCut p share
+    pub cut : IsCutInBlocks p share
     pub sealed : IsSealed p ueb share
 
   of_good : (s : List ℕ) (number : ℕ) (o : Option GoodShare) → good_share s number p ueb ≡ o → IfSome o (IsOf number)
@@ -105,7 +105,7 @@ module _ (read : ReadFrom) (is_cut : GoodIsCut) (p : ParamsValue) (ueb : List �
         sealed = record { hashes = from.meets.extension.hashes; extension = ap extension_hash (sym from.meets.extension.text) ∙ from.meets.hash };
       }
 
-  pub of_first : (number : ℕ) (found : List Place) → IfSome (first_good p ueb number found) (IsOf number)
+  pub of_first : (number : ℕ) (found : List ServerShare) → IfSome (first_good p ueb number found) (IsOf number)
   of_first number [] = tt
   of_first number (place ∷ found) = either (good_share place.1 number p ueb) (first_good p ueb number found) (of_good place.1 number (good_share place.1 number p ueb) refl) (of_first number found)
     where
@@ -115,7 +115,7 @@ module _ (read : ReadFrom) (is_cut : GoodIsCut) (p : ParamsValue) (ueb : List �
 
   -- what is known of each of them
   pub record IsKnown (share : GoodShare) : Type 0 where
-    pub cut : IsCut p share
+    pub cut : IsCutInBlocks p share
     pub sealed : IsSealed p ueb share
 
   module _ (f : ℕ → Option GoodShare) (each : (number : ℕ) → IfSome (f number) (IsOf number)) where
@@ -163,31 +163,31 @@ module _ (read : ReadFrom) (is_cut : GoodIsCut) (p : ParamsValue) (ueb : List �
 
 module _ (p : ParamsValue) (ueb : List ℕ) (number : ℕ) where
   -- the first that is good
-  pub first_found : (places : List Place) (i : ℕ) (place : Place) (share : GoodShare) → i < length places → place ≡ get_or places i place → first_good p ueb number (take i places) ≡ None
+  pub first_found : (places : List ServerShare) (i : ℕ) (place : ServerShare) (share : GoodShare) → i < length places → place ≡ get_or places i place → first_good p ueb number (take i places) ≡ None
       → good_share place.1 number p ueb ≡ Some share → first_good p ueb number places ≡ Some share
   first_found [] i place share below is none good = absurd (omega arith)
-  first_found (x ∷ places) zero place share below is none good = ap (λ o. option_or o (first_good p ueb number places)) (ap (λ (q : Place). good_share q.1 number p ueb) (sym is) ∙ good)
+  first_found (x ∷ places) zero place share below is none good = ap (λ o. option_or o (first_good p ueb number places)) (ap (λ (q : ServerShare). good_share q.1 number p ueb) (sym is) ∙ good)
   first_found (x ∷ places) (suc i) place share below is none good =
       let parts = both_none (good_share x.1 number p ueb) (first_good p ueb number (take i places)) none in
       ap (λ o. option_or o (first_good p ueb number places)) parts.0 ∙ first_found places i place share (omega arith) is parts.1 good
 
-  first_append : (one other : List Place) → first_good p ueb number (one ++ other) ≡ option_or (first_good p ueb number one) (first_good p ueb number other)
+  first_append : (one other : List ServerShare) → first_good p ueb number (one ++ other) ≡ option_or (first_good p ueb number one) (first_good p ueb number other)
   first_append [] other = refl
   first_append (x ∷ one) other =
       ap (option_or (good_share x.1 number p ueb)) (first_append one other)
       ∙ sym (or_assoc (good_share x.1 number p ueb) (first_good p ueb number one) (first_good p ueb number other))
 
-  pub first_more : (places : List Place) (place : Place) → first_good p ueb number (places ++ place ∷ []) ≡ option_or (first_good p ueb number places) (good_share place.1 number p ueb)
+  pub first_more : (places : List ServerShare) (place : ServerShare) → first_good p ueb number (places ++ place ∷ []) ≡ option_or (first_good p ueb number places) (good_share place.1 number p ueb)
   first_more places place = first_append places (place ∷ []) ∙ ap (option_or (first_good p ueb number places)) (or_none (good_share place.1 number p ueb))
 
-  pub bad_more : (places : List Place) (place : Place) → bad_places p ueb number (places ++ place ∷ []) ≡ bad_places p ueb number places ++ option_to_list (if_bad place.0 number (good_share place.1 number p ueb))
+  pub bad_more : (places : List ServerShare) (place : ServerShare) → bad_places p ueb number (places ++ place ∷ []) ≡ bad_places p ueb number places ++ option_to_list (if_bad place.0 number (good_share place.1 number p ueb))
   bad_more places place =
-      filter_map-append (λ (q : Place). if_bad q.0 number (good_share q.1 number p ueb)) places (place ∷ [])
+      filter_map-append (λ (q : ServerShare). if_bad q.0 number (good_share q.1 number p ueb)) places (place ∷ [])
       ∙ ap (λ ys. bad_places p ueb number places ++ ys) (cons_alone (if_bad place.0 number (good_share place.1 number p ueb)))
 
-  pub good_more : (places : List Place) (place : Place) → good_places p ueb number (places ++ place ∷ []) ≡ good_places p ueb number places ++ option_to_list (if_good place.0 number (good_share place.1 number p ueb))
+  pub good_more : (places : List ServerShare) (place : ServerShare) → good_places p ueb number (places ++ place ∷ []) ≡ good_places p ueb number places ++ option_to_list (if_good place.0 number (good_share place.1 number p ueb))
   good_more places place =
-      filter_map-append (λ (q : Place). if_good q.0 number (good_share q.1 number p ueb)) places (place ∷ [])
+      filter_map-append (λ (q : ServerShare). if_good q.0 number (good_share q.1 number p ueb)) places (place ∷ [])
       ∙ ap (λ ys. good_places p ueb number places ++ ys) (cons_alone (if_good place.0 number (good_share place.1 number p ueb)))
 
 -- ---- the good shares of a row

@@ -24,8 +24,8 @@ use Rattle.share_codec.specs.Uses.{share_uses, meets_uses}
 use Rattle.share_codec.specs.GoodShare.{good_share}
 use Rattle.chk_file.specs.Upload.{Upload, params, key_tag, key_of, crypttext_of, fields, index, share_of, IsUpload}
 use Rattle.chk_file.specs.Uses.{upload_uses}
-use Rattle.chk_file.specs.Row.{Place, most_servers, first_good, good_at, good_shares, place_uses, row_uses}
-use Rattle.chk_file.specs.Fit.{crypttext_from, has_padding, has_root, is_of, given_by, fit_in, fit}
+use Rattle.chk_file.specs.Row.{ServerShare, most_servers, first_good, good_at, good_shares, place_uses, row_uses}
+use Rattle.chk_file.specs.Fit.{crypttext_from, has_padding, has_root, are_shares_of, given_by, fit_in, fit}
 use Rattle.chk_file.specs.Marks.{Mark, MarkRow, stands, shown_row}
 use Rattle.chk_file.specs.Held.{has_none, is_untouched, stands_untouched, untouched_numbers, held_of}
 use Rattle.chk_file.specs.Sound.{IsMarkAt}
@@ -130,9 +130,9 @@ module _ (meets : MadeMeets) (back : MadeReadBack) (is_made : GoodIsMade) (is : 
     given_made : (numbers : List ℕ) → p.k ≤ length numbers → AreNumbers numbers → given_by p key (map (made_share p crypttext) numbers) ≡ Some (crypt key crypttext)
     given_made numbers many apart =
         let shares = map (made_share p crypttext) numbers in
-        let passes : is_of p crypttext shares ≡ true =
+        let passes : are_shares_of p crypttext shares ≡ true =
         and_from _ _ (padded p sharing crypttext long bytes numbers many apart some) (root_is numbers (let h = sharing.some in omega arith)) in
-        ap (λ c. cond (is_of p c shares) (Some (crypt key c)) None) (decodes p sharing crypttext long bytes numbers many apart some)
+        ap (λ c. cond (are_shares_of p c shares) (Some (crypt key c)) None) (decodes p sharing crypttext long bytes numbers many apart some)
         ∙ ap (λ b. cond b (Some (crypt key crypttext)) None) passes
 
     pub fit_made : (numbers : List ℕ) → AreNumbers numbers → fit_in p key (map (made_share p crypttext) numbers) ≡ cond (nat_le p.k (length numbers)) (Some (crypt key crypttext)) None
@@ -185,7 +185,7 @@ module _ (meets : MadeMeets) (back : MadeReadBack) (is_made : GoodIsMade) (is : 
         let more = among number below servers (All-tail (λ server. server < most_servers) server servers low) in
         one_place (marks server number) (filter_map (λ server. option_map (λ s. (server, s)) (shown_row marks server number)) servers) (list_any (λ server. option_map_or is_untouched (marks server number) false) servers) here more
       where
-        one_place : (o : Option Mark) (rest : List Place) (b : Bool)
+        one_place : (o : Option Mark) (rest : List ServerShare) (b : Bool)
             → option_and_then (λ s. good_share s number (params u) (ueb_hash (params u) (crypttext_of u))) (option_map (stands number) o) ≡ cond (option_map_or is_untouched o false) (Some (made_share (params u) (crypttext_of u) number)) None
             → first_good (params u) (ueb_hash (params u) (crypttext_of u)) number rest ≡ cond b (Some (made_share (params u) (crypttext_of u) number)) None
             → first_good (params u) (ueb_hash (params u) (crypttext_of u)) number (cons_option (option_map (λ s. (server, s)) (option_map (stands number) o)) rest)

@@ -11,7 +11,7 @@ use Rattle.grid.specs.Found.{found_below, AllBut}
 use Rattle.grid.specs.FoundLaws.{FoundLaws}
 use Rattle.grid.specs.GridState.{GridState, maps_of, failures_at}
 use Rattle.grid.specs.Standing.{standing}
-use Rattle.chk_file.specs.Row.{ShareTable, most_servers, Place, places}
+use Rattle.chk_file.specs.Row.{ShareTable, most_servers, ServerShare, places}
 use Rattle.chk_file.specs.Reached.{IsReached}
 use Rattle.chk_file.specs.Gathered.{Found, of_number}
 use Rattle.chk_file.proofs.Tools.{none_past}
@@ -47,18 +47,18 @@ module _ {A : Type 0} (Miss : A → Type 0) where
 
 -- ---- the shares of a number
 
-abbrev placed_at : (ℕ → Option (List ℕ)) → ℕ → Option Place
+abbrev placed_at : (ℕ → Option (List ℕ)) → ℕ → Option ServerShare
 placed_at g server = option_map (λ s. (server, s)) (g server)
 
 -- where nothing else is different, what is made of later numbers is the same
 later_alike : (f g : ℕ → Option (List ℕ)) (from a n : ℕ) → from < a → ((i : ℕ) → from < i → f i ≡ g i) → filter_map (placed_at f) (range_with_len a n) ≡ filter_map (placed_at g) (range_with_len a n)
 later_alike f g from a zero past each = refl
 later_alike f g from a (suc n) past each =
-    let here = ap (option_map {U = Place} (λ s. (a, s))) (each a past) in let more = later_alike f g from (a + 1) n (omega arith) each in λ i. cons_option (here i) (more i)
+    let here = ap (option_map {U = ServerShare} (λ s. (a, s))) (each a past) in let more = later_alike f g from (a + 1) n (omega arith) each in λ i. cons_option (here i) (more i)
 
 module _ (Miss : ℕ → Type 0) where
   -- given was what these say of so many servers, of which each says what it has or is missed
-  record Picked (g : ℕ → Option (List ℕ)) (a n : ℕ) (given : List Place) : Type 0 where
+  record Picked (g : ℕ → Option (List ℕ)) (a n : ℕ) (given : List ServerShare) : Type 0 where
     pub has : ℕ → Option (List ℕ)
     pub each : (server : ℕ) → (has server ≡ g server) ⊎ (Miss server × (has server ≡ None))
     pub is : given ≡ filter_map (placed_at has) (range_with_len a n)
@@ -82,23 +82,23 @@ module _ (Miss : ℕ → Type 0) where
       by_case true same = subst (λ s. (own ≡ g s) ⊎ (Miss s × (own ≡ None))) (sym (eqb-true server a same)) here
       by_case false other = later server
 
-  joined : (g : ℕ → Option (List ℕ)) (a n : ℕ) (own : Option (List ℕ)) (rest : List Place) → ((own ≡ g a) ⊎ (Miss a × (own ≡ None))) → Picked g (a + 1) n rest
+  joined : (g : ℕ → Option (List ℕ)) (a n : ℕ) (own : Option (List ℕ)) (rest : List ServerShare) → ((own ≡ g a) ⊎ (Miss a × (own ≡ None))) → Picked g (a + 1) n rest
       → Picked g a (suc n) (cons_option (option_map (λ s. (a, s)) own) rest)
   joined g a n own rest here more = record {
     has = first_has a own more.has;
     each = each_has g a own more.has here more.each;
     is =
-        ap (cons_option (option_map {U = Place} (λ s. (a, s)) own)) (more.is ∙ sym (later_alike (first_has a own more.has) more.has a (a + 1) n (omega arith) (has_later a own more.has)))
-        ∙ ap (λ o. cons_option (option_map {U = Place} (λ s. (a, s)) o) (filter_map (placed_at (first_has a own more.has)) (range_with_len (a + 1) n))) (sym (has_here a own more.has));
+        ap (cons_option (option_map {U = ServerShare} (λ s. (a, s)) own)) (more.is ∙ sym (later_alike (first_has a own more.has) more.has a (a + 1) n (omega arith) (has_later a own more.has)))
+        ∙ ap (λ o. cons_option (option_map {U = ServerShare} (λ s. (a, s)) o) (filter_map (placed_at (first_has a own more.has)) (range_with_len (a + 1) n))) (sym (has_here a own more.has));
   }
 
-  picked : (g : ℕ → Option (List ℕ)) (a n : ℕ) (given : List Place) → AllBut (λ (place : Place). Miss place.0) (filter_map (placed_at g) (range_with_len a n)) given → Picked g a n given
+  picked : (g : ℕ → Option (List ℕ)) (a n : ℕ) (given : List ServerShare) → AllBut (λ (place : ServerShare). Miss place.0) (filter_map (placed_at g) (range_with_len a n)) given → Picked g a n given
   picked g a zero given is = record { has = g; each = λ server. inl refl; is = is }
   picked g a (suc n) given all = by_case (g a) refl (λ ps more. picked g (a + 1) n ps more) all
     where
       by_case : (o : Option (List ℕ)) → g a ≡ o
-          → ((ps : List Place) → AllBut (λ (place : Place). Miss place.0) (filter_map (placed_at g) (range_with_len (a + 1) n)) ps → Picked g (a + 1) n ps)
-          → AllBut (λ (place : Place). Miss place.0) (cons_option (option_map (λ s. (a, s)) o) (filter_map (placed_at g) (range_with_len (a + 1) n))) given → Picked g a (suc n) given
+          → ((ps : List ServerShare) → AllBut (λ (place : ServerShare). Miss place.0) (filter_map (placed_at g) (range_with_len (a + 1) n)) ps → Picked g (a + 1) n ps)
+          → AllBut (λ (place : ServerShare). Miss place.0) (cons_option (option_map (λ s. (a, s)) o) (filter_map (placed_at g) (range_with_len (a + 1) n))) given → Picked g a (suc n) given
       by_case None none later more = joined g a n None given (inl (sym none)) (later given more)
       by_case (Some s) some later (inl (miss, more)) = joined g a n None given (inr (miss, refl)) (later given more)
       by_case (Some s) some later (inr (rest, is, more)) = subst (Picked g a (suc n)) (sym is) (joined g a n (Some s) rest (inl (sym some)) (later rest more))
@@ -112,17 +112,17 @@ abbrev stands_at : GridState → List ℕ → ℕ → ℕ → Option (List ℕ)
 stands_at old index number server = standing (maps_of old) server (index, number)
 
 -- all that stands of a number
-abbrev all_at : GridState → List ℕ → ℕ → List Place
+abbrev all_at : GridState → List ℕ → ℕ → List ServerShare
 all_at old index number = filter_map (placed_at (stands_at old index number)) (range_with_len 0 (length old.stores))
 
 -- a row that was reached, in which this stands of each number
-record IsListed (old new : GridState) (index : List ℕ) (lists : ℕ → List Place) : Type 0 where
+record IsListed (old new : GridState) (index : List ℕ) (lists : ℕ → List ServerShare) : Type 0 where
   pub row : ShareTable
   pub reached : IsReached old new index row
   pub is : (number : ℕ) → lists number ≡ places row number
 
-module _ (old new : GridState) (index : List ℕ) (few : length old.stores ≤ 256) (long : length (maps_of old) ≡ length old.stores) (lists : ℕ → List Place)
-    (all : (number : ℕ) → AllBut (λ (place : Place). Failed old new place.0) (all_at old index number) (lists number)) where
+module _ (old new : GridState) (index : List ℕ) (few : length old.stores ≤ 256) (long : length (maps_of old) ≡ length old.stores) (lists : ℕ → List ServerShare)
+    (all : (number : ℕ) → AllBut (λ (place : ServerShare). Failed old new place.0) (all_at old index number) (lists number)) where
   of_each : (number : ℕ) → Picked (Failed old new) (stands_at old index number) 0 (length old.stores) (lists number)
   of_each number = picked (Failed old new) (stands_at old index number) 0 (length old.stores) (lists number) (all number)
 
@@ -141,7 +141,7 @@ module _ (old new : GridState) (index : List ℕ) (few : length old.stores ≤ 2
     reached = record { each = λ server number. (of_each number).each server };
     is = λ number.
         (of_each number).is
-        ∙ sym (none_past (placed_at (of_each number).has) (length old.stores) 256 few (λ server past. ap (option_map {U = Place} (λ s. (server, s))) (none_there number server past)));
+        ∙ sym (none_past (placed_at (of_each number).has) (length old.stores) 256 few (λ server past. ap (option_map {U = ServerShare} (λ s. (server, s))) (none_there number server past)));
   }
 
 -- a row that was reached, and what was gathered is what stands in it
@@ -154,11 +154,11 @@ module _ (laws : FoundLaws) (old new : GridState) (index : List ℕ) (found : Li
   -- of a number of which all are among these
   of_list : (among : List Found) → AllBut (λ (f : Found). Failed old new f.0) among found → (number : ℕ)
       → filter (λ (f : Found). f.1 == number) among ≡ filter (λ (f : Found). f.1 == number) (found_below (maps_of old) index (length old.stores))
-      → AllBut (λ (place : Place). Failed old new place.0) (all_at old index number) (of_number number found)
+      → AllBut (λ (place : ServerShare). Failed old new place.0) (all_at old index number) (of_number number found)
   of_list among all number same =
-      subst (λ (ps : List Place). AllBut (λ (place : Place). Failed old new place.0) ps (of_number number found))
-      (ap (map {B = Place} (λ (f : Found). (f.0, f.2))) same ∙ laws.of_number (maps_of old) index (length old.stores) number)
-      (AllBut-map (λ (f : Found). Failed old new f.0) (λ (place : Place). Failed old new place.0) (λ f. (f.0, f.2)) (λ f failed. failed)
+      subst (λ (ps : List ServerShare). AllBut (λ (place : ServerShare). Failed old new place.0) ps (of_number number found))
+      (ap (map {B = ServerShare} (λ (f : Found). (f.0, f.2))) same ∙ laws.of_number (maps_of old) index (length old.stores) number)
+      (AllBut-map (λ (f : Found). Failed old new f.0) (λ (place : ServerShare). Failed old new place.0) (λ f. (f.0, f.2)) (λ f failed. failed)
       (filter (λ (f : Found). f.1 == number) among) (filter (λ (f : Found). f.1 == number) found)
       (AllBut-filter (λ (f : Found). Failed old new f.0) (λ (f : Found). f.1 == number) among found all))
 
@@ -212,19 +212,19 @@ module _ (laws : FoundLaws) (limit : ℕ) (old new : GridState) (index : List �
   low_found = filter (λ (f : Found). nat_lt f.1 limit) (found_below (maps_of old) index (length old.stores))
 
   -- what was gathered of a low number, and all that stands of any other
-  abbrev low_or_all : ℕ → List Place
+  abbrev low_or_all : ℕ → List ServerShare
   low_or_all number = cond (nat_lt number limit) (of_number number found) (all_at old index number)
 
-  all_but_low : (number : ℕ) → AllBut (λ (place : Place). Failed old new place.0) (all_at old index number) (low_or_all number)
+  all_but_low : (number : ℕ) → AllBut (λ (place : ServerShare). Failed old new place.0) (all_at old index number) (low_or_all number)
   all_but_low number = by_case (nat_lt number limit) refl
     where
-      by_case : (b : Bool) → nat_lt number limit ≡ b → AllBut (λ (place : Place). Failed old new place.0) (all_at old index number) (cond b (of_number number found) (all_at old index number))
+      by_case : (b : Bool) → nat_lt number limit ≡ b → AllBut (λ (place : ServerShare). Failed old new place.0) (all_at old index number) (cond b (of_number number found) (all_at old index number))
       by_case true is = of_list laws old new index found low_found all number (low_kept number limit is (found_below (maps_of old) index (length old.stores)))
-      by_case false is = AllBut-all (λ (place : Place). Failed old new place.0) (all_at old index number)
+      by_case false is = AllBut-all (λ (place : ServerShare). Failed old new place.0) (all_at old index number)
 
   none_high : (number : ℕ) → limit ≤ number → of_number number found ≡ []
   none_high number past =
-      ap (map {B = Place} (λ (f : Found). (f.0, f.2)))
+      ap (map {B = ServerShare} (λ (f : Found). (f.0, f.2)))
       (subst (λ (fs : List Found). AllBut (λ (f : Found). Failed old new f.0) fs (filter (λ (f : Found). f.1 == number) found))
       (high_dropped number limit (le-ltb number limit past) (found_below (maps_of old) index (length old.stores)))
       (AllBut-filter (λ (f : Found). Failed old new f.0) (λ (f : Found). f.1 == number) low_found found all))

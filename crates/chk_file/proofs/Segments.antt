@@ -11,7 +11,7 @@ use Rattle.share_codec.specs.Params.{ParamsValue}
 use Rattle.share_codec.specs.Segments.{block_size, segment_size, segment_count, segment_length, segments}
 use Rattle.share_codec.specs.GoodShare.{GoodShare}
 use Rattle.chk_file.specs.Fit.{segment_from, crypttext_from}
-use Rattle.chk_file.specs.Downloads.{left_of}
+use Rattle.chk_file.specs.Downloads.{download_left}
 
 -- the next piece of what is left from a place on
 pub piece_given : (xs : List ℕ) (at each n : ℕ) → n ≡ min each (length xs - at) → take ((at + n) - at) (drop at xs) ≡ take each (drop at xs)
@@ -27,13 +27,13 @@ piece_left xs at each n is = by_case (grind arith) ∙ sym (drop-drop each at xs
     by_case (inr past) = drop_all (at + n) xs (omega (arith, is)) ∙ sym (drop_all (at + each) xs (omega (arith, is)))
 
 -- from the next segment on
-pub next_left : (p : ParamsValue) (plain : List ℕ) (at : ℕ) → (left_of p plain (at + 1)).left ≡ drop (segment_size p) (left_of p plain at).left
+pub next_left : (p : ParamsValue) (plain : List ℕ) (at : ℕ) → (download_left p plain (at + 1)).left ≡ drop (segment_size p) (download_left p plain at).left
 next_left p plain at =
     let e : (at + 1) * segment_size p ≡ at * segment_size p + segment_size p = grind arith in
     ap (λ n. drop n plain) e ∙ sym (drop-drop (segment_size p) (at * segment_size p) plain)
 
 -- from a later segment on
-pub later_left : (p : ParamsValue) (plain : List ℕ) (at n : ℕ) → (left_of p plain (at + n)).left ≡ drop (n * segment_size p) (left_of p plain at).left
+pub later_left : (p : ParamsValue) (plain : List ℕ) (at n : ℕ) → (download_left p plain (at + n)).left ≡ drop (n * segment_size p) (download_left p plain at).left
 later_left p plain at n =
     let e : (at + n) * segment_size p ≡ at * segment_size p + n * segment_size p = grind arith in
     ap (λ m. drop m plain) e ∙ sym (drop-drop (n * segment_size p) (at * segment_size p) plain)
@@ -50,7 +50,7 @@ pub counted_within : (n each size : ℕ) → 0 < each → n * each < size → n 
 counted_within n each size some within = grind (arith, some, within)
 
 -- so does the one in which a byte is that is left
-pub passes_within : (p : ParamsValue) (plain : List ℕ) (at bytes : ℕ) → 0 < segment_size p → length plain ≡ p.size → bytes < length (left_of p plain at).left
+pub passes_within : (p : ParamsValue) (plain : List ℕ) (at bytes : ℕ) → 0 < segment_size p → length plain ≡ p.size → bytes < length (download_left p plain at).left
     → (at + bytes / segment_size p) * segment_size p < p.size
 passes_within p plain at bytes some long lt =
     let each : ℕ = segment_size p in
@@ -71,7 +71,7 @@ unfolding segment_length
 length_within p at = omega arith
 
 -- no byte is left past the last segment
-pub none_left : (p : ParamsValue) (plain : List ℕ) (at : ℕ) → 0 < segment_size p → length plain ≡ p.size → at ≡ segment_count p → (left_of p plain at).left ≡ []
+pub none_left : (p : ParamsValue) (plain : List ℕ) (at : ℕ) → 0 < segment_size p → length plain ≡ p.size → at ≡ segment_count p → (download_left p plain at).left ≡ []
 unfolding segment_count
 none_left p plain at some long is =
     let covers : p.size ≤ div_ceil p.size (segment_size p) * segment_size p = (div_ceil_times p.size (segment_size p) some).0 in

@@ -12,7 +12,7 @@ use Rattle.aes_ctr.specs.Crypt.{crypt, crypt_from}
 use Rattle.share_codec.specs.Params.{ParamsValue}
 use Rattle.share_codec.specs.Shares.{roots_of}
 use Rattle.share_codec.specs.GoodShare.{GoodShare}
-use Rattle.chk_file.specs.Fit.{crypttext_from, has_padding, has_root, is_of, given_by, fit_in}
+use Rattle.chk_file.specs.Fit.{crypttext_from, has_padding, has_root, are_shares_of, given_by, fit_in}
 use Rattle.chk_file.specs.Bound.{IsBoundBy}
 use Rattle.chk_file.proofs.Tools.{true_or_false}
 use Rattle.chk_file.proofs.Sealed.{ReadFrom, GoodIsCut}
@@ -60,7 +60,7 @@ module _ (read : ReadFrom) (is_cut : GoodIsCut) (p : ParamsValue) (ueb : List â„
     bound_given b many e =
         let shares = take p.k goods in
         let c = crypttext_from p shares in
-        let both = cond_some (is_of p c shares) (crypt key c) b e in
+        let both = cond_some (are_shares_of p c shares) (crypt key c) b e in
         let parts = and_parts (has_padding p shares) (has_root p c shares) both.0 in
         let known : All (IsKnown read is_cut p ueb) shares = All-take (IsKnown read is_cut p ueb) p.k goods (all_known read is_cut p ueb f each n) in
         let enough : p.k â‰¤ length shares = (let h = length-take-le p.k goods many in omega arith) in

@@ -28,8 +28,8 @@ use Rattle.chk_file.specs.Upload.{Upload, fields, index, share_of, shares_of, Is
 use Rattle.chk_file.specs.Fit.{fit}
 use Rattle.chk_file.specs.Marks.{Mark, Marks, MarkRow, untouched, stands, marks_of, shown, shown_row, put_marks, lost_mark, spoiled_at, spoiled_mark}
 use Rattle.chk_file.specs.World.{World, empty, same_fields, with_file, after_upload, after_lose, after_spoil}
-use Rattle.chk_file.specs.Held.{held_of, held_in, held}
-use Rattle.chk_file.specs.Sound.{IsFileAt, IsMarkAt, IsSound, IsCovered}
+use Rattle.chk_file.specs.Held.{held_of, held_in, uploaded_bytes}
+use Rattle.chk_file.specs.Sound.{IsFileAt, IsMarkAt, IsSoundWorld, IsCovered}
 use Rattle.chk_file.proofs.Tools.{true_or_false}
 use Rattle.chk_file.proofs.Keys.{IsRowOf}
 
@@ -172,14 +172,14 @@ spoiled_when si i place mark true within h = record {
 }
 spoiled_when si i place mark false within h = h
 
-pub sound-empty : IsSound empty
+pub sound-empty : IsSoundWorld empty
 sound-empty = record { files = λ f u e. cc; marks = λ server si number mark e. cc }
 
 abbrev with_upload : ℕ → Upload → World → World
 with_upload servers u w = record { files = with_file u w.files; marks = put_marks servers u w.marks }
 
-module _ (servers : ℕ) (u : Upload) (w : World) (is : IsUpload u) (sound : IsSound w) where
-  sound_with : IsSound (with_upload servers u w)
+module _ (servers : ℕ) (u : Upload) (w : World) (is : IsUpload u) (sound : IsSoundWorld w) where
+  sound_with : IsSoundWorld (with_upload servers u w)
   sound_with = record {
     files = λ f v e. if_put (IsFileAt f) (same_fields f (fields u)) (w.files f) u (λ same. record { named = same_name f (fields u) same; upload = is }) (sound.files f) v e;
     marks = λ server si number mark e.
@@ -193,19 +193,19 @@ module _ (servers : ℕ) (u : Upload) (w : World) (is : IsUpload u) (sound : IsS
         (sound.marks server si number) mark e;
   }
 
-  pub sound-upload : IsSound (after_upload servers u w)
+  pub sound-upload : IsSoundWorld (after_upload servers u w)
   sound-upload =
       true_or_false (nat_lt 55 (length u.bytes)) _
-      (λ long. subst (λ b. IsSound (cond b (with_upload servers u w) w)) (sym long) sound_with)
-      (λ short. subst (λ b. IsSound (cond b (with_upload servers u w) w)) (sym short) sound)
+      (λ long. subst (λ b. IsSoundWorld (cond b (with_upload servers u w) w)) (sym long) sound_with)
+      (λ short. subst (λ b. IsSoundWorld (cond b (with_upload servers u w) w)) (sym short) sound)
 
-pub sound-lose : (server : ℕ) (key : ShareKey) (w : World) → IsSound w → IsSound (after_lose server key w)
+pub sound-lose : (server : ℕ) (key : ShareKey) (w : World) → IsSoundWorld w → IsSoundWorld (after_lose server key w)
 sound-lose server key w sound = record {
   files = sound.files;
   marks = λ s si number mark e. if_lost (IsMarkAt si number) (s == server && eq_by_cmp key_cmp (si, number) key) (w.marks s (si, number)) (sound.marks s si number) mark e;
 }
 
-pub sound-spoil : (server : ℕ) (key : ShareKey) (place : ℕ) (w : World) → IsSound w → IsSound (after_spoil server key place w)
+pub sound-spoil : (server : ℕ) (key : ShareKey) (place : ℕ) (w : World) → IsSoundWorld w → IsSoundWorld (after_spoil server key place w)
 sound-spoil server key place w sound = record {
   files = sound.files;
   marks = λ s si number mark e.
@@ -219,7 +219,7 @@ sound-spoil server key place w sound = record {
 abbrev pub RowHeld : Type 0
 RowHeld = (uses : List Use) (u : Upload) (marks : MarkRow) → NoCollision uses → IsRowOf uses u marks → fit (shown_row marks) (fields u) ≡ held_of u marks
 
-module _ (row_held : RowHeld) (uses : List Use) (w : World) (apart : NoCollision uses) (sound : IsSound w) where
+module _ (row_held : RowHeld) (uses : List Use) (w : World) (apart : NoCollision uses) (sound : IsSoundWorld w) where
   at_upload : (u : Upload) → w.files (fields u) ≡ Some u → IsUpload u → IsCovered uses w (fields u) → fit (shown_row (marks_of w.marks (index u))) (fields u) ≡ held_of u (marks_of w.marks (index u))
   at_upload u file is covered =
       row_held uses u (marks_of w.marks (index u)) apart
@@ -238,7 +238,7 @@ module _ (row_held : RowHeld) (uses : List Use) (w : World) (apart : NoCollision
       subst (λ (g : ReadValue). fit (shown_row (marks_of w.marks (index_of g.key))) g ≡ held_of u (marks_of w.marks (index_of g.key))) known.named
       (at_upload u (subst (λ (g : ReadValue). w.files g ≡ Some u) (sym known.named) file) known.upload (subst (IsCovered uses w) (sym known.named) covered))
 
-  pub fit_is_held_at : (f : ReadValue) → IsCovered uses w f → fit (shown_row (marks_of w.marks (index_of f.key))) f ≡ held w f
+  pub fit_is_held_at : (f : ReadValue) → IsCovered uses w f → fit (shown_row (marks_of w.marks (index_of f.key))) f ≡ uploaded_bytes w f
   fit_is_held_at f covered = at_file f (w.files f) refl covered
 
 -- ---- one item changes its own index alone

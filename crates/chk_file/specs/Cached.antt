@@ -4,7 +4,7 @@ use Rattle.grid.specs.Stamps.{last_count}
 use Rattle.grid.specs.GridState.{GridState, stood, raised_at, IsHonest}
 use Rattle.caps.specs.Fields.{ReadValue}
 use Rattle.caps.specs.StorageIndex.{index_of}
-use Rattle.chk_file.specs.Row.{row_of}
+use Rattle.chk_file.specs.Row.{table_of}
 use Rattle.chk_file.specs.Fit.{fit}
 use Rattle.chk_file.specs.Bound.{Bound}
 
@@ -29,8 +29,8 @@ IsWithinOr old new put = (entry : CacheEntry) → Contains new entry → Contain
 pub record IsCurrent (grid : GridState) (entry : CacheEntry) : Type 0 where
   pub low : entry.1.0 ≤ raised_at grid (index_of entry.0.key)
   pub counts : IsHonest grid → raised_at grid (index_of entry.0.key) ≡ entry.1.0 → entry.1.0 ≢ last_count →
-      fit (row_of (stood grid) (index_of entry.0.key)) entry.0 ≡ Some entry.1.1
+      fit (table_of (stood grid) (index_of entry.0.key)) entry.0 ≡ Some entry.1.1
 
 -- each entry is
-abbrev pub IsFresh : List CacheEntry → GridState → Type 0
-IsFresh cache grid = (entry : CacheEntry) → Contains cache entry → IsCurrent grid entry
+abbrev pub IsCacheCurrent : List CacheEntry → GridState → Type 0
+IsCacheCurrent cache grid = (entry : CacheEntry) → Contains cache entry → IsCurrent grid entry

@@ -6,7 +6,7 @@ use Rattle.share_codec.specs.GoodShare.{GoodShare}
 use Rattle.caps.specs.Fields.{VerifyValue}
 use Rattle.chk_file.specs.Numbers.{params_of}
 use Rattle.share_codec.specs.GoodShare.{good_share}
-use Rattle.chk_file.specs.Row.{ShareTable, Place, places, good_shares}
+use Rattle.chk_file.specs.Row.{ShareTable, ServerShare, places, good_shares}
 
 -- how many shares are needed and how many expected, of how many numbers one is good, the server and number of each share
 -- that isn't, and those of each that is
@@ -17,7 +17,7 @@ pub record HealthValue : Type 0 where
   pub corrupt : List (ℕ × ℕ)
   pub places : List (ℕ × ℕ)
 
-abbrev pub is_some_place : List Place → Bool
+abbrev pub is_some_place : List ServerShare → Bool
 is_some_place [] = false
 is_some_place (place ∷ more) = true
 
@@ -26,7 +26,7 @@ abbrev pub standing_numbers : ℕ → ShareTable → List ℕ
 standing_numbers n row = filter (λ number. is_some_place (places row number)) (range_with_len 0 n)
 
 -- the server and number of each share that stands of a number
-abbrev pub standing_places : ℕ → List Place → List (ℕ × ℕ)
+abbrev pub standing_places : ℕ → List ServerShare → List (ℕ × ℕ)
 standing_places number found = map (λ place. (place.0, number)) found
 
 -- and of each that stands of the numbers below n, in the order of the numbers, and then of the servers
@@ -39,7 +39,7 @@ if_bad server number None = Some (server, number)
 if_bad server number (Some good) = None
 
 -- those among the places of a number
-abbrev pub bad_places : ParamsValue → List ℕ → ℕ → List Place → List (ℕ × ℕ)
+abbrev pub bad_places : ParamsValue → List ℕ → ℕ → List ServerShare → List (ℕ × ℕ)
 bad_places p ueb number found = filter_map (λ place. if_bad place.0 number (good_share place.1 number p ueb)) found
 
 -- in the order of the numbers, and then of the servers
@@ -52,7 +52,7 @@ if_good server number None = None
 if_good server number (Some good) = Some (server, number)
 
 -- those among the places of a number
-abbrev pub good_places : ParamsValue → List ℕ → ℕ → List Place → List (ℕ × ℕ)
+abbrev pub good_places : ParamsValue → List ℕ → ℕ → List ServerShare → List (ℕ × ℕ)
 good_places p ueb number found = filter_map (λ place. if_good place.0 number (good_share place.1 number p ueb)) found
 
 -- in the order of the numbers, and then of the servers

@@ -9,8 +9,8 @@ pub record DownloadValue : Type 0 where
   pub each : ℕ
 
 -- of a file's bytes, those from a segment on
-abbrev pub left_of : ParamsValue → List ℕ → ℕ → DownloadValue
-left_of p plain at = record { left = drop (at * segment_size p) plain; each = segment_size p }
+abbrev pub download_left : ParamsValue → List ℕ → ℕ → DownloadValue
+download_left p plain at = record { left = drop (at * segment_size p) plain; each = segment_size p }
 
 -- the next segment was given, which isn't empty
 pub record IsGiven (given : List ℕ) (old new : DownloadValue) : Type 0 where

@@ -41,12 +41,12 @@ has_root p crypttext [] = false
 has_root p crypttext (share ∷ shares) = pointwise nat_eq (roots_of p crypttext).crypttext_root share.ueb.crypttext_root
 
 -- these are shares of that crypttext: the padding is zeros, and the root is that of the first share
-abbrev pub is_of : ParamsValue → List ℕ → List GoodShare → Bool
-is_of p crypttext shares = has_padding p shares && has_root p crypttext shares
+abbrev pub are_shares_of : ParamsValue → List ℕ → List GoodShare → Bool
+are_shares_of p crypttext shares = has_padding p shares && has_root p crypttext shares
 
 -- what k shares give, decrypted
 abbrev pub given_by : ParamsValue → List ℕ → List GoodShare → Option (List ℕ)
-given_by p key shares = if is_of p (crypttext_from p shares) shares then Some (crypt key (crypttext_from p shares)) else None
+given_by p key shares = if are_shares_of p (crypttext_from p shares) shares then Some (crypt key (crypttext_from p shares)) else None
 
 -- of the good shares in the order of their numbers the first k, if there are as many
 abbrev pub fit_in : ParamsValue → List ℕ → List GoodShare → Option (List ℕ)

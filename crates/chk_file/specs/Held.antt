@@ -35,5 +35,5 @@ abbrev pub held_in : Option Upload → MarkRow → ReadValue → Option (List �
 held_in None marks f = fit (shown_row marks) f
 held_in (Some u) marks f = held_of u marks
 
-abbrev pub held : World → ReadValue → Option (List ℕ)
-held w f = held_in (w.files f) (marks_of w.marks (index_of f.key)) f
+abbrev pub uploaded_bytes : World → ReadValue → Option (List ℕ)
+uploaded_bytes w f = held_in (w.files f) (marks_of w.marks (index_of f.key)) f

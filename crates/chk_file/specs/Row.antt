@@ -14,23 +14,23 @@ abbrev pub ShareTable : Type 0
 ShareTable = ℕ → ℕ → Option (List ℕ)
 
 -- of what stands in a grid, the row of a storage index
-abbrev pub row_of : Standing → List ℕ → ShareTable
-row_of standing index server number = standing server (index, number)
+abbrev pub table_of : Standing → List ℕ → ShareTable
+table_of standing index server number = standing server (index, number)
 
 -- more servers there aren't
 unfoldable pub most_servers : ℕ
 most_servers = 256
 
 -- a server, and what stands there
-abbrev pub Place : Type 0
-Place = ℕ × List ℕ
+abbrev pub ServerShare : Type 0
+ServerShare = ℕ × List ℕ
 
 -- the places at which something stands of a number, in the order of the servers
-abbrev pub places : ShareTable → ℕ → List Place
+abbrev pub places : ShareTable → ℕ → List ServerShare
 places row number = filter_map (λ server. option_map (λ s. (server, s)) (row server number)) (range_with_len 0 most_servers)
 
 -- the first good share among the places of a number
-abbrev pub first_good : ParamsValue → List ℕ → ℕ → List Place → Option GoodShare
+abbrev pub first_good : ParamsValue → List ℕ → ℕ → List ServerShare → Option GoodShare
 first_good p ueb number [] = None
 first_good p ueb number (place ∷ more) = option_or (good_share place.1 number p ueb) (first_good p ueb number more)
 

@@ -23,7 +23,7 @@ pub record IsMarkAt (si : List ℕ) (number : ℕ) (mark : Mark) : Type 0 where
   pub below : number < mark.upload.n
   pub inside : All (λ place. place < length (share_of mark.upload number)) mark.toggles
 
-pub record IsSound (w : World) : Type 0 where
+pub record IsSoundWorld (w : World) : Type 0 where
   pub files : (f : ReadValue) (u : Upload) → w.files f ≡ Some u → IsFileAt f u
   pub marks : (server : ℕ) (si : List ℕ) (number : ℕ) (mark : Mark) → w.marks server (si, number) ≡ Some mark → IsMarkAt si number mark
 

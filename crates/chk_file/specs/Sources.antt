@@ -3,6 +3,6 @@ use Rattle.chk_file.specs.Downloads.{DownloadValue}
 use Rattle.chk_file.specs.declared.download.Source.{Source}
 use Rattle.chk_file.specs.declared.download.Source.TheVariants.{Whole, Pinned}
 
-abbrev pub value_of : Source → DownloadValue
-value_of (Whole whole) = whole
-value_of (Pinned pins) = pins
+abbrev pub download_of : Source → DownloadValue
+download_of (Whole whole) = whole
+download_of (Pinned shares) = shares

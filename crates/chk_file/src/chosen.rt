@@ -5,7 +5,7 @@ ghost use Rattle.share_codec.specs.GoodShare.{good_share};
 ghost use Rattle.chk_file.specs.Row.{first_good};
 ghost use Rattle.chk_file.specs.Gathered.{places_of, good_below};
 
-use crate::rows::{Lent, Rows};
+use crate::rows::{Rows, ShareRef};
 use share_codec::{Params, Share, ShareFault, read_share};
 use std::alloc::{AllocError, Global};
 use std::rc::RcSlice;
@@ -37,7 +37,7 @@ pub(crate) fn chosen(
 /// The good share of a number, from the first server that has one.
 fn first_good(
     alloc: Global,
-    places: &[(usize, Lent<'_>)],
+    places: &[(usize, ShareRef<'_>)],
     number: u16,
     params: &Params,
     ueb: &[u8; 32],

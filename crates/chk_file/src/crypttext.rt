@@ -2,7 +2,7 @@
 ghost use Rattle.std.specs.Prelude.{◌≡◌, IfOk, Some, None, if◌then◌else◌};
 ghost use Rattle.std.specs.Option.{option_map};
 ghost use Rattle.chk_file.specs.Taken.{AreTaken};
-ghost use Rattle.chk_file.specs.Fit.{crypttext_from, has_padding, is_of};
+ghost use Rattle.chk_file.specs.Fit.{crypttext_from, has_padding, are_shares_of};
 
 use crate::segment::add_segment;
 use erasure::Code;
@@ -18,7 +18,7 @@ pub(crate) fn crypttext(
     requires { AreTaken params.now shares.now }
     ensures { let bytes = crypttext_from params.now shares.now in IfOk result (λ found.
         option_map (λ v. v.items) found
-        ≡ (if is_of params.now bytes shares.now then Some bytes else None)) }
+        ≡ (if are_shares_of params.now bytes shares.now then Some bytes else None)) }
 {
     share_codec::laws::segments_are_joined_again();
     erasure::laws::decoded_blocks_are_the_given();

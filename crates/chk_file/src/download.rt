@@ -2,7 +2,7 @@
 ghost use Rattle.std.specs.Prelude.{◌≡◌, ◌<◌, length, IfOk, OnErr, MatchOption};
 ghost use Rattle.chk_file.specs.Downloads.{IsGiven, IsDone, IsPassed};
 
-use crate::pins::Pins;
+use crate::share_reader::ShareReader;
 use crate::whole::Whole;
 use std::alloc::{AllocError, Global};
 use std::marker::Model;
@@ -13,7 +13,7 @@ pub(crate) enum Source {
     /// The whole file is held.
     Whole(Whole),
     /// So are k good shares of it.
-    Pinned(Pins),
+    Pinned(ShareReader),
 }
 
 /// The bytes of a file that are left, which are given a segment at a time. No store is asked for them.
@@ -28,9 +28,9 @@ impl Model for Download {
 
     ghost Value = { DownloadValue };
 
-    ghost use Rattle.chk_file.specs.Sources.{value_of};
+    ghost use Rattle.chk_file.specs.Sources.{download_of};
 
-    ghost view = { λ d. value_of d.source };
+    ghost view = { λ d. download_of d.source };
 }
 
 impl Download {
@@ -45,12 +45,12 @@ impl Download {
     }
 
     /// All bytes of a file of which shares are held.
-    pub(crate) fn pinned(alloc: Global, pins: Pins) -> Self
-        ensures { result ≡ pins }
+    pub(crate) fn pinned(alloc: Global, shares: ShareReader) -> Self
+        ensures { result ≡ shares }
     {
         Download {
             alloc,
-            source: Source::Pinned(pins),
+            source: Source::Pinned(shares),
         }
     }
 
@@ -65,7 +65,7 @@ impl Download {
     {
         match &mut self.source {
             Source::Whole(whole) => whole.next(self.alloc),
-            Source::Pinned(pins) => pins.next(self.alloc),
+            Source::Pinned(shares) => shares.next(self.alloc),
         }
     }
 
@@ -77,7 +77,7 @@ impl Download {
     {
         match &mut self.source {
             Source::Whole(whole) => whole.skip(bytes),
-            Source::Pinned(pins) => pins.skip(bytes),
+            Source::Pinned(shares) => shares.skip(bytes),
         }
     }
 }

@@ -19,7 +19,7 @@ use tag_hash::{Decimal, push_netstring, tagged16};
 const KEY_TAG: &[u8; 26] = b"webgate_content_to_key_v1+";
 
 /// The read fields and the shares of bytes that are uploaded under a secret.
-pub(crate) fn encoded(
+pub(crate) fn encrypt_and_share(
     alloc: Global,
     params: &Params,
     secret: &[u8],

@@ -19,7 +19,7 @@ mod download;
 /// Bytes that are held whole.
 mod whole;
 /// Files of which shares are held.
-mod pins;
+mod share_reader;
 /// What the stores have of a file, verified.
 mod verify;
 /// What was gathered, number by number.

@@ -6,17 +6,17 @@ ghost use Rattle.grid.specs.Leaves.{Leaves, IsUnchanged};
 ghost use Rattle.caps.specs.StorageIndex.{index_of};
 ghost use Rattle.share_codec.specs.Segments.{segment_size};
 ghost use Rattle.chk_file.specs.Numbers.{params_of};
-ghost use Rattle.chk_file.specs.Row.{row_of};
+ghost use Rattle.chk_file.specs.Row.{table_of};
 ghost use Rattle.chk_file.specs.Reached.{OfReached};
 ghost use Rattle.chk_file.specs.Fit.{fit};
 ghost use Rattle.chk_file.specs.Bound.{Bound};
-ghost use Rattle.chk_file.specs.Cached.{IsFresh, IsWithinOr};
+ghost use Rattle.chk_file.specs.Cached.{IsCacheCurrent, IsWithinOr};
 
 use crate::cache::Cache;
 use crate::cipher::apply_keystream;
 use crate::download::Download;
 use crate::fault::ReadFault;
-use crate::pins::Pins;
+use crate::share_reader::ShareReader;
 use crate::verify::verify;
 use crate::whole::Whole;
 use caps::{ReadFields, storage_index};
@@ -45,15 +45,15 @@ pub fn read<S: Store>(
 ) -> Result<Vec<u8>, ReadFault>
     ensures leaves { Leaves grid.old grid.new }
     ensures unchanged { IsHonest grid.old → IsUnchanged grid.old grid.new }
-    ensures fresh { IsFresh cache.old grid.old → IsFresh cache.new grid.new }
+    ensures fresh { IsCacheCurrent cache.old grid.old → IsCacheCurrent cache.new grid.new }
     ensures bound { IfOk result (λ bytes. Bound fields.now bytes.items) }
-    ensures fit { IsFresh cache.old grid.old → IsHonest grid.old → NoneFailed grid.old grid.new →
-        IfOk result (λ bytes. fit (row_of (stood grid.old) (index_of fields.now.key)) fields.now
+    ensures fit { IsCacheCurrent cache.old grid.old → IsHonest grid.old → NoneFailed grid.old grid.new →
+        IfOk result (λ bytes. fit (table_of (stood grid.old) (index_of fields.now.key)) fields.now
         ≡ Some bytes.items) }
     ensures missing { IsHonest grid.old → NoneFailed grid.old grid.new →
         IsErrOf result ReadFault.NotEnoughShares →
-        fit (row_of (stood grid.old) (index_of fields.now.key)) fields.now ≡ None }
-    ensures fit_reached { IsFresh cache.old grid.old → IsHonest grid.old →
+        fit (table_of (stood grid.old) (index_of fields.now.key)) fields.now ≡ None }
+    ensures fit_reached { IsCacheCurrent cache.old grid.old → IsHonest grid.old →
         IfOk result (λ bytes. OfReached grid.old grid.new
         (index_of fields.now.key) (λ row. fit row fields.now ≡ Some bytes.items)) }
     ensures missing_reached { IsHonest grid.old → IsErrOf result ReadFault.NotEnoughShares →
@@ -83,25 +83,25 @@ pub fn begin<S: Store>(
 ) -> Result<Download, ReadFault>
     ensures leaves { Leaves grid.old grid.new }
     ensures unchanged { IsHonest grid.old → IsUnchanged grid.old grid.new }
-    ensures fresh { IsFresh cache.old grid.old → IsFresh cache.new grid.new }
+    ensures fresh { IsCacheCurrent cache.old grid.old → IsCacheCurrent cache.new grid.new }
     ensures bound { IfOk result (λ download. Bound fields.now download.left) }
-    ensures fit { IsFresh cache.old grid.old → IsHonest grid.old → NoneFailed grid.old grid.new →
+    ensures fit { IsCacheCurrent cache.old grid.old → IsHonest grid.old → NoneFailed grid.old grid.new →
         IfOk result (λ download.
-        fit (row_of (stood grid.old) (index_of fields.now.key)) fields.now
+        fit (table_of (stood grid.old) (index_of fields.now.key)) fields.now
         ≡ Some download.left) }
     ensures each { let p = params_of fields.now.k fields.now.n fields.now.size in
         0 < p.size → IfOk result (λ download. download.each ≡ segment_size p) }
     ensures missing { IsHonest grid.old → NoneFailed grid.old grid.new →
         IsErrOf result ReadFault.NotEnoughShares →
-        fit (row_of (stood grid.old) (index_of fields.now.key)) fields.now ≡ None }
-    ensures fit_reached { IsFresh cache.old grid.old → IsHonest grid.old →
+        fit (table_of (stood grid.old) (index_of fields.now.key)) fields.now ≡ None }
+    ensures fit_reached { IsCacheCurrent cache.old grid.old → IsHonest grid.old →
         IfOk result (λ download. OfReached grid.old grid.new
         (index_of fields.now.key) (λ row. fit row fields.now ≡ Some download.left)) }
     ensures missing_reached { IsHonest grid.old → IsErrOf result ReadFault.NotEnoughShares →
         OfReached grid.old grid.new (index_of fields.now.key) (λ row. fit row fields.now ≡ None) }
 {
     if fields.size > MOST_KEPT {
-        return pin_stores(alloc, grid, fields);
+        return hold_shares(alloc, grid, fields);
     }
     match fetch(alloc, grid, cache, fields) {
         Ok(bytes) => Ok(whole(alloc, fields, bytes)),
@@ -128,15 +128,15 @@ fn fetch<S: Store>(
 ) -> Result<RcSlice<u8>, ReadFault>
     ensures leaves { Leaves grid.old grid.new }
     ensures unchanged { IsHonest grid.old → IsUnchanged grid.old grid.new }
-    ensures fresh { IsFresh cache.old grid.old → IsFresh cache.new grid.new }
+    ensures fresh { IsCacheCurrent cache.old grid.old → IsCacheCurrent cache.new grid.new }
     ensures bound { IfOk result (λ bytes. Bound fields.now (rc_slice_items bytes)) }
-    ensures fit { IsFresh cache.old grid.old → IsHonest grid.old → NoneFailed grid.old grid.new →
-        IfOk result (λ bytes. fit (row_of (stood grid.old) (index_of fields.now.key)) fields.now
+    ensures fit { IsCacheCurrent cache.old grid.old → IsHonest grid.old → NoneFailed grid.old grid.new →
+        IfOk result (λ bytes. fit (table_of (stood grid.old) (index_of fields.now.key)) fields.now
         ≡ Some (rc_slice_items bytes)) }
     ensures missing { IsHonest grid.old → NoneFailed grid.old grid.new →
         IsErrOf result ReadFault.NotEnoughShares →
-        fit (row_of (stood grid.old) (index_of fields.now.key)) fields.now ≡ None }
-    ensures fit_reached { IsFresh cache.old grid.old → IsHonest grid.old →
+        fit (table_of (stood grid.old) (index_of fields.now.key)) fields.now ≡ None }
+    ensures fit_reached { IsCacheCurrent cache.old grid.old → IsHonest grid.old →
         IfOk result (λ bytes. OfReached grid.old grid.new
         (index_of fields.now.key) (λ row. fit row fields.now ≡ Some (rc_slice_items bytes))) }
     ensures missing_reached { IsHonest grid.old → IsErrOf result ReadFault.NotEnoughShares →
@@ -154,12 +154,12 @@ fn look_up<S: Store>(
     cache: &mut Cache,
     fields: &ReadFields,
 ) -> Result<Option<RcSlice<u8>>, AllocError>
-    ensures fresh { IsFresh cache.old grid.now → IsFresh cache.new grid.now }
+    ensures fresh { IsCacheCurrent cache.old grid.now → IsCacheCurrent cache.new grid.now }
     ensures bound { IfOk result (λ found. IfSome found (λ bytes.
         Bound fields.now (rc_slice_items bytes))) }
-    ensures fit { IsFresh cache.old grid.now → IsHonest grid.now →
+    ensures fit { IsCacheCurrent cache.old grid.now → IsHonest grid.now →
         IfOk result (λ found. IfSome found (λ bytes.
-        fit (row_of (stood grid.now) (index_of fields.now.key)) fields.now
+        fit (table_of (stood grid.now) (index_of fields.now.key)) fields.now
         ≡ Some (rc_slice_items bytes))) }
 {
     match grid.stamp(&storage_index(&fields.key)) {
@@ -177,14 +177,14 @@ fn read_anew<S: Store>(
 ) -> Result<RcSlice<u8>, ReadFault>
     ensures leaves { Leaves grid.old grid.new }
     ensures unchanged { IsHonest grid.old → IsUnchanged grid.old grid.new }
-    ensures fresh { IsFresh cache.old grid.old → IsFresh cache.new grid.new }
+    ensures fresh { IsCacheCurrent cache.old grid.old → IsCacheCurrent cache.new grid.new }
     ensures bound { IfOk result (λ bytes. Bound fields.now (rc_slice_items bytes)) }
     ensures fit { IsHonest grid.old → NoneFailed grid.old grid.new →
-        IfOk result (λ bytes. fit (row_of (stood grid.old) (index_of fields.now.key)) fields.now
+        IfOk result (λ bytes. fit (table_of (stood grid.old) (index_of fields.now.key)) fields.now
         ≡ Some (rc_slice_items bytes)) }
     ensures missing { IsHonest grid.old → NoneFailed grid.old grid.new →
         IsErrOf result ReadFault.NotEnoughShares →
-        fit (row_of (stood grid.old) (index_of fields.now.key)) fields.now ≡ None }
+        fit (table_of (stood grid.old) (index_of fields.now.key)) fields.now ≡ None }
     ensures fit_reached { IsHonest grid.old → IfOk result (λ bytes.
         OfReached grid.old grid.new
         (index_of fields.now.key) (λ row. fit row fields.now ≡ Some (rc_slice_items bytes))) }
@@ -230,11 +230,11 @@ fn read_shared<S: Store>(
     ensures unchanged { IsHonest grid.old → IsUnchanged grid.old grid.new }
     ensures bound { IfOk result (λ bytes. Bound fields.now (rc_slice_items bytes)) }
     ensures fit { IsHonest grid.old → NoneFailed grid.old grid.new → IfOk result (λ bytes.
-        fit (row_of (stood grid.old) (index_of fields.now.key)) fields.now
+        fit (table_of (stood grid.old) (index_of fields.now.key)) fields.now
         ≡ Some (rc_slice_items bytes)) }
     ensures missing { IsHonest grid.old → NoneFailed grid.old grid.new →
         IsErrOf result ReadFault.NotEnoughShares →
-        fit (row_of (stood grid.old) (index_of fields.now.key)) fields.now ≡ None }
+        fit (table_of (stood grid.old) (index_of fields.now.key)) fields.now ≡ None }
     ensures fit_reached { IsHonest grid.old → IfOk result (λ bytes.
         OfReached grid.old grid.new
         (index_of fields.now.key) (λ row. fit row fields.now ≡ Some (rc_slice_items bytes))) }
@@ -258,10 +258,10 @@ fn read_stores<S: Store>(
     ensures unchanged { IsHonest grid.old → IsUnchanged grid.old grid.new }
     ensures bound { IfOk result (λ bytes. Bound fields.now bytes.items) }
     ensures fit { IsHonest grid.old → NoneFailed grid.old grid.new → IfOk result (λ bytes.
-        fit (row_of (stood grid.old) (index_of fields.now.key)) fields.now ≡ Some bytes.items) }
+        fit (table_of (stood grid.old) (index_of fields.now.key)) fields.now ≡ Some bytes.items) }
     ensures missing { IsHonest grid.old → NoneFailed grid.old grid.new →
         IsErrOf result ReadFault.NotEnoughShares →
-        fit (row_of (stood grid.old) (index_of fields.now.key)) fields.now ≡ None }
+        fit (table_of (stood grid.old) (index_of fields.now.key)) fields.now ≡ None }
     ensures fit_reached { IsHonest grid.old → IfOk result (λ bytes.
         OfReached grid.old grid.new
         (index_of fields.now.key) (λ row. fit row fields.now ≡ Some bytes.items)) }
@@ -275,7 +275,7 @@ fn read_stores<S: Store>(
 }
 
 /// A download that holds k good shares of those that the stores have.
-fn pin_stores<S: Store>(
+fn hold_shares<S: Store>(
     alloc: Global,
     grid: &mut Grid<S>,
     fields: &ReadFields,
@@ -285,12 +285,12 @@ fn pin_stores<S: Store>(
     ensures unchanged { IsHonest grid.old → IsUnchanged grid.old grid.new }
     ensures bound { IfOk result (λ download. Bound fields.now download.left) }
     ensures fit { IsHonest grid.old → NoneFailed grid.old grid.new → IfOk result (λ download.
-        fit (row_of (stood grid.old) (index_of fields.now.key)) fields.now ≡ Some download.left) }
+        fit (table_of (stood grid.old) (index_of fields.now.key)) fields.now ≡ Some download.left) }
     ensures each { IfOk result (λ download.
         download.each ≡ segment_size (params_of fields.now.k fields.now.n fields.now.size)) }
     ensures missing { IsHonest grid.old → NoneFailed grid.old grid.new →
         IsErrOf result ReadFault.NotEnoughShares →
-        fit (row_of (stood grid.old) (index_of fields.now.key)) fields.now ≡ None }
+        fit (table_of (stood grid.old) (index_of fields.now.key)) fields.now ≡ None }
     ensures fit_reached { IsHonest grid.old → IfOk result (λ download.
         OfReached grid.old grid.new
         (index_of fields.now.key) (λ row. fit row fields.now ≡ Some download.left)) }
@@ -300,7 +300,7 @@ fn pin_stores<S: Store>(
     match verify(alloc, grid, fields) {
         Ok((shares, _)) => {
             let params = Params::new(fields.k, fields.n, fields.size);
-            Ok(Download::pinned(alloc, Pins::new(params, fields.key, shares)))
+            Ok(Download::pinned(alloc, ShareReader::new(params, fields.key, shares)))
         }
         Err(fault) => Err(fault),
     }

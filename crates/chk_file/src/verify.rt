@@ -4,9 +4,9 @@ ghost use Rattle.std.specs.Rc.{rc_slice_items};
 ghost use Rattle.aes_ctr.specs.Crypt.{crypt};
 ghost use Rattle.grid.specs.GridState.{stood, IsHonest, NoneFailed};
 ghost use Rattle.grid.specs.Leaves.{Leaves, IsUnchanged};
-ghost use Rattle.grid.specs.Found.{seen};
+ghost use Rattle.grid.specs.Found.{found_bytes};
 ghost use Rattle.caps.specs.StorageIndex.{index_of};
-ghost use Rattle.chk_file.specs.Row.{row_of};
+ghost use Rattle.chk_file.specs.Row.{table_of};
 ghost use Rattle.chk_file.specs.Reached.{OfReached};
 ghost use Rattle.chk_file.specs.Gathered.{fit_of};
 ghost use Rattle.chk_file.specs.Numbers.{params_of};
@@ -45,11 +45,11 @@ pub(crate) fn verify<S: Store>(
     ensures bound { IfOk result (λ read.
         Bound fields.now (crypt fields.now.key read.1.items)) }
     ensures fit { IsHonest grid.old → NoneFailed grid.old grid.new → IfOk result (λ read.
-        fit (row_of (stood grid.old) (index_of fields.now.key)) fields.now
+        fit (table_of (stood grid.old) (index_of fields.now.key)) fields.now
         ≡ Some (crypt fields.now.key read.1.items)) }
     ensures missing { IsHonest grid.old → NoneFailed grid.old grid.new →
         IsErrOf result ReadFault.NotEnoughShares →
-        fit (row_of (stood grid.old) (index_of fields.now.key)) fields.now ≡ None }
+        fit (table_of (stood grid.old) (index_of fields.now.key)) fields.now ≡ None }
     ensures fit_reached { IsHonest grid.old → IfOk result (λ read.
         OfReached grid.old grid.new (index_of fields.now.key) (λ row.
         fit row fields.now ≡ Some (crypt fields.now.key read.1.items))) }
@@ -110,11 +110,11 @@ fn verify_all<S: Store>(
     ensures bound { IfOk result (λ read.
         Bound fields.now (crypt fields.now.key read.1.items)) }
     ensures fit { IsHonest grid.old → NoneFailed grid.old grid.new → IfOk result (λ read.
-        fit (row_of (stood grid.old) (index_of fields.now.key)) fields.now
+        fit (table_of (stood grid.old) (index_of fields.now.key)) fields.now
         ≡ Some (crypt fields.now.key read.1.items)) }
     ensures missing { IsHonest grid.old → NoneFailed grid.old grid.new →
         IsErrOf result ReadFault.NotEnoughShares →
-        fit (row_of (stood grid.old) (index_of fields.now.key)) fields.now ≡ None }
+        fit (table_of (stood grid.old) (index_of fields.now.key)) fields.now ≡ None }
     ensures fit_reached { IsHonest grid.old → IfOk result (λ read.
         OfReached grid.old grid.new (index_of fields.now.key) (λ row.
         fit row fields.now ≡ Some (crypt fields.now.key read.1.items))) }
@@ -144,10 +144,10 @@ fn verify_found(
         ≡ crypttext_from (params_of fields.now.k fields.now.n fields.now.size) read.0.items) }
     ensures bound { IfOk result (λ read.
         Bound fields.now (crypt fields.now.key read.1.items)) }
-    ensures fit { IfOk result (λ read. fit_of (map (seen rc_slice_items) found.now) fields.now
+    ensures fit { IfOk result (λ read. fit_of (map (found_bytes rc_slice_items) found.now) fields.now
         ≡ Some (crypt fields.now.key read.1.items)) }
     ensures missing { IsErrOf result ReadFault.NotEnoughShares →
-        fit_of (map (seen rc_slice_items) found.now) fields.now ≡ None }
+        fit_of (map (found_bytes rc_slice_items) found.now) fields.now ≡ None }
 {
     share_codec::laws::good_shares_are_read();
     share_codec::laws::segments_are_joined_again();

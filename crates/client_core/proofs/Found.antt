@@ -9,14 +9,14 @@ use Rattle.std.proofs.lemmas.Map.Text.{is_eq-slice_cmp}
 use Rattle.std.proofs.lemmas.Slice.Eq.{bytes_eq-Decides}
 use Rattle.caps.specs.declared.cap.Cap.{Cap}
 use Rattle.dir_codec.specs.DirectoryText.{IsTextAbove, IsDirectoryText}
-use Rattle.dir_codec.specs.Reading.{reading}
+use Rattle.dir_codec.specs.Reading.{directory_reading}
 use Rattle.dir_codec.specs.Find.{child_named}
 use Rattle.dir_codec.specs.declared.entry.Entry.{Entry}
 use Rattle.client_core.specs.Way.{IsDirectoryOf, IsChildOf}
 
 -- what the law of texts says
 abbrev pub Read : Type 0
-Read = (entries : List Entry) (text : List ℕ) → reading text ≡ Ok entries → IsDirectoryText entries text
+Read = (entries : List Entry) (text : List ℕ) → directory_reading text ≡ Ok entries → IsDirectoryText entries text
 
 -- each entry is above what is below all of them
 above_at : (name : List ℕ) (entries : List Entry) (text : List ℕ) (i : ℕ) (d : Entry) → IsTextAbove name entries text → i < length entries → slice_cmp nat_cmp name (get_or entries i d).name ≡ Less

@@ -2,7 +2,7 @@
 use Rattle.std.specs.Prelude.{◌≡◌, ℕ, List, [], ◌∷◌, Some, Ok}
 use Rattle.caps.specs.declared.cap.Cap.{Cap}
 use Rattle.dir_codec.specs.declared.entry.Entry.{Entry}
-use Rattle.dir_codec.specs.Reading.{reading}
+use Rattle.dir_codec.specs.Reading.{directory_reading}
 use Rattle.path_walk.specs.Walk.{cap_named}
 use Rattle.cap_binding.specs.Binds.{AreTextOf}
 
@@ -10,7 +10,7 @@ use Rattle.cap_binding.specs.Binds.{AreTextOf}
 pub record IsDirectoryOf (cap : Cap) (entries : List Entry) : Type 0 where
   pub text : List ℕ
   pub of_cap : AreTextOf cap text
-  pub read : reading text ≡ Ok entries
+  pub read : directory_reading text ≡ Ok entries
 
 -- the child has that name in a directory that the cap is of
 pub record IsChildOf (cap : Cap) (name : List ℕ) (child : Cap) : Type 0 where

@@ -1,6 +1,6 @@
 //! Reading what caps are of.
 ghost use Rattle.std.specs.Prelude.{◌≡◌, ◌≢◌, [], Result, IfOk, OnOk, IfErr, OnErr, MatchResult, Ok};
-ghost use Rattle.dir_codec.specs.Reading.{reading};
+ghost use Rattle.dir_codec.specs.Reading.{directory_reading};
 ghost use Rattle.cap_binding.specs.Binds.{Binds, AreFileOf, AreTextOf};
 ghost use Rattle.client_core.specs.Way.{IsDirectoryOf};
 ghost use Rattle.client_core.specs.Given.{IsBoundAnswer, IsUnboundAnswer, most_taken};

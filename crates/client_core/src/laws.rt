@@ -2,13 +2,13 @@
 ghost use Rattle.std.specs.Prelude.{◌∷◌, ◌++◌, [], ℕ, List, Contains};
 ghost use Rattle.caps.specs.declared.cap.Cap.{Cap};
 ghost use Rattle.dir_codec.specs.declared.entry.Entry.{Entry};
-ghost use Rattle.path_walk.specs.Way.{Leads};
+ghost use Rattle.path_walk.specs.Way.{NamesLeadTo};
 ghost use Rattle.client_core.specs.Way.{IsDirectoryOf, IsChildOf, LeadsTo};
 
 /// A client's walk is one that the gateway's promise of walks allows, over bytes that are bound more strongly.
 pub fn walks_are_led()
     ensures { (cap end : Cap) (names : List (List ℕ)) → LeadsTo cap names end →
-        Leads cap names end }
+        NamesLeadTo cap names end }
 {
     cap_binding::laws::what_binds_is_bound();
 }

@@ -7,7 +7,7 @@ use Rattle.std.proofs.lemmas.Bool.Decides.{nat_tests}
 use Rattle.std.proofs.lemmas.List.Splits.{slice_split_none}
 use Rattle.percent_encoding.specs.Percent.{percent_decode}
 use Rattle.dir_codec.specs.Children.{nfc_text}
-use Rattle.path_names.specs.Names.{has_bad_escape, segments, texts, max_names, is_empty, first_or_empty, names_of}
+use Rattle.path_names.specs.Names.{has_bad_escape, path_segments, segment_texts, max_names, is_empty, first_or_empty, names_of}
 use Rattle.path_names.specs.declared.fault.PathFault.{PathFault}
 use Rattle.path_names.specs.declared.fault.PathFault.TheVariants.{BadEscape, NotUtf8, TooMany, EmptyName}
 use Rattle.web_request.specs.Targets.{is_question}
@@ -114,16 +114,16 @@ last_is : (xs : List ℕ) → list_all is_cap_byte xs ≡ true → (get_or xs (l
 last_is [] e = refl
 last_is (b ∷ xs) e = no_slash (get_or (b ∷ xs) (length (b ∷ xs) - 1) 0) (passes_at is_cap_byte (b ∷ xs) e (length (b ∷ xs) - 1) 0 (omega arith))
 
-one_segment : (xs : List ℕ) → list_all is_cap_byte xs ≡ true → segments xs ≡ xs ∷ []
+one_segment : (xs : List ℕ) → list_all is_cap_byte xs ≡ true → path_segments xs ≡ xs ∷ []
 one_segment xs e =
     rw (last_is xs e) (slice_split_none (λ b. b == 47) xs (λ k d below. no_slash (get_or xs k d) (passes_at is_cap_byte xs e k d below)))
 
-one_text : (xs : List ℕ) → list_all is_cap_byte xs ≡ true → texts xs ≡ xs ∷ []
+one_text : (xs : List ℕ) → list_all is_cap_byte xs ≡ true → segment_texts xs ≡ xs ∷ []
 one_text xs e = ap (map percent_decode) (one_segment xs e) ∙ ap (λ ys. ys ∷ []) (decoded xs e)
 
 -- a path that is a cap's text names no more
 pub names_are : (xs : List ℕ) → list_all is_cap_byte xs ≡ true → is_utf8 xs ≡ true → names_of xs ≡ Ok (xs, [])
-names_are xs e utf8 = by_parts (has_bad_escape xs) (texts xs) (no_bad_escape xs e) (one_text xs e)
+names_are xs e utf8 = by_parts (has_bad_escape xs) (segment_texts xs) (no_bad_escape xs e) (one_text xs e)
   where
     by_parts : (bad : Bool) (ts : List (List ℕ)) → bad ≡ false → ts ≡ xs ∷ []
         → cond {A = Result (List ℕ × List (List ℕ)) PathFault} bad (Err BadEscape) (cond (not (list_all is_utf8 ts)) (Err NotUtf8) (cond (nat_lt (1 + max_names) (length ts)) (Err TooMany)

@@ -18,7 +18,7 @@ use Rattle.httparse.specs.Grammar.{RequestHead, IsRequestHead, print_request, Al
 use Rattle.httparse.proofs.TrimLemmas.{trim_ows_space}
 use Rattle.http_edge.specs.Judge.{head_parts, head_verdict, within_limit, verdict_of, block_verdict, count_named, body_framing, body_length, length_of, asks_close, asks_continue, most_body_bytes, request}
 use Rattle.http_edge.specs.Frame.{frame, most_head_bytes}
-use Rattle.http_edge.specs.Left.{body_of, frame_from, frame_after}
+use Rattle.http_edge.specs.FramingState.{body_of, frame_from, frame_after}
 use Rattle.http_edge.specs.declared.item.Head.{Head}
 use Rattle.http_edge.specs.declared.item.Item.TheVariants.{Request as RequestItem}
 use Rattle.http_edge.specs.declared.verdict.Awaited.{Awaited}

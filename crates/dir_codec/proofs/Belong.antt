@@ -18,8 +18,8 @@ use Rattle.dir_codec.specs.Names.{is_name, IsAbove}
 use Rattle.dir_codec.specs.Metadata.{spelling_of}
 use Rattle.dir_codec.specs.Entries.{is_child_cap, AreEntriesAbove}
 use Rattle.dir_codec.specs.DirectoryText.{entry_text, IsEntryText, IsTextAbove, written_entry, directory_text}
-use Rattle.dir_codec.specs.Parts.{Texts, cut, first_netstring, if_all, four_texts, texts_before, first_entry}
-use Rattle.dir_codec.specs.Reading.{child_of, child_reading, with_metadata, with_cap, entry_reading, before_more, then_more, from_texts, read_most, reading_after, reading, children}
+use Rattle.dir_codec.specs.Parts.{EntryTexts, cut_netstring, first_netstring, if_all, four_texts, texts_before, first_entry}
+use Rattle.dir_codec.specs.Reading.{child_of, child_reading, with_metadata, with_cap, entry_reading, before_more, then_more, from_texts, read_most, reading_after, directory_reading, children}
 use Rattle.dir_codec.specs.Children.{making, made}
 use Rattle.dir_codec.specs.declared.entry.Entry.{Entry}
 use Rattle.dir_codec.specs.declared.fault.DirFault.{DirFault}
@@ -35,7 +35,7 @@ CapsAreRead = (text : List ℕ) (cap : Cap) → IsCapText cap text ↔ (cap_read
 
 -- ---- from entries to what is read
 
-cut_found : (bytes b rest : List ℕ) (r : Result (Span × ℕ) NetFault) (n : ℕ) → IsOkAnd r (λ read. (span_bytes read.0 bytes ≡ b) × (read.1 ≡ n) × (drop read.1 bytes ≡ rest)) → cut bytes r ≡ Some (b, rest)
+cut_found : (bytes b rest : List ℕ) (r : Result (Span × ℕ) NetFault) (n : ℕ) → IsOkAnd r (λ read. (span_bytes read.0 bytes ≡ b) × (read.1 ≡ n) × (drop read.1 bytes ≡ rest)) → cut_netstring bytes r ≡ Some (b, rest)
 cut_found bytes b rest (Ok read) n facts = let f : List ℕ → List ℕ → Option (List ℕ × List ℕ) = λ x y. Some (x, y) in (λ i. f (facts.0 i) (facts.2 i))
 cut_found bytes b rest (Err fault) n facts = absurd facts
 
@@ -127,7 +127,7 @@ written_texts caps (entry ∷ more) last all =
 -- ---- from what is read to entries
 
 cut_is : (bytes : List ℕ) (r : Result (Span × ℕ) NetFault) → IfOk r (λ read. (read.0.start + read.0.len + 1 ≡ read.1) × (read.1 ≤ length bytes) × (bytes ≡ netstring (span_bytes read.0 bytes) ++ drop read.1 bytes))
-    → (found : List ℕ × List ℕ) → cut bytes r ≡ Some found → bytes ≡ netstring found.0 ++ found.1
+    → (found : List ℕ × List ℕ) → cut_netstring bytes r ≡ Some found → bytes ≡ netstring found.0 ++ found.1
 cut_is bytes (Ok read) facts found is =
     let same : (span_bytes read.0 bytes, drop read.1 bytes) ≡ found = cc in
     subst (λ (p : List ℕ × List ℕ). bytes ≡ netstring p.0 ++ p.1) same facts.2
@@ -141,24 +141,24 @@ pub no_length : (xs : List ℕ) → (length xs == 0) ≡ true → xs ≡ []
 no_length [] h = refl
 no_length (x ∷ xs) h = absurd (let none = eqb-true (length (x ∷ xs)) 0 h in omega arith)
 
-all_at : (texts found : Texts) (rest : List ℕ) (b : Bool) → (length rest == 0) ≡ b → cond b (Some texts) None ≡ Some found → (texts ≡ found) × (rest ≡ [])
+all_at : (texts found : EntryTexts) (rest : List ℕ) (b : Bool) → (length rest == 0) ≡ b → cond b (Some texts) None ≡ Some found → (texts ≡ found) × (rest ≡ [])
 all_at texts found rest true none is = ((let h : Some texts ≡ Some found = is in cc), no_length rest none)
 all_at texts found rest false none is = absurd (let h : None ≡ Some found = is in cc)
 
-all_is : (texts found : Texts) (rest : List ℕ) → if_all texts rest ≡ Some found → (texts ≡ found) × (rest ≡ [])
+all_is : (texts found : EntryTexts) (rest : List ℕ) → if_all texts rest ≡ Some found → (texts ≡ found) × (rest ≡ [])
 all_is texts found rest is = all_at texts found rest (length rest == 0) refl is
 
 -- the last of four, then the third, and so on
-module _ (law : NothingElse) (found : Texts) where
+module _ (law : NothingElse) (found : EntryTexts) where
   metadata_is : (name cap write rest : List ℕ) (o : Option (List ℕ × List ℕ)) → first_netstring rest ≡ o
       → option_and_then (λ metadata. if_all (record { name = name; cap = cap; write = write; metadata = metadata.0 }) metadata.1) o ≡ Some found
       → (name ≡ found.name) × (cap ≡ found.cap) × (write ≡ found.write) × (rest ≡ netstring found.metadata)
   metadata_is name cap write rest (Some metadata) at is =
       let both = all_is (record { name = name; cap = cap; write = write; metadata = metadata.0 }) found metadata.1 is in (
-        ap (λ (t : Texts). t.name) both.0,
-        ap (λ (t : Texts). t.cap) both.0,
-        ap (λ (t : Texts). t.write) both.0,
-        netstring_is law rest metadata at ∙ ap (λ t. netstring metadata.0 ++ t) both.1 ∙ append-nil (netstring metadata.0) ∙ ap (λ (t : Texts). netstring t.metadata) both.0,
+        ap (λ (t : EntryTexts). t.name) both.0,
+        ap (λ (t : EntryTexts). t.cap) both.0,
+        ap (λ (t : EntryTexts). t.write) both.0,
+        netstring_is law rest metadata at ∙ ap (λ t. netstring metadata.0 ++ t) both.1 ∙ append-nil (netstring metadata.0) ∙ ap (λ (t : EntryTexts). netstring t.metadata) both.0,
       )
   metadata_is name cap write rest None at is = absurd cc
 
@@ -186,13 +186,13 @@ module _ (law : NothingElse) (found : Texts) where
       netstring_is law rest name at ∙ (λ i. netstring (more.0 i) ++ more.1 i)
   name_is rest None at is = absurd cc
 
-before_is : (rest : List ℕ) (o : Option Texts) (found : Texts × List ℕ) → texts_before rest o ≡ Some found → (o ≡ Some found.0) × (rest ≡ found.1)
+before_is : (rest : List ℕ) (o : Option EntryTexts) (found : EntryTexts × List ℕ) → texts_before rest o ≡ Some found → (o ≡ Some found.0) × (rest ≡ found.1)
 before_is rest (Some texts) found is =
     let same : (texts, rest) ≡ found = cc in
-    (ap (λ (p : Texts × List ℕ). Some p.0) same, ap (λ (p : Texts × List ℕ). p.1) same)
+    (ap (λ (p : EntryTexts × List ℕ). Some p.0) same, ap (λ (p : EntryTexts × List ℕ). p.1) same)
 before_is rest None found is = absurd cc
 
-first_is : NothingElse → (text : List ℕ) (o : Option (List ℕ × List ℕ)) → first_netstring text ≡ o → (found : Texts × List ℕ) → option_and_then (λ two. texts_before two.1 (four_texts two.0)) o ≡ Some found
+first_is : NothingElse → (text : List ℕ) (o : Option (List ℕ × List ℕ)) → first_netstring text ≡ o → (found : EntryTexts × List ℕ) → option_and_then (λ two. texts_before two.1 (four_texts two.0)) o ≡ Some found
     → text ≡ entry_text found.0.name found.0.cap found.0.write found.0.metadata ++ found.1
 unfolding entry_text
 first_is law text (Some two) at found is =
@@ -202,11 +202,11 @@ first_is law text (Some two) at found is =
 first_is law text None at found is = absurd cc
 
 -- the text of an entry that was found
-pub entry_is : NothingElse → (text : List ℕ) (found : Texts × List ℕ) → first_entry text ≡ Some found → text ≡ entry_text found.0.name found.0.cap found.0.write found.0.metadata ++ found.1
+pub entry_is : NothingElse → (text : List ℕ) (found : EntryTexts × List ℕ) → first_entry text ≡ Some found → text ≡ entry_text found.0.name found.0.cap found.0.write found.0.metadata ++ found.1
 entry_is law text found is = first_is law text (first_netstring text) refl found is
 
 -- what was read of four texts
-pub record IsRead (last : List ℕ) (texts : Texts) (entry : Entry) : Type 0 where
+pub record IsRead (last : List ℕ) (texts : EntryTexts) (entry : Entry) : Type 0 where
   pub name : is_name texts.name ≡ true
   pub above : IsAbove texts.name last
   pub name_is : texts.name ≡ entry.name
@@ -226,7 +226,7 @@ metadata_read name cap (Some metadata) entry is =
     (ap (λ (e : Entry). e.name) same, ap (λ (e : Entry). e.cap) same, ap (λ (e : Entry). Some e.metadata) same)
 metadata_read name cap None entry is = absurd cc
 
-write_read : (texts : Texts) (cap : Cap) (b : Bool) (entry : Entry) → (length texts.write == 0) ≡ b → cond b (with_metadata texts.name cap (spelling_of texts.metadata)) (Err WriteCap) ≡ Ok entry
+write_read : (texts : EntryTexts) (cap : Cap) (b : Bool) (entry : Entry) → (length texts.write == 0) ≡ b → cond b (with_metadata texts.name cap (spelling_of texts.metadata)) (Err WriteCap) ≡ Ok entry
     → (texts.write ≡ []) × HasMetadata texts.name cap (spelling_of texts.metadata) entry
 write_read texts cap true entry none is = (no_length texts.write none, metadata_read texts.name cap (spelling_of texts.metadata) entry is)
 write_read texts cap false entry none is = absurd cc
@@ -239,11 +239,11 @@ pub child_read : (r : Result Cap CapFault) (cap : Cap) → child_of r ≡ Ok cap
 child_read (Ok found) cap is = let parts = child_at found cap (is_child_cap found) refl is in (ap Ok parts.0, parts.1)
 child_read (Err fault) cap is = absurd cc
 
-cap_read : (texts : Texts) (r : Result Cap DirFault) (entry : Entry) → with_cap texts r ≡ Ok entry → (cap : Cap) × (r ≡ Ok cap) × (texts.write ≡ []) × HasMetadata texts.name cap (spelling_of texts.metadata) entry
+cap_read : (texts : EntryTexts) (r : Result Cap DirFault) (entry : Entry) → with_cap texts r ≡ Ok entry → (cap : Cap) × (r ≡ Ok cap) × (texts.write ≡ []) × HasMetadata texts.name cap (spelling_of texts.metadata) entry
 cap_read texts (Ok cap) entry is = let more = write_read texts cap (length texts.write == 0) entry refl is in (cap, refl, more.0, more.1)
 cap_read texts (Err fault) entry is = absurd cc
 
-above_read : (last : List ℕ) (texts : Texts) (b : Bool) (entry : Entry) → is_lt (slice_cmp nat_cmp last texts.name) ≡ b → cond b (with_cap texts (child_reading texts.cap)) (Err NotSorted) ≡ Ok entry
+above_read : (last : List ℕ) (texts : EntryTexts) (b : Bool) (entry : Entry) → is_lt (slice_cmp nat_cmp last texts.name) ≡ b → cond b (with_cap texts (child_reading texts.cap)) (Err NotSorted) ≡ Ok entry
     → is_name texts.name ≡ true → IsRead last texts entry
 above_read last texts true entry above is name =
     let more = cap_read texts (child_reading texts.cap) entry is in
@@ -260,14 +260,14 @@ above_read last texts true entry above is name =
     }
 above_read last texts false entry above is name = absurd cc
 
-pub was_read : (last : List ℕ) (texts : Texts) (entry : Entry) → entry_reading last texts ≡ Ok entry → IsRead last texts entry
+pub was_read : (last : List ℕ) (texts : EntryTexts) (entry : Entry) → entry_reading last texts ≡ Ok entry → IsRead last texts entry
 was_read last texts entry is = by (is_name texts.name) refl is
   where
     by : (b : Bool) → is_name texts.name ≡ b → cond b (cond (is_lt (slice_cmp nat_cmp last texts.name)) (with_cap texts (child_reading texts.cap)) (Err NotSorted)) (Err BadName) ≡ Ok entry → IsRead last texts entry
     by true name same = above_read last texts (is_lt (slice_cmp nat_cmp last texts.name)) entry refl same name
     by false name same = absurd cc
 
-pub read_text : CapsAreRead → (last : List ℕ) (texts : Texts) (entry : Entry) → IsRead last texts entry → IsEntryText entry (entry_text texts.name texts.cap texts.write texts.metadata)
+pub read_text : CapsAreRead → (last : List ℕ) (texts : EntryTexts) (entry : Entry) → IsRead last texts entry → IsEntryText entry (entry_text texts.name texts.cap texts.write texts.metadata)
 read_text caps last texts entry is = record {
   name = ap is_name (sym is.name_is) ∙ is.name;
   cap = texts.cap;
@@ -287,36 +287,36 @@ texts_belong law caps most last [] entries is = let none : [] ≡ entries = let 
 texts_belong law caps zero last (b ∷ bs) entries is = absurd cc
 texts_belong law caps (suc most) last (b ∷ bs) entries is = by_entry (λ name rest more read. texts_belong law caps most name rest more read) (first_entry (b ∷ bs)) refl is
   where
-    by_more : Rest most → (texts : Texts) (rest : List ℕ) (entry : Entry) → b ∷ bs ≡ entry_text texts.name texts.cap texts.write texts.metadata ++ rest → IsRead last texts entry → (r : Result (List Entry) DirFault) → read_most most entry.name rest ≡ r → before_more entry r ≡ Ok entries → IsTextAbove last entries (b ∷ bs)
+    by_more : Rest most → (texts : EntryTexts) (rest : List ℕ) (entry : Entry) → b ∷ bs ≡ entry_text texts.name texts.cap texts.write texts.metadata ++ rest → IsRead last texts entry → (r : Result (List Entry) DirFault) → read_most most entry.name rest ≡ r → before_more entry r ≡ Ok entries → IsTextAbove last entries (b ∷ bs)
     by_more ih texts rest entry whole of (Ok more) read same =
         let made : entry ∷ more ≡ entries = let h : Ok (entry ∷ more) ≡ Ok entries = same in cc in
         let above : IsAbove entry.name last = subst (λ n. IsAbove n last) of.name_is of.above in
         subst (λ (es : List Entry). IsTextAbove last es (b ∷ bs)) made (entry_text texts.name texts.cap texts.write texts.metadata, rest, whole, above, read_text caps last texts entry of, ih entry.name rest more read)
     by_more ih texts rest entry whole of (Err fault) read same = absurd cc
 
-    by_read : Rest most → (texts : Texts) (rest : List ℕ) → b ∷ bs ≡ entry_text texts.name texts.cap texts.write texts.metadata ++ rest → (r : Result Entry DirFault) → entry_reading last texts ≡ r → then_more (read_most most) rest r ≡ Ok entries → IsTextAbove last entries (b ∷ bs)
+    by_read : Rest most → (texts : EntryTexts) (rest : List ℕ) → b ∷ bs ≡ entry_text texts.name texts.cap texts.write texts.metadata ++ rest → (r : Result Entry DirFault) → entry_reading last texts ≡ r → then_more (read_most most) rest r ≡ Ok entries → IsTextAbove last entries (b ∷ bs)
     by_read ih texts rest whole (Ok entry) read same = by_more ih texts rest entry whole (was_read last texts entry read) (read_most most entry.name rest) refl same
     by_read ih texts rest whole (Err fault) read same = absurd cc
 
-    by_entry : Rest most → (o : Option (Texts × List ℕ)) → first_entry (b ∷ bs) ≡ o → from_texts (read_most most) last o ≡ Ok entries → IsTextAbove last entries (b ∷ bs)
+    by_entry : Rest most → (o : Option (EntryTexts × List ℕ)) → first_entry (b ∷ bs) ≡ o → from_texts (read_most most) last o ≡ Ok entries → IsTextAbove last entries (b ∷ bs)
     by_entry ih (Some found) at same = by_read ih found.0 found.1 (entry_is law (b ∷ bs) found at) (entry_reading last found.0) refl same
     by_entry ih None at same = absurd cc
 
-pub belong : NothingElse → CapsAreRead → (entries : List Entry) (text : List ℕ) → reading text ≡ Ok entries → IsTextAbove [] entries text
-unfolding reading reading_after
+pub belong : NothingElse → CapsAreRead → (entries : List Entry) (text : List ℕ) → directory_reading text ≡ Ok entries → IsTextAbove [] entries text
+unfolding directory_reading reading_after
 belong law caps entries text is = texts_belong law caps (length text) [] text entries is
 
-pub are_read : NothingElse → ReadsBack → CapsAreRead → (entries : List Entry) (text : List ℕ) → length text < 2 ^ 64 → IsTextAbove [] entries text → reading text ≡ Ok entries
-unfolding reading
+pub are_read : NothingElse → ReadsBack → CapsAreRead → (entries : List Entry) (text : List ℕ) → length text < 2 ^ 64 → IsTextAbove [] entries text → directory_reading text ≡ Ok entries
+unfolding directory_reading
 are_read nothing law caps entries text short is = texts_read nothing law caps entries [] text short is
 
 ok_is : {A E : Type 0} (r : Result A E) (x : A) → result_ok r ≡ Some x → r ≡ Ok x
 ok_is (Ok y) x is = let same : y ≡ x = cc in ap Ok same
 ok_is (Err e) x is = absurd cc
 
-pub children_are : (entries : List Entry) (text : List ℕ) → (children text ≡ Some entries) ↔ (reading text ≡ Ok entries)
+pub children_are : (entries : List Entry) (text : List ℕ) → (children text ≡ Some entries) ↔ (directory_reading text ≡ Ok entries)
 unfolding children
-children_are entries text = (λ is. ok_is (reading text) entries is, λ is. ap result_ok is)
+children_are entries text = (λ is. ok_is (directory_reading text) entries is, λ is. ap result_ok is)
 
 pub made_are : (entries : List Entry) (json : List ℕ) → (made json ≡ Some entries) ↔ (making json ≡ Ok entries)
 unfolding made

@@ -18,7 +18,7 @@ use Rattle.dir_codec.specs.Names.{IsAbove}
 use Rattle.dir_codec.specs.Metadata.{json_of}
 use Rattle.dir_codec.specs.Find.{child_named}
 use Rattle.dir_codec.specs.Children.{then_make, inserted, with_entry, entry_made, making_after, making, made}
-use Rattle.dir_codec.specs.MadeOf.{listed, IsEntryOf, IsMemberFault, RiseAbove, AreOfMembers, IsFaultAfter, RefusesMembers, AreMadeOf, RefusesJson}
+use Rattle.dir_codec.specs.MadeOf.{members_listed, IsEntryOf, IsMemberFault, RiseAbove, AreOfMembers, IsFaultAfter, RefusesMembers, AreMadeOf, RefusesJson}
 use Rattle.dir_codec.specs.declared.entry.Entry.{Entry}
 use Rattle.dir_codec.specs.declared.fault.DirFault.{DirFault}
 use Rattle.dir_codec.specs.declared.fault.DirFault.TheVariants.{NotJson, BadShape, SameName}
@@ -269,32 +269,32 @@ alone : (fault : DirFault) (entries : List Entry) (key : List ℕ) (node : Data)
 alone SameName entries key node of = absurd of
 alone other entries key node of = of
 
-gathered : CapsAreDecided → (acc : List Entry) → RiseAbove [] acc → (ms : Members) → Gathered acc (listed ms) (making_after acc ms)
+gathered : CapsAreDecided → (acc : List Entry) → RiseAbove [] acc → (ms : Members) → Gathered acc (members_listed ms) (making_after acc ms)
 gathered caps acc up no_members = ([], tt, subst (λ es. IsPermutation es acc) (sym (append-nil acc)) (IsPermutation-refl acc), up)
 gathered caps acc up (member key node more) = by_entry (λ all rise. gathered caps all rise more) (entry_made key node) refl (told key node caps)
   where
-    by_name : ((all : List Entry) → RiseAbove [] all → Gathered all (listed more) (making_after all more)) → (entry : Entry) → entry_made key node ≡ Ok entry → IsEntryOf key node entry
-        → (o : Option Entry) → child_named entry.name acc ≡ o → Gathered acc ((key, node) ∷ listed more) (making_after acc (member key node more))
+    by_name : ((all : List Entry) → RiseAbove [] all → Gathered all (members_listed more) (making_after all more)) → (entry : Entry) → entry_made key node ≡ Ok entry → IsEntryOf key node entry
+        → (o : Option Entry) → child_named entry.name acc ≡ o → Gathered acc ((key, node) ∷ members_listed more) (making_after acc (member key node more))
     by_name rest entry is of (Some other) at =
-        subst (Gathered acc ((key, node) ∷ listed more)) (sym (make_fault acc key node more entry SameName is (with_old acc entry (ap is_some at))))
-        (stops_here acc up SameName key node (listed more) (entry, of, stands entry.name acc other at))
+        subst (Gathered acc ((key, node) ∷ members_listed more)) (sym (make_fault acc key node more entry SameName is (with_old acc entry (ap is_some at))))
+        (stops_here acc up SameName key node (members_listed more) (entry, of, stands entry.name acc other at))
     by_name rest entry is of None at =
-        subst (Gathered acc ((key, node) ∷ listed more)) (sym (make_next acc key node more entry (inserted entry acc) is (with_new acc entry at)))
-        (more_gathered acc (key, node) (listed more) entry of (making_after (inserted entry acc) more)
+        subst (Gathered acc ((key, node) ∷ members_listed more)) (sym (make_next acc key node more entry (inserted entry acc) is (with_new acc entry at)))
+        (more_gathered acc (key, node) (members_listed more) entry of (making_after (inserted entry acc) more)
         (rest (inserted entry acc) (inserted_rise [] entry acc up (entry_above key node entry of) at)))
 
-    by_entry : ((all : List Entry) → RiseAbove [] all → Gathered all (listed more) (making_after all more)) → (r : Result Entry DirFault) → entry_made key node ≡ r → Told key node r
-        → Gathered acc ((key, node) ∷ listed more) (making_after acc (member key node more))
+    by_entry : ((all : List Entry) → RiseAbove [] all → Gathered all (members_listed more) (making_after all more)) → (r : Result Entry DirFault) → entry_made key node ≡ r → Told key node r
+        → Gathered acc ((key, node) ∷ members_listed more) (making_after acc (member key node more))
     by_entry rest (Ok entry) is of = by_name rest entry is of (child_named entry.name acc) refl
     by_entry rest (Err fault) is of =
-        subst (Gathered acc ((key, node) ∷ listed more)) (sym (make_none acc key node more fault is))
-        (stops_here acc up fault key node (listed more) (alone fault acc key node of))
+        subst (Gathered acc ((key, node) ∷ members_listed more)) (sym (make_none acc key node more fault is))
+        (stops_here acc up fault key node (members_listed more) (alone fault acc key node of))
 
 -- ---- what is said is what the definition makes
 
 -- the definition goes on from those entries with the members that are left
 abbrev Passes : List Entry → List Entry → Members → List (List ℕ × Data) → Type 0
-Passes acc entries ms rest = (after : Members) × (listed after ≡ rest) × (making_after acc ms ≡ making_after entries after)
+Passes acc entries ms rest = (after : Members) × (members_listed after ≡ rest) × (making_after acc ms ≡ making_after entries after)
 
 not_yet : (acc : List Entry) (entry : Entry) (found entries : List Entry) → IsPermutation (acc ++ (entry ∷ found)) entries → RiseAbove [] entries → child_named entry.name acc ≡ None
 not_yet acc entry found entries same up =
@@ -308,7 +308,7 @@ not_yet acc entry found entries same up =
     counted : (a b c d e : ℕ) → a ≡ b → b ≡ c + d → d ≡ 1 + e → a ≤ 1 → c ≡ 0
     counted a b c d e all parts first most = omega arith
 
-passes : CapsAreDecided → (acc : List Entry) → RiseAbove [] acc → (before rest : List (List ℕ × Data)) (ms : Members) (found entries : List Entry) → listed ms ≡ before ++ rest → AllZip Of before found
+passes : CapsAreDecided → (acc : List Entry) → RiseAbove [] acc → (before rest : List (List ℕ × Data)) (ms : Members) (found entries : List Entry) → members_listed ms ≡ before ++ rest → AllZip Of before found
     → IsPermutation (acc ++ found) entries → RiseAbove [] entries → Passes acc entries ms rest
 passes caps acc up [] rest ms [] entries is each same rise =
     let one : acc ≡ entries = same_order acc entries up rise (subst (λ es. IsPermutation es entries) (append-nil acc) same) in
@@ -318,7 +318,7 @@ passes caps acc up (m ∷ before) rest ms [] entries is each same rise = absurd 
 passes caps acc up (m ∷ before) rest no_members (entry ∷ found) entries is each same rise = absurd cc
 passes caps acc up (m ∷ before) rest (member key node more) (entry ∷ found) entries is each same rise =
     let first : m ≡ (key, node) = cc in
-    let others : listed more ≡ before ++ rest = cc in
+    let others : members_listed more ≡ before ++ rest = cc in
     let of : IsEntryOf key node entry = subst (λ m. Of m entry) first each.0 in
     let none = not_yet acc entry found entries same rise in
     let next = make_next acc key node more entry (inserted entry acc) (is_made key node caps entry of) (with_new acc entry none) in
@@ -326,13 +326,13 @@ passes caps acc up (m ∷ before) rest (member key node more) (entry ∷ found) 
     (IsPermutation-trans (inserted entry acc ++ found) (acc ++ (entry ∷ found)) entries (IsPermutation-sym (acc ++ (entry ∷ found)) (inserted entry acc ++ found) (moved acc entry found)) same) rise in
     (go.0, go.1, next ∙ go.2)
 
-no_more : (entries : List Entry) (ms : Members) → listed ms ≡ [] → making_after entries ms ≡ Ok entries
+no_more : (entries : List Entry) (ms : Members) → members_listed ms ≡ [] → making_after entries ms ≡ Ok entries
 no_more entries no_members is = refl
 no_more entries (member key node more) is = absurd cc
 
-members_made : CapsAreDecided → (entries : List Entry) (members : Members) → AreOfMembers entries (listed members) → making_after [] members ≡ Ok entries
+members_made : CapsAreDecided → (entries : List Entry) (members : Members) → AreOfMembers entries (members_listed members) → making_after [] members ≡ Ok entries
 members_made caps entries members of =
-    let all = passes caps [] tt (listed members) [] members of.found entries (sym (append-nil (listed members))) of.each of.same of.rise in
+    let all = passes caps [] tt (members_listed members) [] members of.found entries (sym (append-nil (members_listed members))) of.each of.same of.rise in
     all.2 ∙ no_more entries all.0 all.1
 
 after_fault : CapsAreDecided → (fault : DirFault) (entries : List Entry) (key : List ℕ) (node : Data) (more : Members) → IsFaultAfter fault entries key node → making_after entries (member key node more) ≡ Err fault
@@ -340,13 +340,13 @@ after_fault caps SameName entries key node more of =
     make_fault entries key node more of.0 SameName (is_made key node caps of.0 of.1) (with_old entries of.0 (is_found of.0.name entries of.2.0 of.2.1 of.2.2 of.2.3 of.2.4))
 after_fault caps other entries key node more of = make_none entries key node more other (is_refused key node caps other of)
 
-fault_next : CapsAreDecided → (fault : DirFault) (entries : List Entry) (key : List ℕ) (node : Data) (after : List (List ℕ × Data)) (ms : Members) → listed ms ≡ (key, node) ∷ after → IsFaultAfter fault entries key node → making_after entries ms ≡ Err fault
+fault_next : CapsAreDecided → (fault : DirFault) (entries : List Entry) (key : List ℕ) (node : Data) (after : List (List ℕ × Data)) (ms : Members) → members_listed ms ≡ (key, node) ∷ after → IsFaultAfter fault entries key node → making_after entries ms ≡ Err fault
 fault_next caps fault entries key node after no_members is of = absurd cc
 fault_next caps fault entries key node after (member k n more) is of =
     let first : ◌≡◌ {A = List ℕ × Data} (key, node) (k, n) = cc in
     after_fault caps fault entries k n more (subst (λ m. IsFaultAfter fault entries m.0 m.1) first of)
 
-members_refused : CapsAreDecided → (fault : DirFault) (members : Members) → RefusesMembers fault (listed members) → making_after [] members ≡ Err fault
+members_refused : CapsAreDecided → (fault : DirFault) (members : Members) → RefusesMembers fault (members_listed members) → making_after [] members ≡ Err fault
 members_refused caps fault members of =
     let all = passes caps [] tt of.before ((of.key, of.node) ∷ of.after) members of.made.found of.entries of.are of.made.each of.made.same of.made.rise in
     all.2 ∙ fault_next caps fault of.entries of.key of.node of.after all.0 all.1 of.first
@@ -371,14 +371,14 @@ abbrev Made : List ℕ → Result (List Entry) DirFault → Type 0
 Made json (Ok entries) = AreMadeOf entries json
 Made json (Err fault) = RefusesJson fault json
 
-refuses_json : (fault : DirFault) (json : List ℕ) (members : Members) → json_of json ≡ Some (object members) → RefusesMembers fault (listed members) → RefusesJson fault json
+refuses_json : (fault : DirFault) (json : List ℕ) (members : Members) → json_of json ≡ Some (object members) → RefusesMembers fault (members_listed members) → RefusesJson fault json
 refuses_json NotJson json members is of = absurd of.first
 refuses_json BadShape json members is of = inr (members, is, of)
 refuses_json other json members is of = (members, is, of)
 
-made_of : (json : List ℕ) (members : Members) → json_of json ≡ Some (object members) → (r : Result (List Entry) DirFault) → Gathered [] (listed members) r → Made json r
+made_of : (json : List ℕ) (members : Members) → json_of json ≡ Some (object members) → (r : Result (List Entry) DirFault) → Gathered [] (members_listed members) r → Made json r
 made_of json members is (Ok entries) g = (members, is, record { found = g.0; each = g.1; same = g.2; rise = g.3 })
-made_of json members is (Err fault) s = refuses_json fault json members is (refuses [] refl fault (listed members) s)
+made_of json members is (Err fault) s = refuses_json fault json members is (refuses [] refl fault (members_listed members) s)
 
 made_object : CapsAreDecided → (json : List ℕ) (d : Data) → json_of json ≡ Some d → (o : Option Members) → as_object d ≡ o → Made json (making json)
 made_object caps json d is None none = subst (Made json) (sym (no_object json d is none)) (inl (d, is, none))

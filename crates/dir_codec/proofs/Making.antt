@@ -19,9 +19,9 @@ use Rattle.dir_codec.specs.Names.{IsAbove}
 use Rattle.dir_codec.specs.Metadata.{json_of}
 use Rattle.dir_codec.specs.Entries.{IsEntry, AreEntriesAbove}
 use Rattle.dir_codec.specs.Find.{child_named}
-use Rattle.dir_codec.specs.Named.{entry_of, entries_of}
+use Rattle.dir_codec.specs.Named.{entry_of_child, entries_of}
 use Rattle.dir_codec.specs.Reading.{child_reading}
-use Rattle.dir_codec.specs.Children.{nfc_text, then_make, or_fault, fields_of, has_write, metadata_made, with_fields, entry_of_fields, entry_made, inserted, with_entry, making_after, making}
+use Rattle.dir_codec.specs.Children.{nfc_text, then_make, or_dir_fault, fields_of, has_write, metadata_made, with_fields, entry_of_fields, entry_made, inserted, with_entry, making_after, making}
 use Rattle.dir_codec.specs.declared.entry.Entry.{Entry}
 use Rattle.dir_codec.specs.declared.child.Child.{Child}
 use Rattle.dir_codec.specs.declared.fault.DirFault.{DirFault}
@@ -34,12 +34,12 @@ uri_in fields = option_and_then as_str (get (codes "ro_uri") fields)
 
 pub fields_none : (name : List ℕ) (fields : Data) → uri_in fields ≡ None → entry_of_fields name fields ≡ Err BadShape
 unfolding entry_of_fields
-fields_none name fields none = ap (λ o. then_make (λ uri. cond (length name == 0) (Err BadName) (with_fields name fields uri)) (or_fault BadShape o)) none
+fields_none name fields none = ap (λ o. then_make (λ uri. cond (length name == 0) (Err BadName) (with_fields name fields uri)) (or_dir_fault BadShape o)) none
 
 pub fields_some : (name : List ℕ) (fields : Data) (uri : List ℕ) (b : Bool) → uri_in fields ≡ Some uri → (length name == 0) ≡ b → entry_of_fields name fields ≡ cond b (Err BadName) (with_fields name fields uri)
 unfolding entry_of_fields
 fields_some name fields uri b some is =
-    ap (λ o. then_make (λ uri. cond (length name == 0) (Err BadName) (with_fields name fields uri)) (or_fault BadShape o)) some
+    ap (λ o. then_make (λ uri. cond (length name == 0) (Err BadName) (with_fields name fields uri)) (or_dir_fault BadShape o)) some
     ∙ ap (λ c. cond c (Err BadName) (with_fields name fields uri)) is
 
 -- what follows once the cap is known
@@ -68,11 +68,11 @@ metadata_known name fields cap r none is =
 
 pub made_none : (key : List ℕ) (node : Data) → fields_of node ≡ None → entry_made key node ≡ Err BadShape
 unfolding entry_made
-made_none key node none = ap (λ o. then_make (entry_of_fields (nfc_text key)) (or_fault BadShape o)) none
+made_none key node none = ap (λ o. then_make (entry_of_fields (nfc_text key)) (or_dir_fault BadShape o)) none
 
 pub made_some : (key : List ℕ) (node fields : Data) (name : List ℕ) → fields_of node ≡ Some fields → name ≡ nfc_text key → entry_made key node ≡ entry_of_fields name fields
 unfolding entry_made
-made_some key node fields name some is = ap (λ o. then_make (entry_of_fields (nfc_text key)) (or_fault BadShape o)) some ∙ ap (λ n. entry_of_fields n fields) (sym is)
+made_some key node fields name some is = ap (λ o. then_make (entry_of_fields (nfc_text key)) (or_dir_fault BadShape o)) some ∙ ap (λ n. entry_of_fields n fields) (sym is)
 
 -- ---- the members, one after another
 
@@ -94,36 +94,36 @@ either_some false x y o p is = is
 pub stands : (name : String Global) (children : List (String Global × Child)) → is_some (child_named (string_bytes name) (entries_of children)) ≡ is_some (lookup (is_at (string_cmp name)) children)
 unfolding child_named
 stands name [] = refl
-stands name (e ∷ es) = rw (named_test (string_bytes name) (string_bytes e.0)) (either_some (is_eq (slice_cmp nat_cmp (string_bytes name) (string_bytes e.0))) (entry_of e) e.1 _ _ (stands name es))
+stands name (e ∷ es) = rw (named_test (string_bytes name) (string_bytes e.0)) (either_some (is_eq (slice_cmp nat_cmp (string_bytes name) (string_bytes e.0))) (entry_of_child e) e.1 _ _ (stands name es))
 
 none_of : {A : Type 0} (o : Option A) → is_some o ≡ false → o ≡ None
 none_of (Some x) is = absurd cc
 none_of None is = refl
 
 -- a name that stands already
-pub same_name : (name : String Global) (child : Child) (children : List (String Global × Child)) (old : Option Child) → old ≡ lookup (is_at (string_cmp name)) children → is_some old ≡ true → with_entry (entries_of children) (entry_of (name, child)) ≡ Err SameName
+pub same_name : (name : String Global) (child : Child) (children : List (String Global × Child)) (old : Option Child) → old ≡ lookup (is_at (string_cmp name)) children → is_some old ≡ true → with_entry (entries_of children) (entry_of_child (name, child)) ≡ Err SameName
 unfolding with_entry
-same_name name child children old is some = ap (λ b. cond b (Err SameName) (Ok (inserted (entry_of (name, child)) (entries_of children)))) (stands name children ∙ ap is_some (sym is) ∙ some)
+same_name name child children old is some = ap (λ b. cond b (Err SameName) (Ok (inserted (entry_of_child (name, child)) (entries_of children)))) (stands name children ∙ ap is_some (sym is) ∙ some)
 
 placed_at : (name : String Global) (child : Child) (e : String Global × Child) (es : List (String Global × Child)) (o : Ordering) (rest : Option Child) → cond (is_eq o) (Some e.1) rest ≡ None
-    → (rest ≡ None → entries_of (insert_entry string_cmp es name child) ≡ inserted (entry_of (name, child)) (entries_of es))
+    → (rest ≡ None → entries_of (insert_entry string_cmp es name child) ≡ inserted (entry_of_child (name, child)) (entries_of es))
     → entries_of (match_ordering o ((name, child) ∷ e ∷ es) ((e.0, child) ∷ es) (e ∷ insert_entry string_cmp es name child))
-    ≡ cond (is_lt o) (entry_of (name, child) ∷ entry_of e ∷ entries_of es) (entry_of e ∷ inserted (entry_of (name, child)) (entries_of es))
+    ≡ cond (is_lt o) (entry_of_child (name, child) ∷ entry_of_child e ∷ entries_of es) (entry_of_child e ∷ inserted (entry_of_child (name, child)) (entries_of es))
 placed_at name child e es Less rest none more = refl
 placed_at name child e es Equal rest none more = absurd cc
-placed_at name child e es Greater rest none more = ap (λ t. entry_of e ∷ t) (more none)
+placed_at name child e es Greater rest none more = ap (λ t. entry_of_child e ∷ t) (more none)
 
-placed : (name : String Global) (child : Child) (children : List (String Global × Child)) → lookup (is_at (string_cmp name)) children ≡ None → entries_of (insert_entry string_cmp children name child) ≡ inserted (entry_of (name, child)) (entries_of children)
+placed : (name : String Global) (child : Child) (children : List (String Global × Child)) → lookup (is_at (string_cmp name)) children ≡ None → entries_of (insert_entry string_cmp children name child) ≡ inserted (entry_of_child (name, child)) (entries_of children)
 placed name child [] none = refl
 placed name child (e ∷ es) none = placed_at name child e es (slice_cmp nat_cmp (string_bytes name) (string_bytes e.0)) (lookup (is_at (string_cmp name)) es) none (λ rest. placed name child es rest)
 
 -- a new name
 pub new_name : (name : String Global) (child : Child) (children new : List (String Global × Child)) (old : Option Child) → old ≡ lookup (is_at (string_cmp name)) children → is_some old ≡ false → new ≡ insert_entry string_cmp children name child
-    → with_entry (entries_of children) (entry_of (name, child)) ≡ Ok (entries_of new)
+    → with_entry (entries_of children) (entry_of_child (name, child)) ≡ Ok (entries_of new)
 unfolding with_entry
 new_name name child children new old is none made =
     let absent = sym is ∙ none_of old none in
-    ap (λ b. cond b (Err SameName) (Ok (inserted (entry_of (name, child)) (entries_of children)))) (stands name children ∙ ap is_some absent)
+    ap (λ b. cond b (Err SameName) (Ok (inserted (entry_of_child (name, child)) (entries_of children)))) (stands name children ∙ ap is_some absent)
     ∙ ap Ok (sym (ap entries_of made ∙ placed name child children absent))
 
 pub found_in : (entry : Entry) (name : List ℕ) (b : Bool) (o : Option Entry) → cond b (Some entry) o ≡ None → (b ≡ false) × (o ≡ None)
@@ -146,22 +146,22 @@ inserted_above low entry (other ∷ more) all kept above none =
     (λ higher. inserted_above other.name entry more all.2 kept higher parts.1)
 
 pub new_above : (name : String Global) (child : Child) (children new : List (String Global × Child)) (old : Option Child) → old ≡ lookup (is_at (string_cmp name)) children → is_some old ≡ false → new ≡ insert_entry string_cmp children name child
-    → AreEntriesAbove [] (entries_of children) → IsEntry (entry_of (name, child)) → IsAbove (string_bytes name) [] → AreEntriesAbove [] (entries_of new)
+    → AreEntriesAbove [] (entries_of children) → IsEntry (entry_of_child (name, child)) → IsAbove (string_bytes name) [] → AreEntriesAbove [] (entries_of new)
 new_above name child children new old is none made all kept above =
     let absent = sym is ∙ none_of old none in
     let lacks = none_of (child_named (string_bytes name) (entries_of children)) (stands name children ∙ ap is_some absent) in
-    rw (made, placed name child children absent) (inserted_above [] (entry_of (name, child)) (entries_of children) all kept above lacks)
+    rw (made, placed name child children absent) (inserted_above [] (entry_of_child (name, child)) (entries_of children) all kept above lacks)
 
 -- ---- the whole
 
 pub no_json : (json : List ℕ) → json_of json ≡ None → making json ≡ Err NotJson
 unfolding making
-no_json json none = ap (λ o. then_make (λ d. then_make (making_after []) (or_fault BadShape (as_object d))) (or_fault NotJson o)) none
+no_json json none = ap (λ o. then_make (λ d. then_make (making_after []) (or_dir_fault BadShape (as_object d))) (or_dir_fault NotJson o)) none
 
 pub no_object : (json : List ℕ) (d : Data) → json_of json ≡ Some d → as_object d ≡ None → making json ≡ Err BadShape
 unfolding making
-no_object json d is none = ap (λ o. then_make (λ d. then_make (making_after []) (or_fault BadShape (as_object d))) (or_fault NotJson o)) is ∙ ap (λ o. then_make (making_after []) (or_fault BadShape o)) none
+no_object json d is none = ap (λ o. then_make (λ d. then_make (making_after []) (or_dir_fault BadShape (as_object d))) (or_dir_fault NotJson o)) is ∙ ap (λ o. then_make (making_after []) (or_dir_fault BadShape o)) none
 
 pub of_members : (json : List ℕ) (d : Data) (members : Members) → json_of json ≡ Some d → as_object d ≡ Some members → making json ≡ making_after [] members
 unfolding making
-of_members json d members is some = ap (λ o. then_make (λ d. then_make (making_after []) (or_fault BadShape (as_object d))) (or_fault NotJson o)) is ∙ ap (λ o. then_make (making_after []) (or_fault BadShape o)) some
+of_members json d members is some = ap (λ o. then_make (λ d. then_make (making_after []) (or_dir_fault BadShape (as_object d))) (or_dir_fault NotJson o)) is ∙ ap (λ o. then_make (making_after []) (or_dir_fault BadShape o)) some

@@ -5,16 +5,16 @@ use Rattle.std.specs.Ordering.{nat_cmp, is_lt}
 use Rattle.std.specs.Cmp.Lexicographic.{slice_cmp}
 use Rattle.std.proofs.lemmas.Bool.{eqb-false}
 use Rattle.caps.specs.Reading.{cap_reading}
-use Rattle.caps.specs.Refusals.{Refuses as RefusesCap}
+use Rattle.caps.specs.Refusals.{RefusesCap}
 use Rattle.caps.specs.declared.cap.Cap.{Cap}
 use Rattle.caps.specs.declared.fault.CapFault.{CapFault}
 use Rattle.caps.specs.declared.fault.CapFault.TheVariants.{UnknownKind, Mutable, BadField, BadNumber}
 use Rattle.dir_codec.specs.Names.{is_name, IsAbove}
 use Rattle.dir_codec.specs.Metadata.{spelling_of}
 use Rattle.dir_codec.specs.Entries.{is_child_cap}
-use Rattle.dir_codec.specs.Faults.{IsNoChild, text_of, HasNameAndCap, HasFault, RefusesAbove}
-use Rattle.dir_codec.specs.Parts.{Texts, first_entry}
-use Rattle.dir_codec.specs.Reading.{child_fault, child_of, child_reading, with_metadata, with_cap, entry_reading, before_more, then_more, from_texts, read_most, reading_after, reading}
+use Rattle.dir_codec.specs.Faults.{IsNoChild, text_of_entry, HasNameAndCap, HasFault, RefusesAbove}
+use Rattle.dir_codec.specs.Parts.{EntryTexts, first_entry}
+use Rattle.dir_codec.specs.Reading.{child_fault, child_of, child_reading, with_metadata, with_cap, entry_reading, before_more, then_more, from_texts, read_most, reading_after, directory_reading}
 use Rattle.dir_codec.specs.declared.entry.Entry.{Entry}
 use Rattle.dir_codec.specs.declared.fault.DirFault.{DirFault}
 use Rattle.dir_codec.specs.declared.fault.DirFault.TheVariants.{Torn, NotSorted, BadName, BadCap, NotImmutable, WriteCap, BadMetadata}
@@ -66,7 +66,7 @@ module _ (caps : CapsAreDecided) (text : List ℕ) where
   child_refused fault is = by_cap (cap_reading text) fault refl is
 
 -- the entry whose texts are these, and what follows it
-module _ (last text more : List ℕ) (texts : Texts) (fault : DirFault) (stands : text ≡ text_of texts ++ more) where
+module _ (last text more : List ℕ) (texts : EntryTexts) (fault : DirFault) (stands : text ≡ text_of_entry texts ++ more) where
   for_metadata : (cap : Cap) → HasNameAndCap last texts cap → texts.write ≡ [] → (o : Option (List ℕ)) → spelling_of texts.metadata ≡ o → with_metadata texts.name cap o ≡ Err fault → HasFault fault last text
   for_metadata cap has none (Some metadata) kept is = absurd cc
   for_metadata cap has none None kept is =
@@ -112,19 +112,19 @@ module _ (last text more : List ℕ) (texts : Texts) (fault : DirFault) (stands 
   entry_refused caps is = for_name caps (is_name texts.name) refl is
 
 -- where no texts of an entry stand
-torn : ReadsBack → (text : List ℕ) → length text < 2 ^ 64 → first_entry text ≡ None → (texts : Texts) (more : List ℕ) → text ≢ text_of texts ++ more
+torn : ReadsBack → (text : List ℕ) → length text < 2 ^ 64 → first_entry text ≡ None → (texts : EntryTexts) (more : List ℕ) → text ≢ text_of_entry texts ++ more
 torn law text short none texts more is = let found = entry_found law texts.name texts.cap texts.write texts.metadata more text short is in absurd cc
 
 -- one more entry without a fault stands before
-before : CapsAreDecided → (last text rest : List ℕ) (texts : Texts) (entry : Entry) (fault : DirFault) → text ≡ text_of texts ++ rest → entry_reading last texts ≡ Ok entry → RefusesAbove entry.name fault rest → RefusesAbove last fault text
+before : CapsAreDecided → (last text rest : List ℕ) (texts : EntryTexts) (entry : Entry) (fault : DirFault) → text ≡ text_of_entry texts ++ rest → entry_reading last texts ≡ Ok entry → RefusesAbove entry.name fault rest → RefusesAbove last fault text
 before caps last text rest texts entry fault stands read of =
     let was = was_read last texts entry read in
     record {
       entries = entry ∷ of.entries;
-      good = text_of texts ++ of.good;
+      good = text_of_entry texts ++ of.good;
       rest = of.rest;
-      text_is = stands ∙ ap (λ t. text_of texts ++ t) of.text_is ∙ sym (append_assoc (text_of texts) of.good of.rest);
-      belong = (text_of texts, of.good, refl, subst (λ n. IsAbove n last) was.name_is was.above, read_text caps.0 last texts entry was, of.belong);
+      text_is = stands ∙ ap (λ t. text_of_entry texts ++ t) of.text_is ∙ sym (append_assoc (text_of_entry texts) of.good of.rest);
+      belong = (text_of_entry texts, of.good, refl, subst (λ n. IsAbove n last) was.name_is was.above, read_text caps.0 last texts entry was, of.belong);
       first = of.first;
     }
 
@@ -135,14 +135,14 @@ here last text fault has = record { entries = []; good = []; rest = text; text_i
 abbrev RestRefused : ℕ → DirFault → Type 0
 RestRefused most fault = (last text : List ℕ) → length text ≤ most → length text < 2 ^ 64 → read_most most last text ≡ Err fault → RefusesAbove last fault text
 
-more_refused : (most : ℕ) (fault : DirFault) → RestRefused most fault → CapsAreDecided → (last text rest : List ℕ) (texts : Texts) (entry : Entry) → text ≡ text_of texts ++ rest → length rest ≤ most → length rest < 2 ^ 64 → entry_reading last texts ≡ Ok entry
+more_refused : (most : ℕ) (fault : DirFault) → RestRefused most fault → CapsAreDecided → (last text rest : List ℕ) (texts : EntryTexts) (entry : Entry) → text ≡ text_of_entry texts ++ rest → length rest ≤ most → length rest < 2 ^ 64 → entry_reading last texts ≡ Ok entry
     → (r : Result (List Entry) DirFault) → read_most most entry.name rest ≡ r → before_more entry r ≡ Err fault → RefusesAbove last fault text
 more_refused most fault ih caps last text rest texts entry stands fits short read (Ok more) at is = absurd cc
 more_refused most fault ih caps last text rest texts entry stands fits short read (Err found) at is =
     let same : found ≡ fault = cc in
     before caps last text rest texts entry fault stands read (ih entry.name rest fits short (at ∙ ap Err same))
 
-one_refused : (most : ℕ) (fault : DirFault) → RestRefused most fault → CapsAreDecided → (last text rest : List ℕ) (texts : Texts) → text ≡ text_of texts ++ rest → length rest ≤ most → length rest < 2 ^ 64
+one_refused : (most : ℕ) (fault : DirFault) → RestRefused most fault → CapsAreDecided → (last text rest : List ℕ) (texts : EntryTexts) → text ≡ text_of_entry texts ++ rest → length rest ≤ most → length rest < 2 ^ 64
     → (r : Result Entry DirFault) → entry_reading last texts ≡ r → then_more (read_most most) rest r ≡ Err fault → RefusesAbove last fault text
 one_refused most fault ih caps last text rest texts stands fits short (Ok entry) read is = more_refused most fault ih caps last text rest texts entry stands fits short read (read_most most entry.name rest) refl is
 one_refused most fault ih caps last text rest texts stands fits short (Err found) read is =
@@ -150,7 +150,7 @@ one_refused most fault ih caps last text rest texts stands fits short (Err found
     here last text fault (entry_refused last text rest texts fault stands caps (read ∙ ap Err same))
 
 first_refused : NothingElse → ReadsBack → CapsAreDecided → (most : ℕ) (fault : DirFault) → RestRefused most fault → (last text : List ℕ) → text ≢ [] → length text ≤ suc most → length text < 2 ^ 64
-    → (o : Option (Texts × List ℕ)) → first_entry text ≡ o → from_texts (read_most most) last o ≡ Err fault → RefusesAbove last fault text
+    → (o : Option (EntryTexts × List ℕ)) → first_entry text ≡ o → from_texts (read_most most) last o ≡ Err fault → RefusesAbove last fault text
 first_refused nothing law caps most fault ih last text some fits short (Some found) at is =
     let shorter = entry_shorter nothing text found at in
     one_refused most fault ih caps last text found.1 found.0 (entry_is nothing text found at) (omega arith) (omega arith) (entry_reading last found.0) refl is
@@ -167,6 +167,6 @@ refused nothing law caps zero fault last (b ∷ bs) fits short is = absurd (omeg
 refused nothing law caps (suc most) fault last (b ∷ bs) fits short is =
     first_refused nothing law caps most fault (refused nothing law caps most fault) last (b ∷ bs) (not_nil b bs) fits short (first_entry (b ∷ bs)) refl is
 
-pub text_refused : NothingElse → ReadsBack → CapsAreDecided → (fault : DirFault) (text : List ℕ) → length text < 2 ^ 64 → reading text ≡ Err fault → RefusesAbove [] fault text
-unfolding reading reading_after
+pub text_refused : NothingElse → ReadsBack → CapsAreDecided → (fault : DirFault) (text : List ℕ) → length text < 2 ^ 64 → directory_reading text ≡ Err fault → RefusesAbove [] fault text
+unfolding directory_reading reading_after
 text_refused nothing law caps fault text short is = refused nothing law caps (length text) fault [] text (omega arith) short is

@@ -5,7 +5,7 @@ use Rattle.tag_hash.specs.Netstring.{netstring}
 use Rattle.tag_hash.specs.NetstringAt.{netstring_at, span_bytes}
 use Rattle.tag_hash.specs.declared.netstrings.Span.{Span}
 use Rattle.tag_hash.specs.declared.netstrings.NetFault.{NetFault}
-use Rattle.dir_codec.specs.Parts.{Texts, cut, first_netstring, four_texts, texts_before, first_entry}
+use Rattle.dir_codec.specs.Parts.{EntryTexts, cut_netstring, first_netstring, four_texts, texts_before, first_entry}
 use Rattle.dir_codec.specs.Reading.{entry_reading, before_more, then_more, from_texts, read_most, reading_after}
 use Rattle.dir_codec.specs.declared.entry.Entry.{Entry}
 use Rattle.dir_codec.specs.declared.fault.DirFault.{DirFault}
@@ -30,7 +30,7 @@ after_one_more those entry (Err fault) = refl
 
 -- what follows a netstring is shorter
 cut_shorter : (bytes : List ℕ) (r : Result (Span × ℕ) NetFault) → IfOk r (λ read. (read.0.start + read.0.len + 1 ≡ read.1) × (read.1 ≤ length bytes) × (bytes ≡ netstring (span_bytes read.0 bytes) ++ drop read.1 bytes))
-    → (found : List ℕ × List ℕ) → cut bytes r ≡ Some found → length found.1 < length bytes
+    → (found : List ℕ × List ℕ) → cut_netstring bytes r ≡ Some found → length found.1 < length bytes
 cut_shorter bytes (Ok read) facts found is =
     let same : drop read.1 bytes ≡ found.1 = ap (λ (p : List ℕ × List ℕ). p.1) (let h : (span_bytes read.0 bytes, drop read.1 bytes) ≡ found = cc in h) in
     let long = length-drop read.1 bytes in
@@ -44,11 +44,11 @@ pub netstring_shorter : NothingElse → (bytes : List ℕ) (found : List ℕ × 
 unfolding first_netstring
 netstring_shorter law bytes found is = cut_shorter bytes (netstring_at bytes 0) (law bytes 0) found is
 
-before_shorter : (rest : List ℕ) (o : Option Texts) (found : Texts × List ℕ) → texts_before rest o ≡ Some found → rest ≡ found.1
-before_shorter rest (Some texts) found is = ap (λ (p : Texts × List ℕ). p.1) (let h : (texts, rest) ≡ found = cc in h)
+before_shorter : (rest : List ℕ) (o : Option EntryTexts) (found : EntryTexts × List ℕ) → texts_before rest o ≡ Some found → rest ≡ found.1
+before_shorter rest (Some texts) found is = ap (λ (p : EntryTexts × List ℕ). p.1) (let h : (texts, rest) ≡ found = cc in h)
 before_shorter rest None found is = absurd cc
 
-entry_shorter_at : NothingElse → (bytes : List ℕ) (o : Option (List ℕ × List ℕ)) → first_netstring bytes ≡ o → (found : Texts × List ℕ)
+entry_shorter_at : NothingElse → (bytes : List ℕ) (o : Option (List ℕ × List ℕ)) → first_netstring bytes ≡ o → (found : EntryTexts × List ℕ)
     → option_and_then (λ two. texts_before two.1 (four_texts two.0)) o ≡ Some found → length found.1 < length bytes
 entry_shorter_at law bytes (Some two) at found is =
     let same = ap length (before_shorter two.1 (four_texts two.0) found is) in
@@ -57,14 +57,14 @@ entry_shorter_at law bytes (Some two) at found is =
 entry_shorter_at law bytes None at found is = absurd cc
 
 -- what follows an entry is shorter
-pub entry_shorter : NothingElse → (bytes : List ℕ) (found : Texts × List ℕ) → first_entry bytes ≡ Some found → length found.1 < length bytes
+pub entry_shorter : NothingElse → (bytes : List ℕ) (found : EntryTexts × List ℕ) → first_entry bytes ≡ Some found → length found.1 < length bytes
 entry_shorter law bytes found is = entry_shorter_at law bytes (first_netstring bytes) refl found is
 
 then_same : (f g : List ℕ → List ℕ → Result (List Entry) DirFault) (rest : List ℕ) (r : Result Entry DirFault) → ((last : List ℕ) → f last rest ≡ g last rest) → then_more f rest r ≡ then_more g rest r
 then_same f g rest (Ok entry) same = ap (before_more entry) (same entry.name)
 then_same f g rest (Err fault) same = refl
 
-from_same : (f g : List ℕ → List ℕ → Result (List Entry) DirFault) (last : List ℕ) (o : Option (Texts × List ℕ)) → ((found : Texts × List ℕ) → o ≡ Some found → (name : List ℕ) → f name found.1 ≡ g name found.1) → from_texts f last o ≡ from_texts g last o
+from_same : (f g : List ℕ → List ℕ → Result (List Entry) DirFault) (last : List ℕ) (o : Option (EntryTexts × List ℕ)) → ((found : EntryTexts × List ℕ) → o ≡ Some found → (name : List ℕ) → f name found.1 ≡ g name found.1) → from_texts f last o ≡ from_texts g last o
 from_same f g last (Some found) same = then_same f g found.1 (entry_reading last found.0) (same found refl)
 from_same f g last None same = refl
 
@@ -97,9 +97,9 @@ read_first law last (b ∷ bs) h =
 pub read_torn : NothingElse → (last rest : List ℕ) → (length rest == 0) ≡ false → first_entry rest ≡ None → reading_after last rest ≡ Err Torn
 read_torn law last rest some none = read_first law last rest some ∙ ap (from_texts reading_after last) none
 
-pub read_fault : NothingElse → (last rest : List ℕ) (texts : Texts) (more : List ℕ) (fault : DirFault) → (length rest == 0) ≡ false → first_entry rest ≡ Some (texts, more) → entry_reading last texts ≡ Err fault → reading_after last rest ≡ Err fault
+pub read_fault : NothingElse → (last rest : List ℕ) (texts : EntryTexts) (more : List ℕ) (fault : DirFault) → (length rest == 0) ≡ false → first_entry rest ≡ Some (texts, more) → entry_reading last texts ≡ Err fault → reading_after last rest ≡ Err fault
 read_fault law last rest texts more fault some found is = read_first law last rest some ∙ ap (from_texts reading_after last) found ∙ ap (then_more reading_after more) is
 
-pub read_entry : NothingElse → (last rest : List ℕ) (texts : Texts) (more : List ℕ) (entry : Entry) → (length rest == 0) ≡ false → first_entry rest ≡ Some (texts, more) → entry_reading last texts ≡ Ok entry
+pub read_entry : NothingElse → (last rest : List ℕ) (texts : EntryTexts) (more : List ℕ) (entry : Entry) → (length rest == 0) ≡ false → first_entry rest ≡ Some (texts, more) → entry_reading last texts ≡ Ok entry
     → reading_after last rest ≡ before_more entry (reading_after entry.name more)
 read_entry law last rest texts more entry some found is = read_first law last rest some ∙ ap (from_texts reading_after last) found ∙ ap (then_more reading_after more) is

@@ -24,9 +24,9 @@ then_make f (Ok x) = f x
 then_make f (Err fault) = Err fault
 
 -- the value, or else a fault
-abbrev pub or_fault : {A : Type 0} → DirFault → Option A → Result A DirFault
-or_fault fault (Some x) = Ok x
-or_fault fault None = Err fault
+abbrev pub or_dir_fault : {A : Type 0} → DirFault → Option A → Result A DirFault
+or_dir_fault fault (Some x) = Ok x
+or_dir_fault fault None = Err fault
 
 -- the object of a list of just two items, a text and an object
 abbrev pub fields_of : Data → Option Data
@@ -64,11 +64,11 @@ with_fields name fields uri =
 unfoldable pub entry_of_fields : List ℕ → Data → Result Entry DirFault
 entry_of_fields name fields =
     then_make (λ uri. if length name == 0 then Err BadName else with_fields name fields uri)
-    (or_fault BadShape (option_and_then as_str (get (codes "ro_uri") fields)))
+    (or_dir_fault BadShape (option_and_then as_str (get (codes "ro_uri") fields)))
 
 -- the entry of a member
 unfoldable pub entry_made : List ℕ → Data → Result Entry DirFault
-entry_made key node = then_make (entry_of_fields (nfc_text key)) (or_fault BadShape (fields_of node))
+entry_made key node = then_make (entry_of_fields (nfc_text key)) (or_dir_fault BadShape (fields_of node))
 
 -- entries in order of their names, with one more at its place
 abbrev pub inserted : Entry → List Entry → List Entry
@@ -86,7 +86,7 @@ making_after entries (member key node more) = then_make (λ all. making_after al
 
 -- the entries that children JSON names, or a cause why there are none
 unfoldable pub making : List ℕ → Result (List Entry) DirFault
-making json = then_make (λ d. then_make (making_after []) (or_fault BadShape (as_object d))) (or_fault NotJson (json_of json))
+making json = then_make (λ d. then_make (making_after []) (or_dir_fault BadShape (as_object d))) (or_dir_fault NotJson (json_of json))
 
 -- the children that JSON names, or none
 unfoldable pub made : List ℕ → Option (List Entry)

@@ -17,9 +17,9 @@ use Rattle.dir_codec.specs.declared.fault.DirFault.{DirFault}
 use Rattle.dir_codec.specs.declared.fault.DirFault.TheVariants.{BadName, BadCap, NotImmutable, WriteCap, BadMetadata, NotJson, BadShape, SameName, FractionalNumber}
 
 -- the members of an object, in the order of their keys
-abbrev pub listed : Members → List (List ℕ × Data)
-listed no_members = []
-listed (member key node more) = (key, node) ∷ listed more
+abbrev pub members_listed : Members → List (List ℕ × Data)
+members_listed no_members = []
+members_listed (member key node more) = (key, node) ∷ members_listed more
 
 -- ---- a member: `key: [kind, fields]`
 
@@ -114,11 +114,11 @@ pub record RefusesMembers (fault : DirFault) (members : List (List ℕ × Data))
 
 -- the JSON is an object, and the entries are those of its members
 abbrev pub AreMadeOf : List Entry → List ℕ → Type 0
-AreMadeOf entries json = (members : Members) × (json_of json ≡ Some (object members)) × AreOfMembers entries (listed members)
+AreMadeOf entries json = (members : Members) × (json_of json ≡ Some (object members)) × AreOfMembers entries (members_listed members)
 
 -- why the JSON makes nothing
 abbrev pub RefusesJson : DirFault → List ℕ → Type 0
 RefusesJson NotJson json = json_of json ≡ None
 RefusesJson BadShape json =
-    ((d : Data) × (json_of json ≡ Some d) × (as_object d ≡ None)) ⊎ ((members : Members) × (json_of json ≡ Some (object members)) × RefusesMembers BadShape (listed members))
-RefusesJson other json = (members : Members) × (json_of json ≡ Some (object members)) × RefusesMembers other (listed members)
+    ((d : Data) × (json_of json ≡ Some d) × (as_object d ≡ None)) ⊎ ((members : Members) × (json_of json ≡ Some (object members)) × RefusesMembers BadShape (members_listed members))
+RefusesJson other json = (members : Members) × (json_of json ≡ Some (object members)) × RefusesMembers other (members_listed members)

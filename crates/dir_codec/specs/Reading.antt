@@ -10,7 +10,7 @@ use Rattle.caps.specs.Reading.{cap_reading}
 use Rattle.dir_codec.specs.Names.{is_name}
 use Rattle.dir_codec.specs.Metadata.{spelling_of}
 use Rattle.dir_codec.specs.Entries.{is_child_cap}
-use Rattle.dir_codec.specs.Parts.{Texts, first_entry}
+use Rattle.dir_codec.specs.Parts.{EntryTexts, first_entry}
 use Rattle.dir_codec.specs.declared.entry.Entry.{Entry}
 use Rattle.dir_codec.specs.declared.fault.DirFault.{DirFault}
 use Rattle.dir_codec.specs.declared.fault.DirFault.TheVariants.{Torn, NotSorted, BadName, BadCap, NotImmutable, WriteCap, BadMetadata, NoMemory}
@@ -36,12 +36,12 @@ abbrev pub with_metadata : List ℕ → Cap → Option (List ℕ) → Result Ent
 with_metadata name cap (Some metadata) = Ok (record { name = name; cap = cap; metadata = metadata })
 with_metadata name cap None = Err BadMetadata
 
-abbrev pub with_cap : Texts → Result Cap DirFault → Result Entry DirFault
+abbrev pub with_cap : EntryTexts → Result Cap DirFault → Result Entry DirFault
 with_cap texts (Ok cap) = if length texts.write == 0 then with_metadata texts.name cap (spelling_of texts.metadata) else Err WriteCap
 with_cap texts (Err fault) = Err fault
 
 -- the entry of four texts, after an entry of that name
-abbrev pub entry_reading : List ℕ → Texts → Result Entry DirFault
+abbrev pub entry_reading : List ℕ → EntryTexts → Result Entry DirFault
 entry_reading last texts =
     if is_name texts.name
     then (if is_lt (slice_cmp nat_cmp last texts.name) then with_cap texts (child_reading texts.cap) else Err NotSorted)
@@ -55,7 +55,7 @@ abbrev pub then_more : (List ℕ → List ℕ → Result (List Entry) DirFault) 
 then_more read rest (Ok entry) = before_more entry (read entry.name rest)
 then_more read rest (Err fault) = Err fault
 
-abbrev pub from_texts : (List ℕ → List ℕ → Result (List Entry) DirFault) → List ℕ → Option (Texts × List ℕ) → Result (List Entry) DirFault
+abbrev pub from_texts : (List ℕ → List ℕ → Result (List Entry) DirFault) → List ℕ → Option (EntryTexts × List ℕ) → Result (List Entry) DirFault
 from_texts read last (Some found) = then_more read found.1 (entry_reading last found.0)
 from_texts read last None = Err Torn
 
@@ -70,9 +70,9 @@ unfoldable pub reading_after : List ℕ → List ℕ → Result (List Entry) Dir
 reading_after last text = read_most (length text) last text
 
 -- the entries of a directory text, or the first fault
-unfoldable pub reading : List ℕ → Result (List Entry) DirFault
-reading text = reading_after [] text
+unfoldable pub directory_reading : List ℕ → Result (List Entry) DirFault
+directory_reading text = reading_after [] text
 
 -- a directory's children, or none
 unfoldable pub children : List ℕ → Option (List Entry)
-children text = result_ok (reading text)
+children text = result_ok (directory_reading text)

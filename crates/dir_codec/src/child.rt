@@ -7,7 +7,7 @@ ghost use Rattle.caps.specs.CapTexts.{cap_text};
 ghost use Rattle.caps.specs.Reading.{cap_reading};
 ghost use Rattle.dir_codec.specs.Entries.{is_child_cap, IsEntry, IsDirectory};
 ghost use Rattle.dir_codec.specs.Children.{fields_of, gives_write, has_write, metadata_made, entry_of_fields, entry_made, making_after, making};
-ghost use Rattle.dir_codec.specs.Named.{entry_of, entries_of};
+ghost use Rattle.dir_codec.specs.Named.{entry_of_child, entries_of};
 ghost use Rattle.dir_codec.specs.declared.fault.DirFault.TheVariants.{NoMemory};
 
 use crate::decoder::read_cap;
@@ -95,8 +95,8 @@ fn in_order(alloc: Global, children: BTreeMap<String, Child>) -> Result<Vec<Entr
 /// The child of a member, and its name.
 fn read_child(alloc: Global, key: &String, node: &Value) -> Result<(String, Child), DirFault>
     ensures ok { IfOk result
-        (λ named. entry_made (string_bytes key.now) (view node.now) ≡ Ok (entry_of named)) }
-    ensures kept { IfOk result (λ named. IsEntry (entry_of named)) }
+        (λ named. entry_made (string_bytes key.now) (view node.now) ≡ Ok (entry_of_child named)) }
+    ensures kept { IfOk result (λ named. IsEntry (entry_of_child named)) }
     ensures err { IfErr result (λ fault. fault ≢ NoMemory
         → entry_made (string_bytes key.now) (view node.now) ≡ Err fault) }
 {

@@ -6,7 +6,7 @@ ghost use Rattle.caps.specs.CapTexts.{cap_text};
 ghost use Rattle.caps.specs.Reading.{cap_reading};
 ghost use Rattle.dir_codec.specs.Names.{is_name, IsAbove};
 ghost use Rattle.dir_codec.specs.Entries.{is_child_cap, IsEntry, IsDirectory};
-ghost use Rattle.dir_codec.specs.Reading.{child_reading, entry_reading, reading};
+ghost use Rattle.dir_codec.specs.Reading.{child_reading, entry_reading, directory_reading};
 ghost use Rattle.dir_codec.specs.Cuts.{texts_now};
 ghost use Rattle.dir_codec.specs.declared.fault.DirFault.TheVariants.{NoMemory};
 
@@ -26,17 +26,17 @@ use unicode_normalization::is_nfc;
 /// The first entry with a fault decides, and of its faults the first in this order: Torn, BadName, NotSorted, BadCap,
 /// NotImmutable, WriteCap, BadMetadata.
 pub fn decode(alloc: Global, text: &[u8]) -> Result<Directory, DirFault>
-    ensures read { IfOk result (λ directory. reading text.now ≡ Ok directory) }
-    ensures refused { IfErr result (λ fault. fault ≢ NoMemory → reading text.now ≡ Err fault) }
+    ensures read { IfOk result (λ directory. directory_reading text.now ≡ Ok directory) }
+    ensures refused { IfErr result (λ fault. fault ≢ NoMemory → directory_reading text.now ≡ Err fault) }
 {
     Ok(Directory::from_entries(read_entries(alloc, text)?))
 }
 
 /// The entries of a directory text.
 fn read_entries(alloc: Global, text: &[u8]) -> Result<Vec<Entry>, DirFault>
-    ensures ok { IfOk result (λ entries. reading text.now ≡ Ok entries.items) }
+    ensures ok { IfOk result (λ entries. directory_reading text.now ≡ Ok entries.items) }
     ensures kept { IfOk result (λ entries. IsDirectory entries.items) }
-    ensures err { IfErr result (λ fault. fault ≢ NoMemory → reading text.now ≡ Err fault) }
+    ensures err { IfErr result (λ fault. fault ≢ NoMemory → directory_reading text.now ≡ Err fault) }
 {
     tag_hash::laws::netstrings_are_read_back();
     let mut entries = Vec::new(alloc);

@@ -7,10 +7,10 @@ ghost use Rattle.dir_codec.specs.Sound.{IsSound};
 ghost use Rattle.dir_codec.specs.Metadata.{metadata_of, spelling_of};
 ghost use Rattle.dir_codec.specs.Entries.{IsDirectory};
 ghost use Rattle.dir_codec.specs.DirectoryText.{IsDirectoryText, directory_text};
-ghost use Rattle.dir_codec.specs.Reading.{reading, children};
+ghost use Rattle.dir_codec.specs.Reading.{directory_reading, children};
 ghost use Rattle.dir_codec.specs.Children.{making, made};
 ghost use Rattle.dir_codec.specs.MadeOf.{AreMadeOf, RefusesJson};
-ghost use Rattle.dir_codec.specs.Faults.{Refuses};
+ghost use Rattle.dir_codec.specs.Faults.{RefusesDirectory};
 ghost use Rattle.dir_codec.specs.declared.entry.Entry.{Entry};
 ghost use Rattle.dir_codec.specs.declared.fault.DirFault.{DirFault};
 
@@ -20,11 +20,11 @@ use tag_hash::laws::netstrings_are_read_back;
 /// A text is read as a list of entries exactly when they belong together. Those of a text are its children.
 pub fn texts_and_entries_belong_together()
     ensures read { (entries : List Entry) (text : List ℕ) → length text < 2 ^ 64
-        → IsDirectoryText entries text → reading text ≡ Ok entries }
-    ensures only { (entries : List Entry) (text : List ℕ) → reading text ≡ Ok entries
+        → IsDirectoryText entries text → directory_reading text ≡ Ok entries }
+    ensures only { (entries : List Entry) (text : List ℕ) → directory_reading text ≡ Ok entries
         → IsDirectoryText entries text }
     ensures children { (entries : List Entry) (text : List ℕ)
-        → ((children text ≡ Some entries) ↔ (reading text ≡ Ok entries)) }
+        → ((children text ≡ Some entries) ↔ (directory_reading text ≡ Ok entries)) }
 {
     netstrings_are_read_back();
     reading_is_decided();
@@ -33,7 +33,7 @@ pub fn texts_and_entries_belong_together()
 /// A text is refused for the first fault of the first entry that has one.
 pub fn texts_are_refused_for_the_first_fault()
     ensures { (fault : DirFault) (text : List ℕ) → length text < 2 ^ 64
-        → reading text ≡ Err fault → Refuses fault text }
+        → directory_reading text ≡ Err fault → RefusesDirectory fault text }
 {
     netstrings_are_read_back();
     reading_is_decided();
@@ -44,7 +44,7 @@ pub fn written_directories_are_read_back()
     ensures text { (entries : List Entry) → IsDirectory entries
         → IsDirectoryText entries (directory_text entries) }
     ensures read { (entries : List Entry) → IsDirectory entries
-        → length (directory_text entries) < 2 ^ 64 → reading (directory_text entries) ≡ Ok entries }
+        → length (directory_text entries) < 2 ^ 64 → directory_reading (directory_text entries) ≡ Ok entries }
 {
     netstrings_are_read_back();
     reading_is_decided();

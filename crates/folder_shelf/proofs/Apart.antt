@@ -6,26 +6,26 @@ use Rattle.std.proofs.lemmas.List.{take_at, drop_at}
 use Rattle.std.proofs.lemmas.Fmt.{decimal_is_IsNumeral}
 use Rattle.base32_text.specs.Base32.{Spells, spelling}
 use Rattle.base32_text.proofs.SpellingLemmas.{counts, one_meaning, spells_spelling}
-use Rattle.folder_shelf.specs.Names.{file_name, IsPlace}
+use Rattle.folder_shelf.specs.Names.{file_name, IsKeyInRange}
 use Rattle.folder_shelf.specs.Sealed.{sealed}
 use Rattle.folder_shelf.specs.SettingsText.{settings_text_as, AreSettings}
-use Rattle.folder_shelf.specs.declared.settings.Settings.{Settings}
+use Rattle.folder_shelf.specs.declared.settings.StoreSettings.{StoreSettings}
 use Rattle.folder_shelf.proofs.Seals.{length-sealed, cut_sealed}
 use Rattle.folder_shelf.proofs.Fields.{place_at, servers_at, needed_at, made_at, secret_at, same_settings}
 
-length-spelling : (index : List ℕ) (number : ℕ) → IsPlace index number
+length-spelling : (index : List ℕ) (number : ℕ) → IsKeyInRange index number
     → length (spelling index) ≡ 26
 length-spelling index number place =
     let spelled = spells_spelling index place.octets in
     omega (arith, counts (spelling index) index spelled, place.long, spelled.fewest)
 
-letters_of : (index : List ℕ) (number : ℕ) → IsPlace index number
+letters_of : (index : List ℕ) (number : ℕ) → IsKeyInRange index number
     → take 26 (file_name index number) ≡ spelling index
 unfolding file_name
 letters_of index number place =
     take_at (spelling index) (46 ∷ decimal number) 26 (length-spelling index number place)
 
-digits_of : (index : List ℕ) (number : ℕ) → IsPlace index number
+digits_of : (index : List ℕ) (number : ℕ) → IsKeyInRange index number
     → drop 26 (file_name index number) ≡ 46 ∷ decimal number
 unfolding file_name
 digits_of index number place =
@@ -38,7 +38,7 @@ one_number m n small little e =
     ∙ (decimal_is_IsNumeral n (omega (arith, little))).1
 
 pub one_place : (index other : List ℕ) (number another : ℕ)
-    → IsPlace index number → IsPlace other another
+    → IsKeyInRange index number → IsKeyInRange other another
     → file_name index number ≡ file_name other another → (index ≡ other) × (number ≡ another)
 one_place index other number another here there e =
     let letters = sym (letters_of index number here) ∙ ap (λ t. take 26 t) e
@@ -57,7 +57,7 @@ one_content bytes other e =
     sym ((cut_sealed (sealed bytes) bytes (length bytes) refl long).0)
     ∙ (cut_sealed (sealed bytes) other (length bytes) e long).0
 
-pub one_grid : (format : List ℕ) → length format ≡ 16 → (s t : Settings) → AreSettings s → AreSettings t
+pub one_grid : (format : List ℕ) → length format ≡ 16 → (s t : StoreSettings) → AreSettings s → AreSettings t
     → settings_text_as format s ≡ settings_text_as format t → s ≡ t
 one_grid format long s t are there e =
     let text = settings_text_as format s in

@@ -7,7 +7,7 @@ unfoldable pub file_name : List ℕ → ℕ → List ℕ
 file_name index number = spelling index ++ 46 ∷ decimal number
 
 -- a storage index of 16 bytes, and a number of 16 bits
-pub record IsPlace (index : List ℕ) (number : ℕ) : Type 0 where
+pub record IsKeyInRange (index : List ℕ) (number : ℕ) : Type 0 where
   pub long : length index ≡ 16
   pub octets : All (λ byte. byte < 256) index
   pub small : number < 2 ^ 16

@@ -1,6 +1,6 @@
 -- The paths of files.
 use Rattle.std.specs.Prelude.{◌≡◌, ◌≢◌, ◌⊎◌, ℕ, ◌/◌, List, [], ◌∷◌, ◌++◌, codes, decimal, slice_index}
-use Rattle.folder_shelf.specs.Names.{file_name, IsPlace}
+use Rattle.folder_shelf.specs.Names.{file_name, IsKeyInRange}
 
 -- the number of a share's folder: the first four bits of its storage index
 abbrev pub folder_number : List ℕ → ℕ
@@ -14,4 +14,4 @@ share_path top index number = top ++ codes "/" ++ decimal (folder_number index) 
 abbrev pub TakesName : ℕ → List ℕ → List (List ℕ × ℕ) → List (List ℕ × ℕ) → Type 0
 TakesName folder name old new =
     ((index : List ℕ) × (number : ℕ) × (name ≡ file_name index number) × (folder_number index ≡ folder) × (new ≡ old ++ (index, number) ∷ []))
-    ⊎ (((index : List ℕ) (number : ℕ) → IsPlace index number → folder_number index ≡ folder → name ≢ file_name index number) × (new ≡ old))
+    ⊎ (((index : List ℕ) (number : ℕ) → IsKeyInRange index number → folder_number index ≡ folder → name ≢ file_name index number) × (new ≡ old))

@@ -2,7 +2,7 @@
 ghost use Rattle.std.specs.FinMap.{empty};
 ghost use Rattle.std.specs.Prelude.{◌≡◌, ◌≤◌, ◌<◌, ◌+◌, ◌-◌, ◌^◌, ◌==◌, ◌↔◌, ℕ, Some, false, length, string_bytes, IfOk, IfSome, OnOk, IsErrOf, if◌then◌else◌};
 ghost use Rattle.std.specs.Rc.{rc_slice_items};
-ghost use Rattle.share_shelf.specs.Left.{IsQuiet};
+ghost use Rattle.share_shelf.specs.CrashStates.{IsQuiet};
 ghost use Rattle.folder_shelf.specs.Paths.{share_path};
 ghost use Rattle.folder_shelf.specs.Sealed.{sealed};
 ghost use Rattle.folder_shelf.specs.Steps.{with_file_step};
@@ -12,7 +12,7 @@ use crate::file_text::{SEAL, seal_of, share_in};
 use crate::files::{Disk, FileDisk, LONGEST_FILE, Paths};
 use crate::listing::list;
 use crate::names::{folder_of, name_of};
-use crate::{FolderFault, Settings};
+use crate::{FolderFault, StoreSettings};
 use share_shelf::{Shelf, ShelfFault};
 use std::alloc::{AllocError, Global};
 use std::io::ErrorKind;
@@ -46,7 +46,7 @@ impl<R: Files + AllocGlobal + Clone + Drop> FolderShelf<FileDisk<R>> {
     pub fn open(
         rt: R,
         folder: &str,
-        settings: &Settings,
+        settings: &StoreSettings,
         synced: bool,
     ) -> Result<FileShelf<R>, FolderFault> {
         let top = String::from_str(rt.alloc(), folder)?;
@@ -60,7 +60,7 @@ impl<R: Files + AllocGlobal + Clone + Drop> FolderShelf<FileDisk<R>> {
     pub fn open_to_read(
         rt: R,
         folder: &str,
-        settings: &Settings,
+        settings: &StoreSettings,
     ) -> Result<FileShelf<R>, FolderFault> {
         let top = String::from_str(rt.alloc(), folder)?;
         let disk = FileDisk { rt, synced: true };

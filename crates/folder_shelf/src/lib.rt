@@ -38,5 +38,5 @@ pub use folder_shelf::{FileShelf, FolderShelf};
 pub use names::{name_of, read_name};
 pub use opening::FolderLock;
 pub use sealed_settings::{TEXT as SETTINGS_TEXT, read_settings_as, settings_text_as};
-pub use settings::Settings;
+pub use settings::StoreSettings;
 pub use settings_file::{check_settings, read_settings, settings_text};

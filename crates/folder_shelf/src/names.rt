@@ -1,7 +1,7 @@
 //! Names of files.
 ghost use Rattle.std.specs.Prelude.{◌≡◌, ◌<◌, ◌/◌, ℕ, List, length, string_bytes, Some, All, IfOk, IfSome};
 ghost use Rattle.base32_text.specs.Base32.{spelling};
-ghost use Rattle.folder_shelf.specs.Names.{file_name, IsPlace};
+ghost use Rattle.folder_shelf.specs.Names.{file_name, IsKeyInRange};
 ghost use Rattle.folder_shelf.specs.Paths.{folder_number};
 
 use base32_text::laws::{reading_is_decided, spelling_spells};
@@ -33,7 +33,7 @@ pub fn name_of(alloc: Global, index: &[u8; 16], number: u16) -> Result<String, A
 /// [`name_of`] writes is read back, and nothing else is read. `Err` only where memory is refused.
 pub fn read_name(alloc: Global, name: &str) -> Result<Option<([u8; 16], u16)>, AllocError>
     ensures named { IfOk result (λ share. IfSome share (λ at. name.now ≡ file_name at.0 at.1)) }
-    ensures reads { (index : List ℕ) (number : ℕ) → IsPlace index number
+    ensures reads { (index : List ℕ) (number : ℕ) → IsKeyInRange index number
         → name.now ≡ file_name index number
         → IfOk result (λ share. share ≡ Some (index, number)) }
 {
@@ -51,7 +51,7 @@ pub fn read_name(alloc: Global, name: &str) -> Result<Option<([u8; 16], u16)>, A
 
 /// What may be the index and the number of a name: other names than those that are written have them too.
 fn parts_of(alloc: Global, name: &str) -> Result<Option<([u8; 16], u16)>, AllocError>
-    ensures { (index : List ℕ) (number : ℕ) → IsPlace index number
+    ensures { (index : List ℕ) (number : ℕ) → IsKeyInRange index number
         → name.now ≡ file_name index number
         → IfOk result (λ share. share ≡ Some (index, number)) }
 {

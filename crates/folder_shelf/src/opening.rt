@@ -3,7 +3,7 @@ use crate::files::{FileDisk, Paths, read_file};
 use crate::names::FOLDERS;
 use crate::sealed_settings::TEXT;
 use crate::settings_file::{check_settings, settings_text};
-use crate::{FolderFault, Settings};
+use crate::{FolderFault, StoreSettings};
 use std::fs;
 use std::fs::{File, OpenOptions};
 use std::io::ErrorKind;
@@ -74,7 +74,7 @@ impl<R: Files + AllocGlobal + Clone + Drop> FileDisk<R> {
 
     /// Makes the folder ready for a shelf: it and the folders in it are there, its settings are these, nothing is
     /// unfinished, and what stands in it is synced.
-    pub(crate) fn prepare(&self, top: &str, settings: &Settings) -> Result<(), FolderFault> {
+    pub(crate) fn prepare(&self, top: &str, settings: &StoreSettings) -> Result<(), FolderFault> {
         let alloc = self.rt.alloc();
         self.make_top(top)?;
         let unfinished = format!(in alloc; "{top}/new")?;
@@ -92,7 +92,7 @@ impl<R: Files + AllocGlobal + Clone + Drop> FileDisk<R> {
     }
 
     /// Checks the settings of a folder. `NoSettings` where it has none.
-    pub(crate) fn check(&self, top: &str, settings: &Settings) -> Result<(), FolderFault> {
+    pub(crate) fn check(&self, top: &str, settings: &StoreSettings) -> Result<(), FolderFault> {
         let path = format!(in self.rt.alloc(); "{top}/grid")?;
         match read_file(&self.rt, path.as_str(), TEXT) {
             Ok(Some(text)) => check_settings(self.rt.alloc(), &text, settings),
@@ -103,7 +103,12 @@ impl<R: Files + AllocGlobal + Clone + Drop> FileDisk<R> {
     }
 
     /// Checks the settings of a folder, and writes them where the folder is new. They are synced, whatever else is.
-    fn own(&self, top: &str, unfinished: &str, settings: &Settings) -> Result<(), FolderFault> {
+    fn own(
+        &self,
+        top: &str,
+        unfinished: &str,
+        settings: &StoreSettings,
+    ) -> Result<(), FolderFault> {
         let alloc = self.rt.alloc();
         let path = format!(in alloc; "{top}/grid")?;
         match read_file(&self.rt, path.as_str(), TEXT) {

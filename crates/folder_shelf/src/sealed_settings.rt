@@ -1,9 +1,9 @@
 //! Settings as a text.
 ghost use Rattle.std.specs.Prelude.{◌≡◌, ℕ, List, length, IfOk, IfSome, Some};
 ghost use Rattle.folder_shelf.specs.SettingsText.{settings_text_as, AreSettings};
-ghost use Rattle.folder_shelf.specs.declared.settings.Settings.{Settings};
+ghost use Rattle.folder_shelf.specs.declared.settings.StoreSettings.{StoreSettings};
 
-use crate::Settings;
+use crate::StoreSettings;
 use crate::file_text::seal_of;
 use std::alloc::{AllocError, Global};
 
@@ -14,7 +14,7 @@ pub const TEXT: usize = 64;
 pub fn settings_text_as(
     alloc: Global,
     format: &[u8; 16],
-    settings: &Settings,
+    settings: &StoreSettings,
 ) -> Result<Vec<u8>, AllocError>
     ensures { IfOk result (λ text. text.items ≡ settings_text_as format.now settings.now) }
 {
@@ -36,10 +36,10 @@ pub fn read_settings_as(
     alloc: Global,
     format: &[u8; 16],
     text: &[u8],
-) -> Result<Option<Settings>, AllocError>
+) -> Result<Option<StoreSettings>, AllocError>
     ensures written { IfOk result (λ found. IfSome found (λ s.
         text.now ≡ settings_text_as format.now s)) }
-    ensures reads { (s : Settings) → AreSettings s → text.now ≡ settings_text_as format.now s
+    ensures reads { (s : StoreSettings) → AreSettings s → text.now ≡ settings_text_as format.now s
         → IfOk result (λ found. found ≡ Some s) }
 {
     if text.len() != TEXT {
@@ -55,14 +55,14 @@ pub fn read_settings_as(
 }
 
 /// The settings at their places in a text, which may be of none.
-fn fields_of(text: &[u8]) -> Settings
+fn fields_of(text: &[u8]) -> StoreSettings
     requires { length text.now ≡ 64 }
-    ensures { (format : List ℕ) (s : Settings) → length format ≡ 16 → AreSettings s
+    ensures { (format : List ℕ) (s : StoreSettings) → length format ≡ 16 → AreSettings s
         → text.now ≡ settings_text_as format s → result ≡ s }
 {
     let mut secret = [0; 32];
     secret.copy_from_slice(&text[24..56]);
-    Settings {
+    StoreSettings {
         place: u16::from_be_bytes([text[16], text[17]]),
         servers: u16::from_be_bytes([text[18], text[19]]),
         needed: u16::from_be_bytes([text[20], text[21]]),

@@ -8,7 +8,7 @@ const SECRET_TAG: &[u8; 23] = b"wozhinnam shelf secret:";
 
 /// Whose a folder is: a server's of a grid.
 #[derive(Clone, Copy, Debug, PartialEq, Eq)]
-pub struct Settings {
+pub struct StoreSettings {
     /// The place of the server among the grid's, counted from 0.
     pub place: u16,
     /// How many servers the grid has.
@@ -21,7 +21,7 @@ pub struct Settings {
     pub secret: [u8; 32],
 }
 
-impl Settings {
+impl StoreSettings {
     ghost use Rattle.folder_shelf.specs.SettingsText.{secret_digest};
 
     /// The settings of the server at `place` of a grid, the secret as its bytes.
@@ -37,7 +37,7 @@ impl Settings {
         let mut hasher = Sha256::new();
         hasher.update(SECRET_TAG);
         hasher.update(secret);
-        Settings {
+        StoreSettings {
             place,
             servers,
             needed,

@@ -7,7 +7,7 @@ use Rattle.std.proofs.lemmas.List.Sums.{sum_by-cons}
 use Rattle.std.specs.Option.{option_map}
 use Rattle.std.specs.FinMap as finite
 use Rattle.share_store.specs.History.{History}
-use Rattle.share_store.specs.Shares.{Shares, ShareKey, Entry, bytes_in, bytes_of, key_cmp}
+use Rattle.share_store.specs.Shares.{Shares, ShareKey, ShareEntry, bytes_in, bytes_of, key_cmp}
 use Rattle.grid.specs.Standing.{standing}
 use Rattle.grid.specs.GridState.{StoreState, states, stood, maps_of, IsHonest}
 use Rattle.chk_file.specs.World.{empty}
@@ -18,11 +18,11 @@ All-unmap P f [] all = All-nil (λ x. P (f x))
 All-unmap P f (x ∷ xs) all = All-cons (λ x. P (f x)) x xs (all zero (f x) (omega arith)) (All-unmap P f xs (All-tail P (f x) (map f xs) all))
 
 -- entries none of which is empty have a byte each
-length_le_bytes : (es : List Entry) → All (λ e. 0 < length e.1) es → length es ≤ bytes_in es
+length_le_bytes : (es : List ShareEntry) → All (λ e. 0 < length e.1) es → length es ≤ bytes_in es
 length_le_bytes [] all = omega arith
-length_le_bytes (e ∷ es) all = omega (arith, length_le_bytes es (All-tail (λ e. 0 < length e.1) e es all), all zero e (omega arith), sum_by-cons (λ (f : Entry). length f.1) e es)
+length_le_bytes (e ∷ es) all = omega (arith, length_le_bytes es (All-tail (λ e. 0 < length e.1) e es all), all zero e (omega arith), sum_by-cons (λ (f : ShareEntry). length f.1) e es)
 
-no_entries : (es : List Entry) → length es ≤ 0 → es ≡ []
+no_entries : (es : List ShareEntry) → length es ≤ 0 → es ≡ []
 no_entries [] le = refl
 no_entries (e ∷ es) le = absurd (omega arith)
 

@@ -13,7 +13,7 @@ use Rattle.chk_file.specs.Row.{row_uses}
 use Rattle.chk_file.specs.Marks.{MarkRow, marks_of, shown_row}
 use Rattle.chk_file.specs.World.{World, after_upload}
 use Rattle.chk_file.specs.Look.{by_held}
-use Rattle.gate_core.specs.Settings.{Settings}
+use Rattle.gate_core.specs.Settings.{GatewaySettings}
 use Rattle.gate_core.specs.Items.{Entry}
 use Rattle.gate_core.specs.Runs.{after_entry}
 use Rattle.gate_core.specs.Reach.{met_by, reach, is_reached, keeps, kept}
@@ -45,7 +45,7 @@ same_uses reached w v (name ∷ names) agree within =
 module _ (marks_stay : (servers : ℕ) (u : Upload) (w : World) (si : List ℕ) → (si ≡ index u → ⊥) → marks_of (after_upload servers u w).marks si ≡ marks_of w.marks si)
     (files_stay : (servers : ℕ) (u : Upload) (w : World) (f : ReadValue) → (index_of f.key ≡ index u → ⊥) → (after_upload servers u w).files f ≡ w.files f)
     (replies : RepliesAgree) (meets : MeetsAgree) where
-  met_uses-filtered : (s : Settings) (callers : ℕ → Bool) (reached : List Cap) (w v : World) (xs : List Entry) → Agrees reached w v → IsWithin (reach s callers w xs) reached
+  met_uses-filtered : (s : GatewaySettings) (callers : ℕ → Bool) (reached : List Cap) (w v : World) (xs : List Entry) → Agrees reached w v → IsWithin (reach s callers w xs) reached
       → met_uses s callers w xs ≡ met_uses s callers v (filter (keeps s callers reached) xs)
   met_uses-filtered s callers reached w v [] agree within = refl
   met_uses-filtered s callers reached w v (x ∷ more) agree within =
@@ -67,12 +67,12 @@ module _ (marks_stay : (servers : ℕ) (u : Upload) (w : World) (si : List ℕ) 
       ∙ ap (λ b. met_uses s callers v (cond b (x ∷ rest) rest)) (sym drops))
 
   -- what is kept of the kept items are these
-  pub kept-kept : (s : Settings) (callers : ℕ → Bool) (w : World) (xs : List Entry) → kept s callers w (kept s callers w xs) ≡ kept s callers w xs
+  pub kept-kept : (s : GatewaySettings) (callers : ℕ → Bool) (w : World) (xs : List Entry) → kept s callers w (kept s callers w xs) ≡ kept s callers w xs
   kept-kept s callers w xs =
       ap (λ reached. filter (keeps s callers reached) (kept s callers w xs)) (reach-kept marks_stay files_stay replies meets by_held by_held-local s callers w xs)
       ∙ filter-twice (keeps s callers (reach s callers w xs)) xs
 
-  pub hashed-kept : (s : Settings) (callers : ℕ → Bool) (past : List Entry) (w : World) (xs : List Entry) → hashed s callers past w (kept s callers w xs) ≡ hashed s callers past w xs
+  pub hashed-kept : (s : GatewaySettings) (callers : ℕ → Bool) (past : List Entry) (w : World) (xs : List Entry) → hashed s callers past w (kept s callers w xs) ≡ hashed s callers past w xs
   hashed-kept s callers past w xs =
       let reached = reach s callers w xs in
       let left = kept s callers w xs in

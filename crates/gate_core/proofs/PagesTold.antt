@@ -13,7 +13,7 @@ use Rattle.web_request.specs.declared.fault.WebFault.{WebFault}
 use Rattle.web_ops.specs.Replies.{page_reply, refusal_reply}
 use Rattle.web_ops.specs.Uploads.{after_stored}
 use Rattle.gate_core.specs.declared.pages.Page.{Page}
-use Rattle.gate_core.specs.Settings.{Settings, under, with_pages}
+use Rattle.gate_core.specs.Settings.{GatewaySettings, under, with_pages}
 use Rattle.gate_core.specs.Pages.{page_at, is_elsewhere, is_reading, page_read, page_or_refusal}
 use Rattle.gate_core.specs.Requests.{asked_of}
 use Rattle.gate_core.specs.Browsers.{sent_reply}
@@ -26,7 +26,7 @@ use Rattle.web_request.specs.Targets.{path_in}
 
 -- ---- what is told
 
-pub told_page : (s : Settings) (look : Look) (head : Head) (body : List ℕ) (close : Bool) (fault : WebFault) (page : Page) → asked_of head body ≡ Err fault
+pub told_page : (s : GatewaySettings) (look : Look) (head : Head) (body : List ℕ) (close : Bool) (fault : WebFault) (page : Page) → asked_of head body ≡ Err fault
     → page_read s.pages head.method head.target fault ≡ Some page
     → answer s look (RequestItem head body close) ≡ rendered (sent_reply s.for_browsers head (page_reply page.kind page.body)) (is_head_request head) close
 unfolding answer
@@ -45,7 +45,7 @@ pub none_read : (method target : List ℕ) (fault : WebFault) → page_read [] m
 unfolding page_read
 none_read method target fault = none_if (is_elsewhere fault && is_reading method) (page_at [] (path_in target)) (none_at (path_in target))
 
-pub told_none : (s : Settings) (look : Look) (head : Head) (body : List ℕ) (close : Bool) (fault : WebFault) → asked_of head body ≡ Err fault
+pub told_none : (s : GatewaySettings) (look : Look) (head : Head) (body : List ℕ) (close : Bool) (fault : WebFault) → asked_of head body ≡ Err fault
     → answer (with_pages s []) look (RequestItem head body close) ≡ rendered (sent_reply s.for_browsers head (refusal_reply fault)) (is_head_request head) close
 unfolding answer
 told_none s look head body close fault asks =
@@ -53,31 +53,31 @@ told_none s look head body close fault asks =
 
 -- ---- what stands
 
-same_upload : (s : Settings) (pages : List Page) (secret : List ℕ) (item : Item) → upload_by (under (with_pages s pages) secret) item ≡ upload_by (under s secret) item
+same_upload : (s : GatewaySettings) (pages : List Page) (secret : List ℕ) (item : Item) → upload_by (under (with_pages s pages) secret) item ≡ upload_by (under s secret) item
 unfolding upload_by
 same_upload s pages secret (RequestItem head body close) = refl
 same_upload s pages secret Continue = refl
 same_upload s pages secret (Fault fault head_only) = refl
 
-same_after : (s : Settings) (pages : List Page) (x : Entry) (w : World) → after_entry (with_pages s pages) x w ≡ after_entry s x w
+same_after : (s : GatewaySettings) (pages : List Page) (x : Entry) (w : World) → after_entry (with_pages s pages) x w ≡ after_entry s x w
 same_after s pages (Asked id secret item) w = ap (λ o. after_stored s.servers o w) (same_upload s pages secret item)
 same_after s pages (Lost server key) w = refl
 same_after s pages (Spoiled server key place) w = refl
 
-pub same_world : (s : Settings) (pages : List Page) (w : World) (xs : List Entry) → world_after (with_pages s pages) w xs ≡ world_after s w xs
+pub same_world : (s : GatewaySettings) (pages : List Page) (w : World) (xs : List Entry) → world_after (with_pages s pages) w xs ≡ world_after s w xs
 same_world s pages w [] = refl
 same_world s pages w (x ∷ more) = ap (λ v. world_after (with_pages s pages) v more) (same_after s pages x w) ∙ same_world s pages (after_entry s x w) more
 
-same_by : (s : Settings) (pages : List Page) (x : Entry) → uploads_by (with_pages s pages) x ≡ uploads_by s x
+same_by : (s : GatewaySettings) (pages : List Page) (x : Entry) → uploads_by (with_pages s pages) x ≡ uploads_by s x
 same_by s pages (Asked id secret item) = ap option_to_list (same_upload s pages secret item)
 same_by s pages (Lost server key) = refl
 same_by s pages (Spoiled server key place) = refl
 
-same_uploads : (s : Settings) (pages : List Page) (xs : List Entry) → uploads_of (with_pages s pages) xs ≡ uploads_of s xs
+same_uploads : (s : GatewaySettings) (pages : List Page) (xs : List Entry) → uploads_of (with_pages s pages) xs ≡ uploads_of s xs
 same_uploads s pages [] = refl
 same_uploads s pages (x ∷ more) = ap (λ a. a ++ uploads_of (with_pages s pages) more) (same_by s pages x) ∙ ap (λ r. uploads_by s x ++ r) (same_uploads s pages more)
 
-pub same_left : (s : Settings) (pages : List Page) (past : List Entry) (w : World) → IsLeftBy (with_pages s pages) past w → IsLeftBy s past w
+pub same_left : (s : GatewaySettings) (pages : List Page) (past : List Entry) (w : World) → IsLeftBy (with_pages s pages) past w → IsLeftBy s past w
 same_left s pages past w left = record {
   world = left.world ∙ same_world s pages empty past;
   proper = record { sharing = left.proper.sharing; bytes = subst (λ us. All (λ (u : Upload). AreBytes u.bytes) us) (same_uploads s pages past) left.proper.bytes };

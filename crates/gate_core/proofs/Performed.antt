@@ -25,14 +25,14 @@ use Rattle.web_ops.specs.Answers.{request_reply}
 use Rattle.web_ops.specs.Replied.{IsReply}
 use Rattle.web_ops.specs.Changes.{HasRoomFor, IsStoredIn, IsBegunIn, TellsOfIn, Follows}
 use Rattle.gate_core.specs.declared.pages.Page.{Page}
-use Rattle.gate_core.specs.Settings.{Settings, setup_of, settings_of}
+use Rattle.gate_core.specs.Settings.{GatewaySettings, setup_of, settings_of}
 use Rattle.gate_core.specs.Pages.{reply_elsewhere}
 use Rattle.gate_core.specs.Requests.{Interpreted, web_head, asked_of}
 use Rattle.gate_core.specs.Uploaded.{BringsBytes}
 use Rattle.gate_core.specs.Rooms.{Rooms, brought_by}
 use Rattle.gate_core.specs.Came.{Shows}
 use Rattle.gate_core.specs.Runs.{upload_asked}
-use Rattle.gate_core.specs.Served.{IsCarriedOut}
+use Rattle.gate_core.specs.Served.{IsRequestCarriedOut}
 
 -- ---- what the stores show after it
 
@@ -90,12 +90,12 @@ performed : {E : Type 0} (e : Encoding) (pages : List Page) (head : Head) (reque
     → (IsHonest old → HasRoomFor old (upload_in e request) → NoneFailed old new → OnOk r (Follows (upload_in e request) old new))
     → OnOk r (BringsBytes (upload_in e request))
     → IfOk r (λ reply. TellsOfIn (upload_in e request) reply old new)
-    → IfOk r (λ reply. IsCarriedOut (settings_of (setup_of e pages) (length old.stores)) head (Ok request) reply old new)
+    → IfOk r (λ reply. IsRequestCarriedOut (settings_of (setup_of e pages) (length old.stores)) head (Ok request) reply old new)
 performed e pages head request (Ok reply) old new leaves fits written stored follows bytes tells = record {
   fits = fits;
   bytes = bytes;
   tells = tells;
-  calm = λ w rooms shows brings none.
+  as_written = λ w rooms shows brings none.
       let room : HasRoomFor old (upload_in e request) = room_for (upload_in e request) old w rooms shows brings in
       record {
         written = written shows.honest room none ∙ ap (λ st. request_reply e (look_in st) request) shows.stand;
@@ -126,10 +126,10 @@ pub carried_out : {E : Type 0} (e : Encoding) (pages : List Page) (k n : ℕ) (s
     → (IsHonest old → HasRoomFor old (upload_in (parts_as k n secret mapped) request) → NoneFailed old new → OnOk r (Follows (upload_in (parts_as k n secret mapped) request) old new))
     → OnOk r (BringsBytes (upload_in (parts_as k n secret mapped) request))
     → IfOk r (λ reply. TellsOfIn (upload_in (parts_as k n secret mapped) request) reply old new)
-    → IfOk r (λ reply. IsCarriedOut (settings_of (setup_of e pages) (length old.stores)) head (asked_of head body) reply old new)
+    → IfOk r (λ reply. IsRequestCarriedOut (settings_of (setup_of e pages) (length old.stores)) head (asked_of head body) reply old new)
 carried_out e pages k n secret mapped head body same request r old new is_k is_n is_secret is_mapped is_head read leaves fits written stored follows bytes tells =
-    subst (λ asked. IfOk r (λ reply. IsCarriedOut (settings_of (setup_of e pages) (length old.stores)) head asked reply old new)) (sym (asked_as head body same (Ok request) is_head read))
-    (subst (λ f. IfOk r (λ reply. IsCarriedOut (settings_of (setup_of f pages) (length old.stores)) head (Ok request) reply old new)) (same_encoding e k n secret mapped is_k is_n is_secret is_mapped)
+    subst (λ asked. IfOk r (λ reply. IsRequestCarriedOut (settings_of (setup_of e pages) (length old.stores)) head asked reply old new)) (sym (asked_as head body same (Ok request) is_head read))
+    (subst (λ f. IfOk r (λ reply. IsRequestCarriedOut (settings_of (setup_of f pages) (length old.stores)) head (Ok request) reply old new)) (same_encoding e k n secret mapped is_k is_n is_secret is_mapped)
     (performed (parts_as k n secret mapped) pages head request r old new leaves fits written stored follows bytes tells))
 
 -- a beginning of its upload was put, if any
@@ -151,12 +151,12 @@ no_error : {T : Type 0} (E : Type 0) (x : T) → IsErr {T = T} {E = E} (Ok x) �
 no_error E x e = cc
 
 -- what is no request is refused, and memory that ran out gives no reply
-pub refused : {E : Type 0} (settings : Settings) (head : Head) (body : List ℕ) (same : WebHead) (fault : WebFault) (r : Result Reply E) (g : GridState)
+pub refused : {E : Type 0} (settings : GatewaySettings) (head : Head) (body : List ℕ) (same : WebHead) (fault : WebFault) (r : Result Reply E) (g : GridState)
     → same ≡ web_head head → (fault ≢ NoMemory → interpreted same body ≡ Err fault)
     → IfOk r (λ reply. reply ≡ reply_elsewhere settings.pages same.method same.target fault) → (fault ≡ NoMemory → IsErr r)
-    → IfOk r (λ reply. IsCarriedOut settings head (asked_of head body) reply g g)
+    → IfOk r (λ reply. IsRequestCarriedOut settings head (asked_of head body) reply g g)
 refused {E = E} settings head body same fault (Ok reply) g is_head read is memory =
     let as_sent : reply ≡ reply_elsewhere settings.pages head.method head.target fault = is ∙ ap (λ (h : WebHead). reply_elsewhere settings.pages h.method h.target fault) is_head in
-    subst (λ asked. IsCarriedOut settings head asked reply g g) (sym (asked_as head body same (Err fault) is_head (read (λ e. no_error E reply (memory e)))))
-    (record { fits = as_sent; bytes = tt; tells = tt; calm = λ w rooms shows brings none. record { written = as_sent; stores = Shows-same g w rooms shows } })
+    subst (λ asked. IsRequestCarriedOut settings head asked reply g g) (sym (asked_as head body same (Err fault) is_head (read (λ e. no_error E reply (memory e)))))
+    (record { fits = as_sent; bytes = tt; tells = tt; as_written = λ w rooms shows brings none. record { written = as_sent; stores = Shows-same g w rooms shows } })
 refused settings head body same fault (Err failed) g is_head read is memory = tt

@@ -8,11 +8,11 @@ use Rattle.grid.specs.GridState.{GridState, IsHonest}
 use Rattle.grid.specs.Leaves.{Leaves}
 use Rattle.web_ops.specs.Changes.{IsBegunIn}
 use Rattle.gate_core.specs.declared.tally.Tally.{Tally}
-use Rattle.gate_core.specs.Settings.{Setup, Settings, settings_of, under, encoding_in}
+use Rattle.gate_core.specs.Settings.{Setup, GatewaySettings, settings_of, under, encoding_in}
 use Rattle.gate_core.specs.Requests.{asked_of}
 use Rattle.gate_core.specs.Runs.{upload_asked, upload_by}
 use Rattle.gate_core.specs.Served.{AreServed, AreServedAfter}
-use Rattle.gate_core.specs.Stopped.{upload_at, IsStopped}
+use Rattle.gate_core.specs.Stopped.{upload_at, IsStoppedByMemory}
 use Rattle.gate_core.specs.Tallies.{AreTallied, AreTalliedAfter}
 use Rattle.gate_core.proofs.Performed.{nothing_begun}
 use Rattle.gate_core.proofs.Serving.{Leaves-refl, AreServed-none}
@@ -23,13 +23,13 @@ on_err (Ok x) p = tt
 on_err (Err e) p = p
 
 -- a request's upload is that of what it asks for
-pub begun_by : (s : Settings) (item : Item) (head : Head) (body : List ℕ) (close : Bool) (old new : GridState) → item ≡ RequestItem head body close
+pub begun_by : (s : GatewaySettings) (item : Item) (head : Head) (body : List ℕ) (close : Bool) (old new : GridState) → item ≡ RequestItem head body close
     → (IsHonest old → IsBegunIn (upload_asked (encoding_in s) (asked_of head body)) old new) → IsHonest old → IsBegunIn (upload_by s item) old new
 unfolding upload_by
 begun_by s item head body close old new is begun honest = subst (λ x. IsBegunIn (upload_by s x) old new) (sym is) (begun honest)
 
 -- before the first item nothing was done
-pub stopped_first : (s : Settings) (secret : List ℕ) (items : List Item) (g : GridState) (t : Tally) → IsStopped s secret items g g t t
+pub stopped_first : (s : GatewaySettings) (secret : List ℕ) (items : List Item) (g : GridState) (t : Tally) → IsStoppedByMemory s secret items g g t t
 stopped_first s secret items g t = record {
   done = 0;
   output = [];
@@ -45,7 +45,7 @@ pub stopped_at : (p : Setup) (n : ℕ) (secret : List ℕ) (items those : List I
     → AreServedAfter (settings_of p n) secret those w1 w2 g1 g2 → those ≡ take (length those) items → slice_get items (length those) ≡ Some item → Leaves g2 g3
     → (IsHonest g2 → IsBegunIn (upload_by (under (settings_of p (length g2.stores)) secret) item) g2 g3)
     → AreTalliedAfter those w1 w2 t1 t2 → t3 ≡ t2
-    → IsStopped (settings_of p n) secret items g1 g3 t1 t3
+    → IsStoppedByMemory (settings_of p n) secret items g1 g3 t1 t3
 stopped_at p n secret items those item w1 w2 g1 g2 g3 t1 t2 t3 long first so_far here leaves begun counts none = record {
   done = length those;
   output = first.output;

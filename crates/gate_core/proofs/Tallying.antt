@@ -11,7 +11,7 @@ use Rattle.http_edge.specs.Judge.{is_head_request}
 use Rattle.http_edge.specs.Reply.{rendered, continue_text}
 use Rattle.gate_core.specs.declared.tally.Tally.{Tally}
 use Rattle.gate_core.specs.Wire.{framing_reply}
-use Rattle.gate_core.specs.Tallies.{counted, AreTallied, AreTalliedAfter}
+use Rattle.gate_core.specs.Tallies.{tally_after, AreTallied, AreTalliedAfter}
 
 -- two facts where a result is Ok
 pub both_ok : {T E : Type 0} (r : Result T E) (X Y Z : Type 0) → (X → Y → Z) → OnOk r X → OnOk r Y → OnOk r Z
@@ -49,7 +49,7 @@ tallied_output items before after output s t waits all = subst (λ o. AreTallied
 
 pub tallied_request : (item : Item) (head : Head) (body : List ℕ) (close asked : Bool) (reply : Reply) (before after : List ℕ) (old new : Tally)
     → item ≡ RequestItem head body close → asked ≡ is_head_request head
-    → after ≡ before ++ rendered reply asked close → new ≡ counted reply.status old → AreTalliedAfter (item ∷ []) before after old new
+    → after ≡ before ++ rendered reply asked close → new ≡ tally_after reply.status old → AreTalliedAfter (item ∷ []) before after old new
 tallied_request item head body close asked reply before after old new is head_only pushed counts =
     let text = rendered reply (is_head_request head) close in
     record {
@@ -62,7 +62,7 @@ tallied_request item head body close asked reply before after old new is head_on
 
 pub tallied_fault : (item : Item) (fault : FramingFault) (head_only : Bool) (reply : Reply) (before after : List ℕ) (old new : Tally)
     → item ≡ Fault fault head_only → reply ≡ framing_reply fault
-    → after ≡ before ++ rendered reply head_only true → new ≡ counted reply.status old → AreTalliedAfter (item ∷ []) before after old new
+    → after ≡ before ++ rendered reply head_only true → new ≡ tally_after reply.status old → AreTalliedAfter (item ∷ []) before after old new
 tallied_fault item fault head_only reply before after old new is says pushed counts =
     let text = rendered reply head_only true in
     record {
@@ -70,7 +70,7 @@ tallied_fault item fault head_only reply before after old new is says pushed cou
       waits = pushed;
       tallied =
           subst (λ x. AreTallied (x ∷ []) text old new) (sym is)
-          (text, [], new, sym (append-nil text), (ap (λ r. rendered r head_only true) says, counts ∙ ap (λ (r : Reply). counted r.status old) says), (refl, refl));
+          (text, [], new, sym (append-nil text), (ap (λ r. rendered r head_only true) says, counts ∙ ap (λ (r : Reply). tally_after r.status old) says), (refl, refl));
     }
 
 pub tallied_continue : (item : Item) (text before after : List ℕ) (t : Tally) → item ≡ Continue → text ≡ continue_text → after ≡ before ++ text → AreTalliedAfter (item ∷ []) before after t t

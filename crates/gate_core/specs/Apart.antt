@@ -14,7 +14,7 @@ use Rattle.chk_file.specs.Row.{row_uses}
 use Rattle.chk_file.specs.Marks.{marks_of, shown_row}
 use Rattle.chk_file.specs.World.{World}
 use Rattle.chk_file.specs.Look.{by_held}
-use Rattle.gate_core.specs.Settings.{Settings}
+use Rattle.gate_core.specs.Settings.{GatewaySettings}
 use Rattle.gate_core.specs.Items.{Entry}
 use Rattle.gate_core.specs.Runs.{after_entry}
 use Rattle.gate_core.specs.Reach.{met_by, is_reached, reach, kept}
@@ -42,7 +42,7 @@ abbrev pub stood_uses : World → Cap → List Use
 stood_uses w name = verify_uses w (weakened name)
 
 -- and that of each cap that these callers' items met, in the world before each
-abbrev pub met_uses : Settings → (ℕ → Bool) → World → List Entry → List Use
+abbrev pub met_uses : GatewaySettings → (ℕ → Bool) → World → List Entry → List Use
 met_uses settings callers w [] = []
 met_uses settings callers w (x ∷ more) =
     flat_map (stood_uses w) (met_by (by_held w) callers x) ++ met_uses settings callers (after_entry settings x w) more
@@ -50,7 +50,7 @@ met_uses settings callers w (x ∷ more) =
 -- What is hashed in these callers' part of a run, in a world that the items of `past` left: to encode what was uploaded
 -- in the past under an index that they reach and what the kept items upload, for the storage index of each read cap that
 -- they reach, and to verify what stands under the index of each cap that they met.
-abbrev pub hashed : Settings → (ℕ → Bool) → List Entry → World → List Entry → List Use
+abbrev pub hashed : GatewaySettings → (ℕ → Bool) → List Entry → World → List Entry → List Use
 hashed settings callers past w entries =
     let reached = reach settings callers w entries in
     reached_uses reached (uploads_of settings past)
@@ -58,5 +58,5 @@ hashed settings callers past w entries =
     ++ (flat_map key_uses reached ++ met_uses settings callers w entries))
 
 -- no two of these strings collide
-abbrev pub Apart : Settings → (ℕ → Bool) → List Entry → World → List Entry → Type 0
+abbrev pub Apart : GatewaySettings → (ℕ → Bool) → List Entry → World → List Entry → Type 0
 Apart settings callers past w entries = NoCollision (hashed settings callers past w entries)

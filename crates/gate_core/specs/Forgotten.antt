@@ -3,7 +3,7 @@ use Rattle.std.specs.Prelude.{ℕ, List, [], ◌++◌, map, if◌then◌else◌,
 use Rattle.std.specs.Ordering.{nat_cmp}
 use Rattle.std.specs.FinMap as finite
 use Rattle.std.specs.FinSet as set
-use Rattle.http_edge.specs.Left.{part_of}
+use Rattle.http_edge.specs.FramingState.{part_of}
 use Rattle.gate_core.specs.declared.stage.Stage.TheVariants.{Ended}
 use Rattle.gate_core.specs.ConnectionState.{ConnectionState, Connections}
 

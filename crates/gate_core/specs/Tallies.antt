@@ -27,21 +27,21 @@ nothing_counted = record {
 }
 
 -- one more, as far as 64 bits count
-abbrev pub one_more : ℕ → ℕ
-one_more n = min (n + 1) (2 ^ 64 - 1)
+abbrev pub tally_more : ℕ → ℕ
+tally_more n = min (n + 1) (2 ^ 64 - 1)
 
-abbrev pub counted : Status → Tally → Tally
-counted statuses.Ok t = record t { ok = one_more t.ok }
-counted statuses.PartialContent t = record t { partial_content = one_more t.partial_content }
-counted statuses.NotModified t = record t { not_modified = one_more t.not_modified }
-counted statuses.BadRequest t = record t { bad_request = one_more t.bad_request }
-counted statuses.NotFound t = record t { not_found = one_more t.not_found }
-counted statuses.MethodNotAllowed t = record t { method_not_allowed = one_more t.method_not_allowed }
-counted statuses.Gone t = record t { gone = one_more t.gone }
-counted statuses.ContentTooLarge t = record t { content_too_large = one_more t.content_too_large }
-counted statuses.RangeNotSatisfiable t = record t { range_not_satisfiable = one_more t.range_not_satisfiable }
-counted statuses.NotImplemented t = record t { not_implemented = one_more t.not_implemented }
-counted statuses.ServiceUnavailable t = record t { service_unavailable = one_more t.service_unavailable }
+abbrev pub tally_after : Status → Tally → Tally
+tally_after statuses.Ok t = record t { ok = tally_more t.ok }
+tally_after statuses.PartialContent t = record t { partial_content = tally_more t.partial_content }
+tally_after statuses.NotModified t = record t { not_modified = tally_more t.not_modified }
+tally_after statuses.BadRequest t = record t { bad_request = tally_more t.bad_request }
+tally_after statuses.NotFound t = record t { not_found = tally_more t.not_found }
+tally_after statuses.MethodNotAllowed t = record t { method_not_allowed = tally_more t.method_not_allowed }
+tally_after statuses.Gone t = record t { gone = tally_more t.gone }
+tally_after statuses.ContentTooLarge t = record t { content_too_large = tally_more t.content_too_large }
+tally_after statuses.RangeNotSatisfiable t = record t { range_not_satisfiable = tally_more t.range_not_satisfiable }
+tally_after statuses.NotImplemented t = record t { not_implemented = tally_more t.not_implemented }
+tally_after statuses.ServiceUnavailable t = record t { service_unavailable = tally_more t.service_unavailable }
 
 -- ---- the tally of what was answered
 
@@ -49,9 +49,9 @@ counted statuses.ServiceUnavailable t = record t { service_unavailable = one_mor
 -- counts nothing.
 abbrev pub IsTallied : Item → List ℕ → Tally → Tally → Type 0
 IsTallied (RequestItem head body close) text old new =
-    (reply : Reply) × ((text ≡ rendered reply (is_head_request head) close) × (new ≡ counted reply.status old))
+    (reply : Reply) × ((text ≡ rendered reply (is_head_request head) close) × (new ≡ tally_after reply.status old))
 IsTallied Continue text old new = (text ≡ continue_text) × (new ≡ old)
-IsTallied (Fault fault head_only) text old new = (text ≡ rendered (framing_reply fault) head_only true) × (new ≡ counted (framing_reply fault).status old)
+IsTallied (Fault fault head_only) text old new = (text ≡ rendered (framing_reply fault) head_only true) × (new ≡ tally_after (framing_reply fault).status old)
 
 -- the output is one answer to each of the items, in their order, and nothing else, and each reply among them was counted
 abbrev pub AreTallied : List Item → List ℕ → Tally → Tally → Type 0

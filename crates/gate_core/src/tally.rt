@@ -1,6 +1,6 @@
 //! How many replies there were, by status.
 ghost use Rattle.std.specs.Prelude.{◌≡◌};
-ghost use Rattle.gate_core.specs.Tallies.{nothing_counted, counted, one_more};
+ghost use Rattle.gate_core.specs.Tallies.{nothing_counted, tally_after, tally_more};
 
 use http_edge::Status;
 
@@ -43,7 +43,7 @@ impl Tally {
 
     /// A reply of this status was made.
     pub fn count(&mut self, status: Status)
-        ensures { self.new ≡ counted status self.old }
+        ensures { self.new ≡ tally_after status self.old }
     {
         match status {
             Status::Ok => self.ok = one_more(self.ok),
@@ -71,7 +71,7 @@ impl Tally {
 
 /// One more, as far as 64 bits count.
 fn one_more(number: u64) -> u64
-    ensures { result ≡ one_more number }
+    ensures { result ≡ tally_more number }
 {
     number.saturating_add(1)
 }

@@ -7,7 +7,7 @@ ghost use Rattle.std.specs.Prelude.{◌≡◌, ◌≢◌, Err, IfOk};
 ghost use Rattle.std.specs.Process.{exit_status as status_at_exit};
 ghost use Rattle.gate_tasks.specs.Arguments.{Asks, IsRefused};
 ghost use Rattle.gate_tasks.specs.Serving.{set_up_with};
-ghost use Rattle.gate_tasks.specs.Status.{status_of};
+ghost use Rattle.gate_tasks.specs.Status.{outcome_status};
 
 use gate_core::Gateway;
 use gate_tasks::laws::usage_laws;
@@ -37,7 +37,7 @@ fn main(rt: HostRuntime) -> ExitCode {
 
 /// The exit code for an outcome: it has the outcome's status.
 fn code_of(outcome: &Result<(), ProgramFault>) -> ExitCode
-    ensures { status_at_exit result ≡ status_of outcome.now }
+    ensures { status_at_exit result ≡ outcome_status outcome.now }
 {
     ExitCode::from(exit_status(outcome))
 }

@@ -7,7 +7,7 @@ use Rattle.grid.specs.GridState.{StoreState}
 use Rattle.grid.specs.Standing.{at_server}
 use Rattle.grid.specs.ImageReading.{image_said}
 use Rattle.chk_file.specs.World.{empty}
-use Rattle.gate_core.specs.Settings.{Settings}
+use Rattle.gate_core.specs.Settings.{GatewaySettings}
 use Rattle.gate_core.specs.Items.{items}
 use Rattle.gate_core.specs.ConnectionState.{State, AreParameters}
 use Rattle.gate_core.specs.Came.{Opening, Came, Starts}
@@ -71,10 +71,10 @@ refused_with grid servers secret fault P a b accepted never refused =
 
 -- ---- `grid`
 
-pub set_is : (grid : Grid) (secret : List ℕ) (servers : ℕ) → secret ≡ grid.secret → servers ≡ grid.servers → (let s : Settings = record { k = grid.k; n = grid.n; secret = secret; servers = servers; pages = []; for_browsers = false } in s) ≡ settings_by grid
+pub set_is : (grid : Grid) (secret : List ℕ) (servers : ℕ) → secret ≡ grid.secret → servers ≡ grid.servers → (let s : GatewaySettings = record { k = grid.k; n = grid.n; secret = secret; servers = servers; pages = []; for_browsers = false } in s) ≡ settings_by grid
 set_is grid secret servers a b =
-    ap (λ q. let s : Settings = record { k = grid.k; n = grid.n; secret = q; servers = servers; pages = []; for_browsers = false } in s) a
-    ∙ ap (λ q. let s : Settings = record { k = grid.k; n = grid.n; secret = grid.secret; servers = q; pages = []; for_browsers = false } in s) b
+    ap (λ q. let s : GatewaySettings = record { k = grid.k; n = grid.n; secret = q; servers = servers; pages = []; for_browsers = false } in s) a
+    ∙ ap (λ q. let s : GatewaySettings = record { k = grid.k; n = grid.n; secret = grid.secret; servers = q; pages = []; for_browsers = false } in s) b
 
 came_first : (grid : Grid) (g : State) → g.grid.stores ≡ replicate grid.servers (fresh grid.room) → Starts empty g → Came (opening_by grid) g []
 unfolding items
@@ -99,7 +99,7 @@ begin_made log None grid g at set is starts good =
       stands = refl;
       told = record { made = ap (λ b. cond b Done (Refused BadParameters)) (sym good); restored = tt; replies = λ opening is. tt };
       ends = refl;
-      at = λ _. (refl, record { settings = set; sharing = sharing_of grid good; calm = λ opening opened calm. subst (λ o. Came o g []) (sym opened) (came_first grid g is starts) });
+      at = λ _. (refl, record { settings = set; sharing = sharing_of grid good; as_written = λ opening opened calm. subst (λ o. Came o g []) (sym opened) (came_first grid g is starts) });
     }
 begin_made log (Some was) grid g at set is starts good = absurd at
 
@@ -128,7 +128,7 @@ restored log grid (Some old) image g at told set sound came =
       stands = refl;
       told = record { made = first.made; restored = record { answer = tt; done = λ _. sound; bad = λ place is. absurd cc; full = λ server is. absurd cc }; replies = λ opening opened. tt };
       ends = refl;
-      at = λ _. (omega arith, record { settings = set; sharing = was.sharing; calm = λ opening opened calm. came opening opened });
+      at = λ _. (omega arith, record { settings = set; sharing = was.sharing; as_written = λ opening opened calm. came opening opened });
     }
 
 pub restore_refused : (log : List Step) (grid : Grid) (gateway : Option State) (image : List ℕ) (reply : Reply) → IsProgress log (Some grid) gateway → AreTold log → is_refusal reply ≡ true → IsRestoreReply grid image reply

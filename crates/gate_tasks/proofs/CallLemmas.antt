@@ -19,21 +19,21 @@ use Rattle.grid.specs.declared.image_layout.Layout.TheVariants.{VersionTwo}
 use Rattle.chk_file.specs.World.{World, empty}
 use Rattle.chk_file.specs.Marks.{shown}
 use Rattle.chk_file.specs.Look.{by_fit}
-use Rattle.gate_core.specs.Settings.{Settings}
+use Rattle.gate_core.specs.Settings.{GatewaySettings}
 use Rattle.gate_core.specs.declared.fault.GatewayFault.{GatewayFault}
 use Rattle.gate_core.specs.declared.fault.GatewayFault.TheVariants.{Known, NotOpen, BadParameters}
 use Rattle.gate_core.specs.declared.stage.Stage.{Stage}
 use Rattle.gate_core.specs.Events.{Event, Open, Bytes, End, Take, Lose, Spoil, is_known, handed, has_ended}
 use Rattle.gate_core.specs.Items.{Entry, items}
 use Rattle.gate_core.specs.Runs.{world_after, said_by, said}
-use Rattle.gate_core.specs.Reach.{only, kept}
+use Rattle.gate_core.specs.Reach.{only_caller, kept}
 use Rattle.gate_core.specs.Uploaded.{IsProper, IsLeftBy}
 use Rattle.gate_core.specs.Apart.{Apart}
 use Rattle.gate_core.specs.ConnectionState.{ConnectionState, State, connection_at, waiting, waiting_in, open_refusal, bytes_refusal, take_refusal, stage_refusal}
-use Rattle.gate_core.specs.AfterCall.{with_held, with_grid, opened, taken, ended}
+use Rattle.gate_core.specs.AfterCall.{with_held, with_grid, opened, taken, ended_state}
 use Rattle.gate_core.specs.Came.{Opening, Came, CameAt, IsRoomy, GoesOn, stage_of}
 use Rattle.gate_core.specs.Served.{IsReceived}
-use Rattle.gate_tasks.specs.Replies.{settings_by, is_going, unsaid, unsaid_of_kept, IsApart, first_of, opened_reply, IsTaken, world_by, at_server, IsImageAfter, IsNoImageAfter}
+use Rattle.gate_tasks.specs.Replies.{settings_by, is_going, unsaid, unsaid_of_kept, IsApart, first_bytes_reply, opened_reply, IsTakeReply, world_by, if_server, IsImageAfter, IsNoImageAfter}
 use Rattle.gate_tasks.specs.Running.{IsCalled}
 use Rattle.gate_tasks.specs.declared.command.Call.TheVariants as call
 use Rattle.gate_tasks.specs.declared.command.Grid.{Grid}
@@ -43,7 +43,7 @@ use Rattle.gate_tasks.specs.declared.reply.Reply.TheVariants.{Done, Refused, Gri
 
 -- ---- `open`
 
-unknown : (s : Settings) (w : World) (id n : ℕ) (held : Option ConnectionState) (events : List Event) (P : Type 0) (Q : GatewayFault → Type 0) → ((e : GatewayFault) → Q e → ⊥) → MatchOption (open_refusal held n) P Q → CameAt s w id held events
+unknown : (s : GatewaySettings) (w : World) (id n : ℕ) (held : Option ConnectionState) (events : List Event) (P : Type 0) (Q : GatewayFault → Type 0) → ((e : GatewayFault) → Q e → ⊥) → MatchOption (open_refusal held n) P Q → CameAt s w id held events
     → is_known id events ≡ false
 unknown s w id n None events P Q never answer at = at.unknown
 unknown s w id n (Some held) events P Q never answer at = absurd (never Known answer)
@@ -65,7 +65,7 @@ open_called old new id secret P Q never answer left on = record {
       ap (λ b. cond b (Refused BadParameters) Done) (sym (short n (connection_at old id) P Q never answer))
       ∙ ap (λ b. cond b (Refused Known) (opened_reply secret)) (sym (unknown old.settings opening.world id n (connection_at old id) events P Q never answer (came.each id)));
   came = λ grid opening events set came calm.
-      subst (λ (s : Settings). Came opening new (events ++ Open id (unwrap_or secret s.secret) ∷ [])) set (on opening events came);
+      subst (λ (s : GatewaySettings). Came opening new (events ++ Open id (unwrap_or secret s.secret) ∷ [])) set (on opening events came);
 }
 
 -- ---- `bytes` and `end`
@@ -74,7 +74,7 @@ not_ended : (b : Bool) (P : Type 0) (Q : GatewayFault → Type 0) → ((e : Gate
 not_ended false P Q never answer = refl
 not_ended true P Q never answer = absurd (never NotOpen answer)
 
-going : (s : Settings) (w : World) (id : ℕ) (held : Option ConnectionState) (events : List Event) (P : Type 0) (Q : GatewayFault → Type 0) → ((e : GatewayFault) → Q e → ⊥) → MatchOption (bytes_refusal held) P Q → CameAt s w id held events
+going : (s : GatewaySettings) (w : World) (id : ℕ) (held : Option ConnectionState) (events : List Event) (P : Type 0) (Q : GatewayFault → Type 0) → ((e : GatewayFault) → Q e → ⊥) → MatchOption (bytes_refusal held) P Q → CameAt s w id held events
     → is_going id events ≡ true
 going s w id None events P Q never answer at = absurd (never NotOpen answer)
 going s w id (Some held) events P Q never answer at =
@@ -86,7 +86,7 @@ open_held None P Q never answer = absurd (never NotOpen answer)
 open_held (Some h) P Q never answer = (h, refl)
 
 pub end_called : (old new : State) (id : ℕ) (P : Type 0) (Q : GatewayFault → Type 0) → ((e : GatewayFault) → Q e → ⊥) → MatchOption (bytes_refusal (connection_at old id)) P Q
-    → ((h : ConnectionState) → connection_at old id ≡ Some h → new ≡ with_held old id (ended h)) → GoesOn old new (End id) → IsCalled old new (call.End id) Done
+    → ((h : ConnectionState) → connection_at old id ≡ Some h → new ≡ with_held old id (ended_state h)) → GoesOn old new (End id) → IsCalled old new (call.End id) Done
 end_called old new id P Q never answer left on =
     let h = open_held (connection_at old id) P Q never answer in
     record {
@@ -105,12 +105,12 @@ bytes_called old new id piece P Q never answer received before after on =
       settings = (received h.0 h.1).settings;
       told = λ grid opening events set sharing came. ap (λ b. cond b Done (Refused NotOpen)) (sym (going old.settings opening.world id (connection_at old id) events P Q never answer (came.each id)));
       came = λ grid opening events set came calm.
-          on opening events came (subst (λ (s : Settings). IsRoomy s opening (events ++ Bytes id piece ∷ [])) (sym set) calm) (λ s. after s ∙ sym (before s));
+          on opening events came (subst (λ (s : GatewaySettings). IsRoomy s opening (events ++ Bytes id piece ∷ [])) (sym set) calm) (λ s. after s ∙ sym (before s));
     }
 
 -- ---- `take`
 
-known : (s : Settings) (w : World) (id : ℕ) (held : Option ConnectionState) (events : List Event) (P : Type 0) (Q : GatewayFault → Type 0) → ((e : GatewayFault) → Q e → ⊥) → MatchOption (take_refusal held) P Q → CameAt s w id held events
+known : (s : GatewaySettings) (w : World) (id : ℕ) (held : Option ConnectionState) (events : List Event) (P : Type 0) (Q : GatewayFault → Type 0) → ((e : GatewayFault) → Q e → ⊥) → MatchOption (take_refusal held) P Q → CameAt s w id held events
     → is_known id events ≡ true
 known s w id None events P Q never answer at = absurd (never NotOpen answer)
 known s w id (Some held) events P Q never answer at = at.known
@@ -124,31 +124,31 @@ waits : (g : State) (grid : Grid) (opening : Opening) (events : List Event) (id 
     → g.settings ≡ settings_by grid → CameAt g.settings opening.world id held events → unsaid grid opening id events ≡ waiting g id
 waits g grid opening events id None P Q never answer is set at = absurd (never NotOpen answer)
 waits g grid opening events id (Some h) P Q never answer is set at =
-    ap (λ (s : Settings). drop (length (handed id events)) (said_by by_fit s id opening.world (items events))) (sym set)
+    ap (λ (s : GatewaySettings). drop (length (handed id events)) (said_by by_fit s id opening.world (items events))) (sym set)
     ∙ ap (drop (length (handed id events))) (sym at.out) ∙ drop-append_seam (handed id events) h.waiting
     ∙ ap waiting_in (sym is)
 
 -- what the written answers say of the kept items is what verification finds
 abbrev pub KeptIsVerified : Type 0
-KeptIsVerified = (settings : Settings) (callers : ℕ → Bool) (caller : ℕ) (past : List Entry) (w : World) (entries : List Entry) → callers caller ≡ true → IsProper settings entries → IsLeftBy settings past w → Apart settings callers past w entries
+KeptIsVerified = (settings : GatewaySettings) (callers : ℕ → Bool) (caller : ℕ) (past : List Entry) (w : World) (entries : List Entry) → callers caller ≡ true → IsProper settings entries → IsLeftBy settings past w → Apart settings callers past w entries
     → said settings caller w (kept settings callers w entries) ≡ said_by by_fit settings caller w entries
 
 -- nothing stands at first where no item was before
-pub nothing_past : (settings : Settings) → IsSharing settings.k settings.n → IsLeftBy settings [] empty
+pub nothing_past : (settings : GatewaySettings) → IsSharing settings.k settings.n → IsLeftBy settings [] empty
 nothing_past settings sharing = record { world = refl; proper = record { sharing = sharing; bytes = All-nil _ } }
 
 kept_unsaid : KeptIsVerified → (g : State) (grid : Grid) (opening : Opening) (events : List Event) (id : ℕ) → g.settings ≡ settings_by grid → IsSharing grid.k grid.n → Came opening g events → IsApart grid opening id events
     → unsaid grid opening id events ≡ unsaid_of_kept grid opening id events
 kept_unsaid law g grid opening events id set sharing came apart =
-    let ours : IsProper g.settings (items events) = record { sharing = subst (λ (s : Settings). IsSharing s.k s.n) (sym set) sharing; bytes = came.bytes } in
+    let ours : IsProper g.settings (items events) = record { sharing = subst (λ (s : GatewaySettings). IsSharing s.k s.n) (sym set) sharing; bytes = came.bytes } in
     let proper : IsProper (settings_by grid) (items events) = subst (λ s. IsProper s (items events)) set ours in
-    ap (drop (length (handed id events))) (sym (law (settings_by grid) (only id) id apart.past opening.world (items events) (eq-eqb id id refl) proper apart.left apart.apart))
+    ap (drop (length (handed id events))) (sym (law (settings_by grid) (only_caller id) id apart.past opening.world (items events) (eq-eqb id id refl) proper apart.left apart.apart))
 
 taken_reply : (g : State) (grid : Grid) (opening : Opening) (events : List Event) (id most : ℕ) (reply : Reply) → KeptIsVerified → g.settings ≡ settings_by grid → IsSharing grid.k grid.n → Came opening g events
-    → reply ≡ first_of id events most (unsaid grid opening id events) → IsTaken grid opening events id most reply
+    → reply ≡ first_bytes_reply id events most (unsaid grid opening id events) → IsTakeReply grid opening events id most reply
 taken_reply g grid opening events id most reply law set sharing came is = record {
   verified = is;
-  isolated = λ apart. is ∙ ap (first_of id events most) (kept_unsaid law g grid opening events id set sharing came apart);
+  isolated = λ apart. is ∙ ap (first_bytes_reply id events most) (kept_unsaid law g grid opening events id set sharing came apart);
 }
 
 pub take_called : KeptIsVerified → (old new : State) (id most : ℕ) (given : List ℕ) (P : Type 0) (Q : GatewayFault → Type 0) → ((e : GatewayFault) → Q e → ⊥) → MatchOption (take_refusal (connection_at old id)) P Q → given ≡ take most (waiting old id)
@@ -177,10 +177,10 @@ not_there : (length_ servers server : ℕ) → length_ ≡ servers → length_ �
 not_there l servers server is h = grind (arith, nat_tests)
 
 looked : (g : State) (grid : Grid) (opening : Opening) (events : List Event) → g.settings ≡ settings_by grid → Came opening g events → stood g.grid ≡ shown (world_by grid opening events).marks
-looked g grid opening events set came = came.stores.stand ∙ ap (λ (s : Settings). shown (world_after s opening.world (items events)).marks) set
+looked g grid opening events set came = came.stores.stand ∙ ap (λ (s : GatewaySettings). shown (world_after s opening.world (items events)).marks) set
 
 servers_are : (g : State) (grid : Grid) (opening : Opening) (events : List Event) → g.settings ≡ settings_by grid → Came opening g events → length g.grid.stores ≡ grid.servers
-servers_are g grid opening events set came = came.servers ∙ ap (λ (s : Settings). s.servers) set
+servers_are g grid opening events set came = came.servers ∙ ap (λ (s : GatewaySettings). s.servers) set
 
 no_down : (old new : GridState) (s : ℕ) → ((s : ℕ) → failures_at old s ≡ 0) → ((s : ℕ) → failures_at new s ≡ 0) → failures_at old s < failures_at new s → ⊥
 no_down old new s before after less = omega (arith, before s, after s, less)
@@ -227,7 +227,7 @@ module _ (old new : State) (share : Share) (fault : GridFault) (reply : Reply) (
   refusal : (fault ≡ grid_fault.NoServer) × (length old.grid.stores ≤ share.server)
   refusal = no_such old.grid new.grid share.server fault before after change known_ down no_server
 
-  refused_reply : (grid : Grid) (opening : Opening) (events : List Event) (answer : Bool) → old.settings ≡ settings_by grid → Came opening old events → reply ≡ at_server grid share.server answer
+  refused_reply : (grid : Grid) (opening : Opening) (events : List Event) (answer : Bool) → old.settings ≡ settings_by grid → Came opening old events → reply ≡ if_server grid share.server answer
   refused_reply grid opening events answer set came =
       is ∙ ap GridRefused refusal.0
       ∙ ap (λ b. cond b (Answered answer) (GridRefused grid_fault.NoServer)) (sym (not_there (length old.grid.stores) grid.servers share.server (servers_are old grid opening events set came) refusal.1))

@@ -10,7 +10,7 @@ use Rattle.std.proofs.lemmas.List.Splits.{slice_split_at, slice_split_none, join
 use Rattle.octets.specs.Cut.{IsCutAt}
 use Rattle.octets.specs.Decimal.{number_to}
 use Rattle.gate_tasks.specs.Text.{unescaped}
-use Rattle.gate_tasks.specs.Command.{words, verb_of, asked_with, command_of_words, command_of, grid_of, restore_of, open_of, secret_of, bytes_of, text_of, end_of, take_of, lose_of, spoil_of, image_of, share_of, index_of, middle_number, long_number}
+use Rattle.gate_tasks.specs.Command.{words, verb_of, asked_with, command_of_words, command_of, grid_of, restore_of, open_of, secret_word, bytes_command, text_words, end_of, take_of, lose_of, spoil_of, image_of, share_words, index_word, middle_number, long_number}
 use Rattle.gate_tasks.specs.declared.command.Command.{Command}
 use Rattle.gate_tasks.specs.declared.command.Command.TheVariants as command
 use Rattle.gate_tasks.specs.declared.command.Call.TheVariants.{Open, Bytes, End, Take, Lose, Spoil}
@@ -69,7 +69,7 @@ open_three line id rest secret more cut1 cut2 =
 open_by : Option ℕ → Option (List ℕ) → Option Command
 open_by id secret = option_and_then (λ id. option_map (λ secret. command.Call (Open id (Some secret))) secret) id
 
-pub open_line : (line word rest : List ℕ) (id : Option ℕ) (secret : Option (List ℕ)) → IsCutAt 32 line word rest → All (λ b. b ≢ 32) rest → id ≡ long_number word → secret ≡ secret_of rest
+pub open_line : (line word rest : List ℕ) (id : Option ℕ) (secret : Option (List ℕ)) → IsCutAt 32 line word rest → All (λ b. b ≢ 32) rest → id ≡ long_number word → secret ≡ secret_word rest
     → option_and_then (λ id. option_map (λ secret. command.Call (Open id (Some secret))) secret) id ≡ open_of (words line)
 unfolding open_by
 open_line line word rest id secret cut none first second =
@@ -116,27 +116,27 @@ take_one line none = ap take_of (sym (words_one line none))
 -- ---- the arguments of `bytes`
 
 bytes_is : (word line : List ℕ) (ws : List (List ℕ)) → join_with_byte 32 ws ≡ line → 0 < length ws
-    → option_and_then (λ id. option_map (λ piece. command.Call (Bytes id piece)) (unescaped line)) (long_number word) ≡ bytes_of (word ∷ ws)
+    → option_and_then (λ id. option_map (λ piece. command.Call (Bytes id piece)) (unescaped line)) (long_number word) ≡ bytes_command (word ∷ ws)
 bytes_is word line [] is some = absurd (omega arith)
 bytes_is word line (w ∷ more) is some = ap (λ l. option_and_then (λ id. option_map (λ piece. command.Call (Bytes id piece)) (unescaped l)) (long_number word)) (sym is)
 
 pub bytes_line : (line word rest : List ℕ) (id : Option ℕ) (piece : Option (List ℕ)) → IsCutAt 32 line word rest → id ≡ long_number word → piece ≡ unescaped rest
-    → option_and_then (λ id. option_map (λ piece. command.Call (Bytes id piece)) piece) id ≡ bytes_of (words line)
+    → option_and_then (λ id. option_map (λ piece. command.Call (Bytes id piece)) piece) id ≡ bytes_command (words line)
 bytes_line line word rest id piece cut first second =
     ap (λ i. option_and_then (λ id. option_map (λ piece. command.Call (Bytes id piece)) piece) i) first
     ∙ ap (λ p. option_and_then (λ id. option_map (λ piece. command.Call (Bytes id piece)) p) (long_number word)) second
-    ∙ bytes_is word rest (words rest) (joined_words rest) (some_word rest) ∙ ap bytes_of (sym (words_cut line word rest cut))
+    ∙ bytes_is word rest (words rest) (joined_words rest) (some_word rest) ∙ ap bytes_command (sym (words_cut line word rest cut))
 
 bytes_never : (id : Option ℕ) → None ≡ option_and_then (λ id. option_map (λ piece. command.Call (Bytes id piece)) None) id
 bytes_never None = refl
 bytes_never (Some id) = refl
 
-pub bytes_one : (line : List ℕ) → All (λ b. b ≢ 32) line → None ≡ bytes_of (words line)
-bytes_one line none = bytes_never (long_number line) ∙ ap bytes_of (sym (words_one line none))
+pub bytes_one : (line : List ℕ) → All (λ b. b ≢ 32) line → None ≡ bytes_command (words line)
+bytes_one line none = bytes_never (long_number line) ∙ ap bytes_command (sym (words_one line none))
 
 -- ---- the argument of `restore`
 
-text_is : (line : List ℕ) (ws : List (List ℕ)) → join_with_byte 32 ws ≡ line → 0 < length ws → unescaped line ≡ text_of ws
+text_is : (line : List ℕ) (ws : List (List ℕ)) → join_with_byte 32 ws ≡ line → 0 < length ws → unescaped line ≡ text_words ws
 text_is line [] is some = absurd (omega arith)
 text_is line (w ∷ more) is some = ap unescaped (sym is)
 
@@ -155,16 +155,16 @@ share_never (Some server) None = refl
 share_never (Some server) (Some index) = refl
 
 -- no share is named by a number that holds a space
-share_spaced : (server index number rest : List ℕ) → None ≡ share_of server index (number ++ 32 ∷ rest)
+share_spaced : (server index number rest : List ℕ) → None ≡ share_words server index (number ++ 32 ∷ rest)
 unfolding share_by
 share_spaced server index number rest =
-    share_never (middle_number server) (index_of index) ∙ ap (share_by (middle_number server) (index_of index)) (number_spaced (2 ^ 16 - 1) number rest)
+    share_never (middle_number server) (index_word index) ∙ ap (share_by (middle_number server) (index_word index)) (number_spaced (2 ^ 16 - 1) number rest)
 
-lose_is : (server index line : List ℕ) (ws : List (List ℕ)) → join_with_byte 32 ws ≡ line → 0 < length ws → option_map (λ share. command.Call (Lose share)) (share_of server index line) ≡ lose_of (server ∷ index ∷ ws)
+lose_is : (server index line : List ℕ) (ws : List (List ℕ)) → join_with_byte 32 ws ≡ line → 0 < length ws → option_map (λ share. command.Call (Lose share)) (share_words server index line) ≡ lose_of (server ∷ index ∷ ws)
 lose_is server index line [] is some = absurd (omega arith)
-lose_is server index line (w ∷ []) is some = ap (λ l. option_map (λ share. command.Call (Lose share)) (share_of server index l)) (sym is)
+lose_is server index line (w ∷ []) is some = ap (λ l. option_map (λ share. command.Call (Lose share)) (share_words server index l)) (sym is)
 lose_is server index line (w ∷ v ∷ more) is some =
-    ap (option_map (λ share. command.Call (Lose share))) (ap (share_of server index) (sym is) ∙ sym (share_spaced server index w (join_with_byte 32 (v ∷ more))))
+    ap (option_map (λ share. command.Call (Lose share))) (ap (share_words server index) (sym is) ∙ sym (share_spaced server index w (join_with_byte 32 (v ∷ more))))
 
 pub lose_one : (line : List ℕ) → All (λ b. b ≢ 32) line → None ≡ lose_of (words line)
 lose_one line none = ap lose_of (sym (words_one line none))
@@ -172,7 +172,7 @@ lose_one line none = ap lose_of (sym (words_one line none))
 pub lose_two : (line server rest : List ℕ) → IsCutAt 32 line server rest → All (λ b. b ≢ 32) rest → None ≡ lose_of (words line)
 lose_two line server rest cut none = ap lose_of (sym (words_cut line server rest cut ∙ ap (λ ws. server ∷ ws) (words_one rest none)))
 
-pub lose_line : (line server rest index number : List ℕ) (share : Option Share) → IsCutAt 32 line server rest → IsCutAt 32 rest index number → share ≡ share_of server index number
+pub lose_line : (line server rest index number : List ℕ) (share : Option Share) → IsCutAt 32 line server rest → IsCutAt 32 rest index number → share ≡ share_words server index number
     → option_map (λ share. command.Call (Lose share)) share ≡ lose_of (words line)
 lose_line line server rest index number share cut1 cut2 is =
     ap (option_map (λ share. command.Call (Lose share))) is ∙ lose_is server index number (words number) (joined_words number) (some_word number)
@@ -186,12 +186,12 @@ spoil_never None = refl
 spoil_never (Some share) = refl
 
 spoil_is : (server index number line : List ℕ) (ws : List (List ℕ)) → join_with_byte 32 ws ≡ line → 0 < length ws
-    → spoil_by (share_of server index number) (long_number line) ≡ spoil_of (server ∷ index ∷ number ∷ ws)
+    → spoil_by (share_words server index number) (long_number line) ≡ spoil_of (server ∷ index ∷ number ∷ ws)
 unfolding spoil_by
 spoil_is server index number line [] is some = absurd (omega arith)
-spoil_is server index number line (w ∷ []) is some = ap (λ l. spoil_by (share_of server index number) (long_number l)) (sym is)
+spoil_is server index number line (w ∷ []) is some = ap (λ l. spoil_by (share_words server index number) (long_number l)) (sym is)
 spoil_is server index number line (w ∷ v ∷ more) is some =
-    ap (spoil_by (share_of server index number)) (ap long_number (sym is) ∙ sym (number_spaced (2 ^ 64 - 1) w (join_with_byte 32 (v ∷ more)))) ∙ spoil_never (share_of server index number)
+    ap (spoil_by (share_words server index number)) (ap long_number (sym is) ∙ sym (number_spaced (2 ^ 64 - 1) w (join_with_byte 32 (v ∷ more)))) ∙ spoil_never (share_words server index number)
 
 pub spoil_one : (line : List ℕ) → All (λ b. b ≢ 32) line → None ≡ spoil_of (words line)
 spoil_one line none = ap spoil_of (sym (words_one line none))
@@ -204,11 +204,11 @@ spoil_three line server l1 index l2 cut1 cut2 none =
     ap spoil_of (sym (words_cut line server l1 cut1 ∙ ap (λ ws. server ∷ ws) (words_cut l1 index l2 cut2 ∙ ap (λ ws. index ∷ ws) (words_one l2 none))))
 
 pub spoil_line : (line server l1 index l2 number place : List ℕ) (share : Option Share) (at : Option ℕ) → IsCutAt 32 line server l1 → IsCutAt 32 l1 index l2 → IsCutAt 32 l2 number place
-    → share ≡ share_of server index number → at ≡ long_number place
+    → share ≡ share_words server index number → at ≡ long_number place
     → option_and_then (λ share. option_map (λ place. command.Call (Spoil share place)) at) share ≡ spoil_of (words line)
 unfolding spoil_by
 spoil_line line server l1 index l2 number place share at cut1 cut2 cut3 first second =
-    ap (λ s. spoil_by s at) first ∙ ap (spoil_by (share_of server index number)) second ∙ spoil_is server index number place (words place) (joined_words place) (some_word place)
+    ap (λ s. spoil_by s at) first ∙ ap (spoil_by (share_words server index number)) second ∙ spoil_is server index number place (words place) (joined_words place) (some_word place)
     ∙ ap spoil_of (sym (words_cut line server l1 cut1 ∙ ap (λ ws. server ∷ ws) (words_cut l1 index l2 cut2 ∙ ap (λ ws. index ∷ ws) (words_cut l2 number place cut3))))
 
 -- ---- the arguments of `grid`

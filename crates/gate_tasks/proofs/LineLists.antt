@@ -6,8 +6,8 @@ use Rattle.std.specs.Io.{IsEmptyOrEndsWith}
 use Rattle.std.proofs.lemmas.Bool.Decides.{nat_tests}
 use Rattle.std.proofs.lemmas.List.{append-nil}
 use Rattle.std.proofs.lemmas.List.Elements.{All-head, All-tail}
-use Rattle.gate_tasks.specs.Lines.{LacksLf, Line, onto_line, lines_of, piece_of, fits, is_within}
-use Rattle.gate_tasks.specs.Reading.{Begins}
+use Rattle.gate_tasks.specs.Lines.{LacksLf, Line, onto_line, lines_of, line_bytes, fits, is_within}
+use Rattle.gate_tasks.specs.Reading.{BeginsWithLine}
 
 -- bytes in front of the first line
 onto_lines : List ℕ → List Line → List Line
@@ -33,7 +33,7 @@ lines_front (byte ∷ front) rest lacks =
     ∙ ap (onto_line byte) (lines_front front rest (All-tail (λ b. b ≢ 10) byte front lacks))
 
 -- the first line, where an LF ends it
-pub lines_ended : (line rest : List ℕ) → LacksLf line → lines_of (piece_of (record { bytes = line; ended = true }) ++ rest) ≡ record { bytes = line; ended = true } ∷ lines_of rest
+pub lines_ended : (line rest : List ℕ) → LacksLf line → lines_of (line_bytes (record { bytes = line; ended = true }) ++ rest) ≡ record { bytes = line; ended = true } ∷ lines_of rest
 lines_ended line rest lacks =
     ap lines_of (append_assoc line (10 ∷ []) rest) ∙ lines_front line (10 ∷ rest) lacks ∙ onto_first_line line (record { bytes = []; ended = true }) (lines_of rest)
     ∙ ap (λ l. record { bytes = l; ended = true } ∷ lines_of rest) (append-nil line)
@@ -72,7 +72,7 @@ long_with read front rest (line ∷ lines) within lacks is over = record {
   over = ap (λ n. fits read n line.ended) (length-append front line.bytes) ∙ longer read (length front) (length line.bytes) line.ended over;
 }
 
-pub long_first : (read : ℕ) (bytes line : List ℕ) (ended : Bool) → read ≤ 268435456 → Begins bytes (record { bytes = line; ended = ended }) → fits read (length line) ended ≡ false → FirstIsLong read bytes
+pub long_first : (read : ℕ) (bytes line : List ℕ) (ended : Bool) → read ≤ 268435456 → BeginsWithLine bytes (record { bytes = line; ended = ended }) → fits read (length line) ended ≡ false → FirstIsLong read bytes
 long_first read bytes line true within begins over = record {
   line = record { bytes = line; ended = true };
   more = lines_of begins.rest;
@@ -87,7 +87,7 @@ last_of : (xs : List ℕ) (byte : ℕ) → get_or (xs ++ byte ∷ []) (length xs
 last_of [] byte = refl
 last_of (x ∷ xs) byte = last_of xs byte
 
-pub ends_whole : (before line : List ℕ) → IsEmptyOrEndsWith (before ++ piece_of (record { bytes = line; ended = true })) 10
+pub ends_whole : (before line : List ℕ) → IsEmptyOrEndsWith (before ++ line_bytes (record { bytes = line; ended = true })) 10
 ends_whole before line some =
     let all = before ++ (line ++ 10 ∷ []) in
     let split : all ≡ (before ++ line) ++ 10 ∷ [] = sym (append_assoc before line (10 ∷ [])) in
@@ -95,15 +95,15 @@ ends_whole before line some =
     ap (λ n. get_or all n 0) size ∙ ap (λ l. get_or l (length (before ++ line)) 0) split ∙ last_of (before ++ line) 10
 
 -- the lines joined
-onto_joined : (byte : ℕ) (lines : List Line) → flat_map piece_of (onto_line byte lines) ≡ byte ∷ flat_map piece_of lines
+onto_joined : (byte : ℕ) (lines : List Line) → flat_map line_bytes (onto_line byte lines) ≡ byte ∷ flat_map line_bytes lines
 onto_joined byte [] = refl
 onto_joined byte (line ∷ more) = refl
 
-one_more : (t : Bool) (byte : ℕ) (script : List ℕ) → (byte == 10) ≡ t → flat_map piece_of (lines_of script) ≡ script
-    → flat_map piece_of (cond t (record { bytes = []; ended = true } ∷ lines_of script) (onto_line byte (lines_of script))) ≡ byte ∷ script
-one_more true byte script is same = ap (λ b. b ∷ flat_map piece_of (lines_of script)) (sym (eqb-true byte 10 is)) ∙ ap (λ l. byte ∷ l) same
+one_more : (t : Bool) (byte : ℕ) (script : List ℕ) → (byte == 10) ≡ t → flat_map line_bytes (lines_of script) ≡ script
+    → flat_map line_bytes (cond t (record { bytes = []; ended = true } ∷ lines_of script) (onto_line byte (lines_of script))) ≡ byte ∷ script
+one_more true byte script is same = ap (λ b. b ∷ flat_map line_bytes (lines_of script)) (sym (eqb-true byte 10 is)) ∙ ap (λ l. byte ∷ l) same
 one_more false byte script is same = onto_joined byte (lines_of script) ∙ ap (λ l. byte ∷ l) same
 
-pub lines_join : (script : List ℕ) → flat_map piece_of (lines_of script) ≡ script
+pub lines_join : (script : List ℕ) → flat_map line_bytes (lines_of script) ≡ script
 lines_join [] = refl
 lines_join (byte ∷ script) = one_more (byte == 10) byte script refl (lines_join script)

@@ -2,7 +2,7 @@
 use Rattle.std.proofs.Common.{◌≡◌, ℕ, ◌≤◌, List, [], ◌∷◌, ◌++◌, length, true, false, Option, Some, None, refl, sym, ap, subst, ◌∙◌, append_assoc, length-append, arith}
 use Rattle.std.proofs.lemmas.List.{append-nil}
 use Rattle.chk_file.specs.World.{World}
-use Rattle.gate_core.specs.Settings.{Settings}
+use Rattle.gate_core.specs.Settings.{GatewaySettings}
 use Rattle.gate_core.specs.Events.{Event}
 use Rattle.gate_core.specs.Items.{Entry, items, items_after, completed}
 use Rattle.gate_core.specs.Runs.{after_entry}
@@ -34,7 +34,7 @@ replies_more grid opening events (first ∷ calls) step told reply =
 
 -- ---- room for a beginning
 
-room_first : (settings : Settings) (w : World) (rooms : Rooms) (xs ys : List Entry) → HasRoomForAll settings w rooms (xs ++ ys) → HasRoomForAll settings w rooms xs
+room_first : (settings : GatewaySettings) (w : World) (rooms : Rooms) (xs ys : List Entry) → HasRoomForAll settings w rooms (xs ++ ys) → HasRoomForAll settings w rooms xs
 room_first settings w rooms [] ys room = tt
 room_first settings w rooms (x ∷ xs) ys room = (room.0, room_first settings (after_entry settings x w) (room_after settings x w rooms) xs ys room.1)
 
@@ -113,20 +113,20 @@ module _ (old new : State) (asked : Call) (reply : Reply) (called : IsCalled old
     replies = λ opening opened.
         let same = opening_same grid log asked reply opening opened in
         subst (AreReplies grid opening []) (sym (calls_more log asked reply))
-        (replies_more grid opening [] (calls_in log) answered (told.replies opening same) (λ calm. called.told grid opening (events_of grid (calls_in log)) came.settings came.sharing (came.calm opening same calm)));
+        (replies_more grid opening [] (calls_in log) answered (told.replies opening same) (λ calm. called.told grid opening (events_of grid (calls_in log)) came.settings came.sharing (came.as_written opening same calm)));
   }
 
   came_after : (grid : Grid) (log : List Step) → CameAfter grid log old → CameAfter grid (log ++ step ∷ []) new
   came_after grid log came = record {
     settings = called.settings ∙ came.settings;
     sharing = came.sharing;
-    calm = λ opening opened calm.
+    as_written = λ opening opened calm.
         let same = opening_same grid log asked reply opening opened in
         let before = events_of grid (calls_in log) in
         let more : events_of grid (calls_in (log ++ step ∷ [])) ≡ before ++ event_by grid asked reply = ap (events_of grid) (calls_more log asked reply) ∙ events_more grid (calls_in log) answered in
         let all = subst (IsCalm grid opening) more calm in
         let first = calm_first grid opening before (event_by grid asked reply) all in
-        subst (Came opening new) (sym more) (called.came grid opening before came.settings (came.calm opening same first) all);
+        subst (Came opening new) (sym more) (called.came grid opening before came.settings (came.as_written opening same first) all);
   }
 
   told_from : (first : Command) (answer : Reply) (log : List Step) → IsToldFrom first answer log → CameFrom first log old → IsToldFrom first answer (log ++ step ∷ [])

@@ -8,45 +8,45 @@ use Rattle.gate_flow.specs.declared.fault.FlowFault.{FlowFault}
 use Rattle.gate_flow.specs.declared.fault.FlowFault.TheVariants.{Refused, ReadFailed, WriteFailed, NoMemory}
 use Rattle.gate_flow.specs.declared.want.Want.{Want}
 use Rattle.gate_flow.specs.declared.want.Want.TheVariants as want
-use Rattle.gate_flow.specs.State.{FlowState, IsSound, Stands, opened_flow}
-use Rattle.gate_flow.specs.Run.{HasRunCalmly}
+use Rattle.gate_flow.specs.State.{FlowState, IsSoundFlow, Stands, opened_flow}
+use Rattle.gate_flow.specs.Run.{HasRunAsWritten}
 use Rattle.gate_flow.specs.Faults.{IsReadFault, IsWriteFault, IsCallFault}
 use Rattle.gate_flow.specs.Led.{TakesBytes}
 use Rattle.gate_core.specs.ConnectionState.{bytes_refusal}
-use Rattle.gate_flow.specs.Steps.{Rests, RestsAt, IsRead}
-use Rattle.gate_flow.specs.Served.{StopsAt, IsStopped}
+use Rattle.gate_flow.specs.Steps.{Rests, RestsAt, AreBytesRead}
+use Rattle.gate_flow.specs.Served.{FlowStopsAt, IsFlowStopped}
 use Rattle.gate_tasks.specs.Turns.{IsReadWithin, most_at_a_time}
 
-reading_stops : (fault : FlowFault) (g : State) (f : FlowState) → f.want ≡ want.Read → Rests f g → IsReadFault fault → StopsAt fault f g
+reading_stops : (fault : FlowFault) (g : State) (f : FlowState) → f.want ≡ want.Read → Rests f g → IsReadFault fault → FlowStopsAt fault f g
 reading_stops Refused g f wants rests why = absurd why
 reading_stops ReadFailed g f wants rests why = (wants, rests)
 reading_stops WriteFailed g f wants rests why = absurd why
 reading_stops NoMemory g f wants rests why = tt
 
-pub read_stops : (fault : FlowFault) (g : State) (f f2 : FlowState) → f2 ≡ f → f.want ≡ want.Read → Rests f g → IsReadFault fault → StopsAt fault f2 g
-read_stops fault g f f2 same wants rests why = subst (λ x. StopsAt fault x g) (sym same) (reading_stops fault g f wants rests why)
+pub read_stops : (fault : FlowFault) (g : State) (f f2 : FlowState) → f2 ≡ f → f.want ≡ want.Read → Rests f g → IsReadFault fault → FlowStopsAt fault f2 g
+read_stops fault g f f2 same wants rests why = subst (λ x. FlowStopsAt fault x g) (sym same) (reading_stops fault g f wants rests why)
 
-writing_stops : (fault : FlowFault) (g : State) (f : FlowState) → f.portion ≢ [] → IsWriteFault fault → StopsAt fault f g
+writing_stops : (fault : FlowFault) (g : State) (f : FlowState) → f.portion ≢ [] → IsWriteFault fault → FlowStopsAt fault f g
 writing_stops Refused g f some why = absurd why
 writing_stops ReadFailed g f some why = absurd why
 writing_stops WriteFailed g f some why = some
 writing_stops NoMemory g f some why = absurd why
 
-pub write_stops : (fault : FlowFault) (g : State) (f f2 : FlowState) → f2 ≡ f → f.portion ≢ [] → IsWriteFault fault → StopsAt fault f2 g
-write_stops fault g f f2 same some why = subst (λ x. StopsAt fault x g) (sym same) (writing_stops fault g f some why)
+pub write_stops : (fault : FlowFault) (g : State) (f f2 : FlowState) → f2 ≡ f → f.portion ≢ [] → IsWriteFault fault → FlowStopsAt fault f2 g
+write_stops fault g f f2 same some why = subst (λ x. FlowStopsAt fault x g) (sym same) (writing_stops fault g f some why)
 
 -- a call of the gateway that fails where bytes are taken of the connection fails for memory
-pub call_stops : (fault : FlowFault) (g h : State) (f : FlowState) (id own : ℕ) → IsCallFault (connection_at g own) fault → own ≡ id → TakesBytes (connection_at g id) → StopsAt fault f h
+pub call_stops : (fault : FlowFault) (g h : State) (f : FlowState) (id own : ℕ) → IsCallFault (connection_at g own) fault → own ≡ id → TakesBytes (connection_at g id) → FlowStopsAt fault f h
 call_stops Refused g h f id own why same takes = absurd (why (subst (λ i. bytes_refusal (connection_at g i) ≡ None) (sym same) takes))
 call_stops ReadFailed g h f id own why same takes = absurd why
 call_stops WriteFailed g h f id own why same takes = absurd why
 call_stops NoMemory g h f id own why same takes = tt
 
 -- bytes are at hand where a flow wants to write
-some_at_hand : (f : FlowState) → IsSound f → f.want ≡ want.Write → f.portion ≢ []
+some_at_hand : (f : FlowState) → IsSoundFlow f → f.want ≡ want.Write → f.portion ≢ []
 some_at_hand f sound wants = subst (λ w. Stands w f) wants sound.stands
 
-pub at_hand : (b : Bool) (w : Want) (f : FlowState) → w ≡ f.want → IsSound f → MatchBool b (w ≡ want.Write) (w ≢ want.Write) → MatchBool b ((f.want ≡ want.Write) × (f.portion ≢ [])) (f.want ≢ want.Write)
+pub at_hand : (b : Bool) (w : Want) (f : FlowState) → w ≡ f.want → IsSoundFlow f → MatchBool b (w ≡ want.Write) (w ≢ want.Write) → MatchBool b ((f.want ≡ want.Write) × (f.portion ≢ [])) (f.want ≢ want.Write)
 at_hand true w f is sound so = (sym is ∙ so, some_at_hand f sound (sym is ∙ so))
 at_hand false w f is sound so = λ other. so (is ∙ other)
 
@@ -63,8 +63,8 @@ read_rests f f2 g next rests other = ⊎_elim (λ advance. absurd (other advance
 
 -- ---- outcomes
 
-pub begun_so : (id : ℕ) (secret : List ℕ) (g h : State) (f : FlowState) (r w : Option (List ℕ)) → f ≡ opened_flow id → HasRunCalmly id secret g h (opened_flow id) r r w w → HasRunCalmly id secret g h f r r w w
-begun_so id secret g h f r w is begun = subst (λ x. HasRunCalmly id secret g h x r r w w) (sym is) begun
+pub begun_so : (id : ℕ) (secret : List ℕ) (g h : State) (f : FlowState) (r w : Option (List ℕ)) → f ≡ opened_flow id → HasRunAsWritten id secret g h (opened_flow id) r r w w → HasRunAsWritten id secret g h f r r w w
+begun_so id secret g h f r w is begun = subst (λ x. HasRunAsWritten id secret g h x r r w w) (sym is) begun
 
 pub on_ok_all : {T E A B C D : Type 0} (r : Result T E) → OnOk r A → OnOk r B → OnOk r C → (A → B → C → D) → OnOk r D
 on_ok_all (Ok v) a b c all = all a b c
@@ -72,7 +72,7 @@ on_ok_all (Err e) a b c all = tt
 
 -- an id that isn't opened leaves all as it was
 pub unopened_stops : {T : Type 0} (o : Option GatewayFault) (fault : FlowFault) (r : Result T FlowFault) (id : ℕ) (secret : List ℕ) (g k : State) (read before : Option (List ℕ)) → r ≡ Err fault
-    → MatchOption o (IsOkUnless r NoMemory) (λ e. r ≡ Err Refused) → k ≡ g → IsStopped fault id secret g k read read before before
+    → MatchOption o (IsOkUnless r NoMemory) (λ e. r ≡ Err Refused) → k ≡ g → IsFlowStopped fault id secret g k read read before before
 unopened_stops o Refused r id secret g k read before is answer same = (same, refl, refl)
 unopened_stops None ReadFailed r id secret g k read before is answer same = absurd (clash (subst (λ x. IsOkUnless x NoMemory) is answer))
   where
@@ -102,9 +102,9 @@ read_on m n most a b c fits one two = record {
 }
 
 -- a flow's buffers are bounded
-pub once_within : (f f2 : FlowState) (a b : Option (List ℕ)) → IsRead f f2 a b → IsSound f2 → IsReadWithin most_at_a_time a b
+pub once_within : (f f2 : FlowState) (a b : Option (List ℕ)) → AreBytesRead f f2 a b → IsSoundFlow f2 → IsReadWithin most_at_a_time a b
 once_within f f2 a b read sound = record { bytes = read.more; taken = read.taken; within = omega (arith, length-append f.piece read.more, ap length read.piece, sound.piece) }
 
 -- and where it stays as it was, nothing was read
-pub still_within : (f f2 : FlowState) (a b : Option (List ℕ)) (most : ℕ) → IsRead f f2 a b → f2 ≡ f → IsReadWithin most a b
+pub still_within : (f f2 : FlowState) (a b : Option (List ℕ)) (most : ℕ) → AreBytesRead f f2 a b → f2 ≡ f → IsReadWithin most a b
 still_within f f2 a b most read same = record { bytes = read.more; taken = read.taken; within = omega (arith, length-append f.piece read.more, ap length read.piece, ap (λ x. length x.piece) same) }

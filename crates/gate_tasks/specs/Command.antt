@@ -37,50 +37,50 @@ spelled (Ok bytes) = Some bytes
 spelled (Err fault) = None
 
 -- SECRET: `-` for the empty one, else base32, which is not empty
-abbrev pub secret_of : List ℕ → Option (List ℕ)
-secret_of word = if bytes_eq word (codes "-") then Some [] else (if length word == 0 then None else spelled (reading word))
+abbrev pub secret_word : List ℕ → Option (List ℕ)
+secret_word word = if bytes_eq word (codes "-") then Some [] else (if length word == 0 then None else spelled (reading word))
 
 -- SI: the 16 bytes of a storage index
 abbrev pub exact : ℕ → Option (List ℕ) → Option (List ℕ)
 exact count bytes = option_and_then (λ bytes. if length bytes == count then Some bytes else None) bytes
 
-abbrev pub index_of : List ℕ → Option (List ℕ)
-index_of word = exact 16 (spelled (reading word))
+abbrev pub index_word : List ℕ → Option (List ℕ)
+index_word word = exact 16 (spelled (reading word))
 
 -- SERVER, SI and NUMBER
-abbrev pub share_of : List ℕ → List ℕ → List ℕ → Option Share
-share_of server index number =
+abbrev pub share_words : List ℕ → List ℕ → List ℕ → Option Share
+share_words server index number =
     option_and_then (λ server. option_and_then (λ index. option_map (λ number.
     record { server = server; index = index; number = number })
-    (short_number number)) (index_of index)) (middle_number server)
+    (short_number number)) (index_word index)) (middle_number server)
 
 -- grid K N S ROOM SECRET
 abbrev pub grid_of : List (List ℕ) → Option Command
 grid_of (k ∷ n ∷ servers ∷ room ∷ secret ∷ []) =
     option_and_then (λ k. option_and_then (λ n. option_and_then (λ servers. option_and_then (λ room. option_map (λ secret.
     command.Grid (record { k = k; n = n; servers = servers; room = room; secret = secret }))
-    (secret_of secret)) (long_number room)) (servers_of servers)) (short_number n)) (short_number k)
+    (secret_word secret)) (long_number room)) (servers_of servers)) (short_number n)) (short_number k)
 grid_of arguments = None
 
 -- TEXT, which is all that stands after a space, spaces too
-abbrev pub text_of : List (List ℕ) → Option (List ℕ)
-text_of [] = None
-text_of (word ∷ more) = unescaped (join_with_byte 32 (word ∷ more))
+abbrev pub text_words : List (List ℕ) → Option (List ℕ)
+text_words [] = None
+text_words (word ∷ more) = unescaped (join_with_byte 32 (word ∷ more))
 
 -- restore TEXT
 abbrev pub restore_of : List (List ℕ) → Option Command
-restore_of arguments = option_map (λ image. command.Restore image) (text_of arguments)
+restore_of arguments = option_map (λ image. command.Restore image) (text_words arguments)
 
 -- open ID, or open ID SECRET
 abbrev pub open_of : List (List ℕ) → Option Command
 open_of (id ∷ []) = option_map (λ id. command.Call (Open id None)) (long_number id)
-open_of (id ∷ secret ∷ []) = option_and_then (λ id. option_map (λ secret. command.Call (Open id (Some secret))) (secret_of secret)) (long_number id)
+open_of (id ∷ secret ∷ []) = option_and_then (λ id. option_map (λ secret. command.Call (Open id (Some secret))) (secret_word secret)) (long_number id)
 open_of arguments = None
 
 -- bytes ID TEXT
-abbrev pub bytes_of : List (List ℕ) → Option Command
-bytes_of [] = None
-bytes_of (id ∷ text) = option_and_then (λ id. option_map (λ piece. command.Call (Bytes id piece)) (text_of text)) (long_number id)
+abbrev pub bytes_command : List (List ℕ) → Option Command
+bytes_command [] = None
+bytes_command (id ∷ text) = option_and_then (λ id. option_map (λ piece. command.Call (Bytes id piece)) (text_words text)) (long_number id)
 
 -- end ID
 abbrev pub end_of : List (List ℕ) → Option Command
@@ -94,13 +94,13 @@ take_of arguments = None
 
 -- lose SERVER SI NUMBER
 abbrev pub lose_of : List (List ℕ) → Option Command
-lose_of (server ∷ index ∷ number ∷ []) = option_map (λ share. command.Call (Lose share)) (share_of server index number)
+lose_of (server ∷ index ∷ number ∷ []) = option_map (λ share. command.Call (Lose share)) (share_words server index number)
 lose_of arguments = None
 
 -- spoil SERVER SI NUMBER PLACE
 abbrev pub spoil_of : List (List ℕ) → Option Command
 spoil_of (server ∷ index ∷ number ∷ place ∷ []) =
-    option_and_then (λ share. option_map (λ place. command.Call (Spoil share place)) (long_number place)) (share_of server index number)
+    option_and_then (λ share. option_map (λ place. command.Call (Spoil share place)) (long_number place)) (share_words server index number)
 spoil_of arguments = None
 
 -- image
@@ -133,7 +133,7 @@ abbrev pub asked_with : Verb → List (List ℕ) → Option Command
 asked_with verb.Grid arguments = grid_of arguments
 asked_with verb.Restore arguments = restore_of arguments
 asked_with verb.Open arguments = open_of arguments
-asked_with verb.Bytes arguments = bytes_of arguments
+asked_with verb.Bytes arguments = bytes_command arguments
 asked_with verb.End arguments = end_of arguments
 asked_with verb.Take arguments = take_of arguments
 asked_with verb.Lose arguments = lose_of arguments

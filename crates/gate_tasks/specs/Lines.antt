@@ -29,8 +29,8 @@ lines_of [] = []
 lines_of (byte ∷ script) = if byte == 10 then record { bytes = []; ended = true } ∷ lines_of script else onto_line byte (lines_of script)
 
 -- the bytes of a script that a line takes
-abbrev pub piece_of : Line → List ℕ
-piece_of line = line.bytes ++ (if line.ended then 10 ∷ [] else [])
+abbrev pub line_bytes : Line → List ℕ
+line_bytes line = line.bytes ++ (if line.ended then 10 ∷ [] else [])
 
 -- a line of so many bytes is within its limit, and the script, of which so many were read before it, within its own
 abbrev pub fits : ℕ → ℕ → Bool → Bool

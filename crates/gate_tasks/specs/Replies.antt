@@ -14,11 +14,11 @@ use Rattle.grid.specs.ImageReading.{image_said}
 use Rattle.chk_file.specs.Marks.{shown}
 use Rattle.chk_file.specs.World.{World, empty}
 use Rattle.chk_file.specs.Look.{by_fit}
-use Rattle.gate_core.specs.Settings.{Settings}
+use Rattle.gate_core.specs.Settings.{GatewaySettings}
 use Rattle.gate_core.specs.Events.{Event, Open, Bytes, End, Take, Lose, Spoil, is_known, has_ended, handed}
 use Rattle.gate_core.specs.Items.{Entry, items}
 use Rattle.gate_core.specs.Runs.{world_after, said_by, said}
-use Rattle.gate_core.specs.Reach.{only, kept}
+use Rattle.gate_core.specs.Reach.{only_caller, kept}
 use Rattle.gate_core.specs.Uploaded.{IsLeftBy}
 use Rattle.gate_core.specs.Apart.{Apart}
 use Rattle.gate_core.specs.Came.{Opening, IsRoomy}
@@ -42,7 +42,7 @@ pub record CallStep : Type 0 where
   pub reply : Reply
 
 -- what the line `grid` sets a gateway up with
-abbrev pub settings_by : Grid → Settings
+abbrev pub settings_by : Grid → GatewaySettings
 settings_by grid = record { k = grid.k; n = grid.n; secret = grid.secret; servers = grid.servers; pages = []; for_browsers = false }
 
 -- a gateway has these parameters
@@ -91,28 +91,28 @@ unsaid grid opening id events = drop (length (handed id events)) (said_by by_fit
 -- what of the written answers to the items that are kept for a caller it was not given yet
 abbrev pub unsaid_of_kept : Grid → Opening → ℕ → List Event → List ℕ
 unsaid_of_kept grid opening id events =
-    drop (length (handed id events)) (said (settings_by grid) id opening.world (kept (settings_by grid) (only id) opening.world (items events)))
+    drop (length (handed id events)) (said (settings_by grid) id opening.world (kept (settings_by grid) (only_caller id) opening.world (items events)))
 
 -- the items of a run left what stood at first, and no two strings collide that are hashed in this caller's part
 pub record IsApart (grid : Grid) (opening : Opening) (id : ℕ) (events : List Event) : Type 0 where
   pub past : List Entry
   pub left : IsLeftBy (settings_by grid) past opening.world
-  pub apart : Apart (settings_by grid) (only id) past opening.world (items events)
+  pub apart : Apart (settings_by grid) (only_caller id) past opening.world (items events)
 
 -- the first of these bytes, where the connection was opened
-abbrev pub first_of : ℕ → List Event → ℕ → List ℕ → Reply
-first_of id events most bytes = if is_known id events then Given (take most bytes) else Refused NotOpen
+abbrev pub first_bytes_reply : ℕ → List Event → ℕ → List ℕ → Reply
+first_bytes_reply id events most bytes = if is_known id events then Given (take most bytes) else Refused NotOpen
 
 -- The reply to `take` has the next bytes that its caller is to be told: what verification finds in the whole run, and where
 -- no two strings of this caller's part collide what the written answers say when the requests of others are dropped, save
 -- uploads under a storage index that it met.
-pub record IsTaken (grid : Grid) (opening : Opening) (events : List Event) (id most : ℕ) (reply : Reply) : Type 0 where
-  pub verified : reply ≡ first_of id events most (unsaid grid opening id events)
-  pub isolated : IsApart grid opening id events → reply ≡ first_of id events most (unsaid_of_kept grid opening id events)
+pub record IsTakeReply (grid : Grid) (opening : Opening) (events : List Event) (id most : ℕ) (reply : Reply) : Type 0 where
+  pub verified : reply ≡ first_bytes_reply id events most (unsaid grid opening id events)
+  pub isolated : IsApart grid opening id events → reply ≡ first_bytes_reply id events most (unsaid_of_kept grid opening id events)
 
 -- at a server that there is
-abbrev pub at_server : Grid → ℕ → Bool → Reply
-at_server grid server answer = if nat_lt server grid.servers then Answered answer else GridRefused NoServer
+abbrev pub if_server : Grid → ℕ → Bool → Reply
+if_server grid server answer = if nat_lt server grid.servers then Answered answer else GridRefused NoServer
 
 -- these bytes are the image of stores, one for each server, in which stands what stands after these calls
 pub record IsImageAfter (grid : Grid) (opening : Opening) (events : List Event) (bytes : List ℕ) : Type 0 where
@@ -145,11 +145,11 @@ abbrev pub IsScriptReply : Grid → Opening → List Event → Call → Reply �
 IsScriptReply grid opening events (call.Open id secret) reply = reply ≡ (if is_known id events then Refused Known else opened_reply secret)
 IsScriptReply grid opening events (call.Bytes id piece) reply = reply ≡ (if is_going id events then Done else Refused NotOpen)
 IsScriptReply grid opening events (call.End id) reply = reply ≡ (if is_going id events then Done else Refused NotOpen)
-IsScriptReply grid opening events (call.Take id most) reply = IsTaken grid opening events id most reply
+IsScriptReply grid opening events (call.Take id most) reply = IsTakeReply grid opening events id most reply
 IsScriptReply grid opening events (call.Lose share) reply =
-    reply ≡ at_server grid share.server (is_some (shown (world_by grid opening events).marks share.server (share.index, share.number)))
+    reply ≡ if_server grid share.server (is_some (shown (world_by grid opening events).marks share.server (share.index, share.number)))
 IsScriptReply grid opening events (call.Spoil share place) reply =
-    reply ≡ at_server grid share.server (nat_lt place (length (unwrap_or (shown (world_by grid opening events).marks share.server (share.index, share.number)) [])))
+    reply ≡ if_server grid share.server (nat_lt place (length (unwrap_or (shown (world_by grid opening events).marks share.server (share.index, share.number)) [])))
 IsScriptReply grid opening events call.Image reply = IsImageReply grid opening events reply
 
 -- the event of a call that gave these bytes: a connection without a secret of its own takes the gateway's

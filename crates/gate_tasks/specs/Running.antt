@@ -27,7 +27,7 @@ use Rattle.gate_tasks.specs.declared.fault.ScriptFault.TheVariants.{BadLine, Rea
 pub record CameAfter (grid : Grid) (log : List Step) (g : State) : Type 0 where
   pub settings : g.settings ≡ settings_by grid
   pub sharing : IsSharing grid.k grid.n
-  pub calm : (opening : Opening) → IsOpening grid log opening → IsCalm grid opening (events_of grid (calls_in log)) → Came opening g (events_of grid (calls_in log))
+  pub as_written : (opening : Opening) → IsOpening grid log opening → IsCalm grid opening (events_of grid (calls_in log)) → Came opening g (events_of grid (calls_in log))
 
 -- for private clauses
 abbrev pub CameFrom : Command → List Step → State → Type 0
@@ -68,14 +68,14 @@ Answered log asked (Some reply) grid gateway = IsAnswer log (record { command = 
 -- ---- a line
 
 -- the command of a line, which may stand after these steps, was answered; for private clauses
-pub record IsStep (log : List Step) (line : List ℕ) (step : Step) : Type 0 where
+pub record IsCommandAnswered (log : List Step) (line : List ℕ) (step : Step) : Type 0 where
   pub asked : allowed log (command_of line) ≡ Some step.command
   pub told : AreTold (log ++ step ∷ [])
 
 -- a line was answered, and the run goes on; for private clauses
 pub record RunGoesOn (log : List Step) (line : List ℕ) (grid : Option Grid) (gateway : Option State) (old new : Option (List ℕ)) : Type 0 where
   pub step : Step
-  pub is : IsStep log line step
+  pub is : IsCommandAnswered log line step
   pub goes : ends_run step ≡ false
   pub at : IsProgress (log ++ step ∷ []) grid gateway
   pub written : Appends old new (answer_text step.reply)
@@ -83,7 +83,7 @@ pub record RunGoesOn (log : List Step) (line : List ℕ) (grid : Option Grid) (g
 -- a line was answered, and the run ends; for private clauses
 pub record EndsAt (log : List Step) (line : List ℕ) (old new : Option (List ℕ)) : Type 0 where
   pub step : Step
-  pub is : IsStep log line step
+  pub is : IsCommandAnswered log line step
   pub ends : ends_run step ≡ true
   pub written : Appends old new (answer_text step.reply)
 
@@ -95,7 +95,7 @@ pub record IsBad (log : List Step) (line : List ℕ) (old new : Option (List ℕ
 -- a beginning of a line's answer was written; for private clauses
 pub record WritesPart (log : List Step) (line : List ℕ) (old new : Option (List ℕ)) : Type 0 where
   pub step : Step
-  pub is : IsStep log line step
+  pub is : IsCommandAnswered log line step
   pub written : WritesBeginning (answer_text step.reply) old new
 
 -- what came of the line with this number; for private clauses

@@ -6,7 +6,7 @@ use Rattle.grid.specs.declared.fault.GridFault.{GridFault}
 use Rattle.grid.specs.declared.fault.GridFault.TheVariants as grid_fault
 use Rattle.gate_tasks.specs.Text.{escaped}
 use Rattle.gate_tasks.specs.Command.{command_of}
-use Rattle.gate_tasks.specs.Lines.{Line, lines_of, piece_of, is_within}
+use Rattle.gate_tasks.specs.Lines.{Line, lines_of, line_bytes, is_within}
 use Rattle.gate_tasks.specs.declared.command.Command.{Command}
 use Rattle.gate_tasks.specs.declared.command.Command.TheVariants as command
 use Rattle.gate_tasks.specs.declared.reply.Reply.{Reply}
@@ -97,16 +97,16 @@ pub record Run : Type 0 where
   pub replies : List Reply
 
 -- what is written, all steps, and the end
-pub record Told : Type 0 where
+pub record ScriptOutput : Type 0 where
   pub text : List ℕ
   pub log : List Step
   pub end : End
 
-abbrev pub after_text : List ℕ → Told → Told
-after_text text told = record { text = text ++ told.text; log = told.log; end = told.end }
+abbrev pub after_text : List ℕ → ScriptOutput → ScriptOutput
+after_text text script_output = record { text = text ++ script_output.text; log = script_output.log; end = script_output.end }
 
 -- a step's answer, and then what the lines after it come to, if the run goes on
-abbrev pub stepped : Bool → ℕ → Reply → Run → (Run → Told) → Told
+abbrev pub stepped : Bool → ℕ → Reply → Run → (Run → ScriptOutput) → ScriptOutput
 stepped true number reply after more = record { text = answer_text reply; log = after.log; end = Stopped (BadLine number) }
 stepped false number reply after more = after_text (answer_text reply) (more after)
 
@@ -114,28 +114,28 @@ abbrev pub with_step : Run → Step → List Reply → Run
 with_step run step replies = record { log = run.log ++ step ∷ []; replies = replies }
 
 -- what a command comes to, by the first of the replies
-abbrev pub replied : ℕ → Run → Command → List Reply → (Run → Told) → Told
+abbrev pub replied : ℕ → Run → Command → List Reply → (Run → ScriptOutput) → ScriptOutput
 replied number run asked [] more = record { text = []; log = run.log; end = Unanswered }
 replied number run asked (reply ∷ replies) more =
     let step : Step = record { command = asked; reply = reply } in
     stepped (ends_run step) number reply (with_step run step replies) more
 
-abbrev pub asked_for : ℕ → Run → Option Command → (Run → Told) → Told
+abbrev pub asked_for : ℕ → Run → Option Command → (Run → ScriptOutput) → ScriptOutput
 asked_for number run None more = record { text = []; log = run.log; end = Stopped (BadLine number) }
 asked_for number run (Some asked) more = replied number run asked run.replies more
 
 -- what a line comes to: one that is over a limit ends the run, and an empty one is skipped
-abbrev pub told_at : Bool → Bool → ℕ → Run → List ℕ → (Run → Told) → Told
+abbrev pub told_at : Bool → Bool → ℕ → Run → List ℕ → (Run → ScriptOutput) → ScriptOutput
 told_at false is_empty number run line more = record { text = []; log = run.log; end = Stopped TooLong }
 told_at true true number run line more = more run
 told_at true false number run line more = asked_for number run (allowed run.log (command_of line)) more
 
 -- what lines come to, of which the first has this number, after so many bytes of the script
-abbrev pub told : ℕ → ℕ → Run → List Line → Told
-told number read run [] = record { text = []; log = run.log; end = Ended }
-told number read run (line ∷ lines) =
-    told_at (is_within read line) (length line.bytes == 0) number run line.bytes (λ after. told (number + 1) (read + length (piece_of line)) after lines)
+abbrev pub script_output : ℕ → ℕ → Run → List Line → ScriptOutput
+script_output number read run [] = record { text = []; log = run.log; end = Ended }
+script_output number read run (line ∷ lines) =
+    told_at (is_within read line) (length line.bytes == 0) number run line.bytes (λ after. script_output (number + 1) (read + length (line_bytes line)) after lines)
 
 -- what a script comes to whose commands get these replies
-abbrev pub written_by : List ℕ → List Reply → Told
-written_by script replies = told 1 0 (record { log = []; replies = replies }) (lines_of script)
+abbrev pub written_by : List ℕ → List Reply → ScriptOutput
+written_by script replies = script_output 1 0 (record { log = []; replies = replies }) (lines_of script)

@@ -14,11 +14,11 @@ abbrev pub usage_status : ℕ
 usage_status = 2
 
 -- the status of an outcome
-abbrev pub status_of : Result (Unit {0}) ProgramFault → ℕ
-status_of (Ok done) = done_status
-status_of (Err (Usage fault)) = usage_status
-status_of (Err (Script fault)) = fault_status
-status_of (Err BindFailed) = fault_status
-status_of (Err (Serve fault)) = fault_status
-status_of (Err (Connections count)) = fault_status
-status_of (Err NoMemory) = fault_status
+abbrev pub outcome_status : Result (Unit {0}) ProgramFault → ℕ
+outcome_status (Ok done) = done_status
+outcome_status (Err (Usage fault)) = usage_status
+outcome_status (Err (Script fault)) = fault_status
+outcome_status (Err BindFailed) = fault_status
+outcome_status (Err (Serve fault)) = fault_status
+outcome_status (Err (Connections count)) = fault_status
+outcome_status (Err NoMemory) = fault_status

@@ -5,7 +5,7 @@
 //! it out in `calls.rt`.
 ghost use Rattle.std.specs.Prelude.{◌≡◌, [], ◌∷◌, None, IfOk};
 ghost use Rattle.std.specs.Option.{option_map};
-ghost use Rattle.gate_tasks.specs.Command.{words, servers_of, secret_of, index_of, share_of, grid_of, restore_of, open_of, bytes_of, end_of, take_of, lose_of, spoil_of, command_of, command_of_words, asked_with, short_number, long_number};
+ghost use Rattle.gate_tasks.specs.Command.{words, servers_of, secret_word, index_word, share_words, grid_of, restore_of, open_of, bytes_command, end_of, take_of, lose_of, spoil_of, command_of, command_of_words, asked_with, short_number, long_number};
 
 use crate::spelling::read_spelled;
 use crate::text::unescape;
@@ -191,7 +191,7 @@ fn read_servers(word: &[u8]) -> Option<u16>
 
 /// A secret: `-` is the empty one, another is base32.
 fn read_secret(alloc: Global, word: &[u8]) -> Result<Option<Bytes>, AllocError>
-    ensures { IfOk result (λ secret. secret ≡ secret_of word.now) }
+    ensures { IfOk result (λ secret. secret ≡ secret_word word.now) }
 {
     if word == b"-".as_slice() {
         return Ok(Some(Bytes::new(alloc)));
@@ -232,7 +232,7 @@ fn read_bare_open(word: &[u8]) -> Option<Command>
 
 /// The arguments of `bytes`: ID and TEXT, which may hold spaces.
 fn read_bytes(alloc: Global, arguments: &[u8]) -> Result<Option<Command>, AllocError>
-    ensures { IfOk result (λ command. command ≡ bytes_of (words arguments.now)) }
+    ensures { IfOk result (λ command. command ≡ bytes_command (words arguments.now)) }
 {
     let Some((id, text)) = split_at_byte(arguments, b' ') else {
         return Ok(None);
@@ -319,7 +319,7 @@ fn read_share(
     index: &[u8],
     number: &[u8],
 ) -> Result<Option<Share>, AllocError>
-    ensures { IfOk result (λ share. share ≡ share_of server.now index.now number.now) }
+    ensures { IfOk result (λ share. share ≡ share_words server.now index.now number.now) }
 {
     let Some(server) = read_number(server, u64::from(u32::MAX)) else {
         return Ok(None);
@@ -339,7 +339,7 @@ fn read_share(
 
 /// A storage index: base32 of 16 bytes.
 fn read_index(alloc: Global, word: &[u8]) -> Result<Option<[u8; 16]>, AllocError>
-    ensures { IfOk result (λ index. index ≡ index_of word.now) }
+    ensures { IfOk result (λ index. index ≡ index_word word.now) }
 {
     let Some(bytes) = read_spelled(alloc, word)? else {
         return Ok(None);

@@ -1,8 +1,8 @@
 //! One connection's turns: its bytes are read, brought to the gateway, and what waits for it is written.
 ghost use Rattle.std.specs.Prelude.{◌≡◌, ◌≢◌, ◌⊎◌, ◌↔◌, ℕ, List, [], Option, OnOk, IfOk, IfErr, MatchBool, None};
 ghost use Rattle.gate_core.specs.ConnectionState.{State, connection_at};
-ghost use Rattle.gate_flow.specs.Steps.{IsRead, IsWritten, Rests};
-ghost use Rattle.gate_flow.specs.Served.{IsServed, IsStopped, StopsAt};
+ghost use Rattle.gate_flow.specs.Steps.{AreBytesRead, AreBytesWritten, Rests};
+ghost use Rattle.gate_flow.specs.Served.{IsServed, IsFlowStopped, FlowStopsAt};
 ghost use Rattle.gate_tasks.specs.Turns.{RunsOn, RunsInto, IsReadWithin, most_read, most_at_a_time};
 
 use gate_core::Gateway;
@@ -34,7 +34,7 @@ pub fn turns<S: Store, R: Read, W: Write>(
     ensures ok { OnOk result (IsServed id gateway.old.settings.secret gateway.old gateway.new
         (R.remaining reader.old) (R.remaining reader.new)
         (W.contents writer.old) (W.contents writer.new)) }
-    ensures err { IfErr result (λ fault. IsStopped fault id gateway.old.settings.secret
+    ensures err { IfErr result (λ fault. IsFlowStopped fault id gateway.old.settings.secret
         gateway.old gateway.new (R.remaining reader.old) (R.remaining reader.new)
         (W.contents writer.old) (W.contents writer.new)) }
     ensures refused { (result ≡ Err FlowFault.Refused) ↔ (connection_at gateway.old id ≢ None) }
@@ -80,10 +80,10 @@ fn take_turns<S: Store, R: Read, W: Write>(
 /// Reads once, and says what the flow wants then. A reader that would block fails.
 fn read_once<R: Read>(flow: &mut Flow, reader: &mut R) -> Result<Want, FlowFault>
     requires { flow.old.want ≡ Want.Read }
-    ensures read { IsRead flow.old flow.new (R.remaining reader.old) (R.remaining reader.new) }
+    ensures read { AreBytesRead flow.old flow.new (R.remaining reader.old) (R.remaining reader.new) }
     ensures next { (flow.new.want ≡ Want.Advance) ⊎ (flow.new ≡ flow.old) }
     ensures stops { IfErr result (λ fault. (g : State) → Rests flow.old g →
-        StopsAt fault flow.new g) }
+        FlowStopsAt fault flow.new g) }
     ensures bounded { IsReadWithin most_at_a_time
         (R.remaining reader.old) (R.remaining reader.new) }
 {
@@ -98,9 +98,9 @@ fn read_once<R: Read>(flow: &mut Flow, reader: &mut R) -> Result<Want, FlowFault
 fn write_once<W: Write>(flow: &mut Flow, writer: &mut W) -> Result<(), FlowFault>
     requires wants { flow.old.want ≡ Want.Write }
     requires some { flow.old.portion ≢ [] }
-    ensures wrote { IsWritten flow.old flow.new (W.contents writer.old) (W.contents writer.new) }
+    ensures wrote { AreBytesWritten flow.old flow.new (W.contents writer.old) (W.contents writer.new) }
     ensures next { (flow.new.want ≡ Want.Advance) ⊎ (flow.new.want ≡ Want.Write) }
-    ensures stops { IfErr result (λ fault. (g : State) → StopsAt fault flow.new g) }
+    ensures stops { IfErr result (λ fault. (g : State) → FlowStopsAt fault flow.new g) }
 {
     match flow.write_to(writer) {
         Ok(Step::Went(_) | Step::Interrupted) => Ok(()),

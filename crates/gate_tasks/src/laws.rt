@@ -12,7 +12,7 @@ ghost use Rattle.gate_tasks.specs.declared.arguments.Task.{Task};
 ghost use Rattle.gate_tasks.specs.declared.command.Grid.{Grid};
 ghost use Rattle.gate_tasks.specs.declared.fault.UsageFault.{UsageFault};
 ghost use Rattle.gate_tasks.specs.Replies.{settings_by, opening_by, are_parameters, room_of, IsOpenedBy, world_by, IsImageAfter};
-ghost use Rattle.gate_tasks.specs.Lines.{lines_of, piece_of};
+ghost use Rattle.gate_tasks.specs.Lines.{lines_of, line_bytes};
 ghost use Rattle.gate_tasks.specs.Text.{unescaped, escaped};
 
 /// A text that is written is read as the bytes for which it was written.
@@ -23,7 +23,7 @@ pub fn texts_are_read_back()
 
 /// The lines of a script, each with the LF that ends it, are the script.
 pub fn lines_join_to_the_script()
-    ensures { (script : List ℕ) → flat_map piece_of (lines_of script) ≡ script }
+    ensures { (script : List ℕ) → flat_map line_bytes (lines_of script) ≡ script }
 {}
 
 /// A gateway that was just set up was left so by no items. So of a run without an image, the written answers to a caller's

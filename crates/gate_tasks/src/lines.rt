@@ -1,7 +1,7 @@
 //! The lines of a script, read one at a time.
 ghost use Rattle.std.specs.Prelude.{◌≡◌, ◌+◌, ◌≤◌, length, true, false};
 ghost use Rattle.gate_tasks.specs.Lines.{fits, script_limit};
-ghost use Rattle.gate_tasks.specs.Reading.{LineReads, PartReads, IsPart};
+ghost use Rattle.gate_tasks.specs.Reading.{LineReads, PartReads, IsLinePart};
 
 use crate::fault::ScriptFault;
 use octets::split_at_byte;
@@ -88,7 +88,7 @@ fn is_within_limits(read: usize, before: usize, part: usize, ended: bool) -> boo
 
 /// The bytes before the first LF and whether one stands there.
 fn first_part(bytes: &[u8]) -> (&[u8], bool)
-    ensures { IsPart bytes.now (record { bytes = result.0.now; ended = result.1 }) }
+    ensures { IsLinePart bytes.now (record { bytes = result.0.now; ended = result.1 }) }
 {
     match split_at_byte(bytes, b'\n') {
         Some((line, _)) => (line, true),

@@ -10,7 +10,7 @@ use Rattle.std.specs.Cmp.{tied_itself}
 use Rattle.std.specs.Cmp.Lexicographic.{pointwise}
 use Rattle.std.specs.FinMap.{find, get, entries, is_sorted, entries_sorted, get-entries}
 use Rattle.std.specs.FinMap.Entries.{below_all}
-use Rattle.share_store.specs.Shares.{Shares, ShareKey, Entry, key_cmp}
+use Rattle.share_store.specs.Shares.{Shares, ShareKey, ShareEntry, key_cmp}
 use Rattle.share_store.specs.Stored.{entry_of}
 use Rattle.share_store.specs.declared.share.Share.{Share}
 use Rattle.grid.specs.Standing.{standing}
@@ -47,11 +47,11 @@ below_at x [] h i e at = cc
 below_at {X} x (f ∷ es) h zero e at = let same : f ≡ e = cc in subst (λ (y : ShareKey × X). key_cmp x y.0 ≡ Less) same (less _ (left _ _ h))
 below_at x (f ∷ es) h (suc i) e at = below_at x es (right (is_lt (key_cmp x f.0)) _ h) i e at
 
-find_at : (es : List Entry) (k : ShareKey) (v : List ℕ) (i : ℕ) → slice_get es i ≡ Some (k, v) → is_sorted key_cmp es ≡ true → find key_cmp k es ≡ Some v
+find_at : (es : List ShareEntry) (k : ShareKey) (v : List ℕ) (i : ℕ) → slice_get es i ≡ Some (k, v) → is_sorted key_cmp es ≡ true → find key_cmp k es ≡ Some v
 find_at [] k v i at h = cc
 find_at (e ∷ es) k v zero at h =
     let same : e ≡ (k, v) = cc in
-    subst (λ (f : Entry). find key_cmp k (f ∷ es) ≡ Some v) (sym same) (ap (λ r. cond (is_eq r) (Some v) (find key_cmp k es)) (tied_itself key_cmp_total k))
+    subst (λ (f : ShareEntry). find key_cmp k (f ∷ es) ≡ Some v) (sym same) (ap (λ r. cond (is_eq r) (Some v) (find key_cmp k es)) (tied_itself key_cmp_total k))
 find_at (e ∷ es) k v (suc i) at h =
     let here : key_cmp k e.0 ≡ Greater = key_cmp_total.antisymm k e.0 ∙ ap ordering_reverse (below_at e.0 es (left _ _ h) i (k, v) at) in
     ap (λ r. cond (is_eq r) (Some e.1) (find key_cmp k es)) here ∙ find_at es k v i at (right (below_all key_cmp e.0 es) _ h)
@@ -74,7 +74,7 @@ entry_stands maps server i key bytes at = by_case (slice_get_cases maps server).
         let none = ap (λ l. slice_get l i) (sym es) ∙ at in cc
 
 -- a share that was given stood at its place, whether or not the store's count of failures rose
-pub given_stood : {E : Type 0} (result : Result (Option Share) E) (old new : ℕ) (es : List Entry) (at : ℕ) → old ≤ new → (old < new → result ≡ Ok None) →
+pub given_stood : {E : Type 0} (result : Result (Option Share) E) (old new : ℕ) (es : List ShareEntry) (at : ℕ) → old ≤ new → (old < new → result ≡ Ok None) →
     (new ≡ old → IfOk result (λ share. option_map entry_of share ≡ slice_get es at)) → IfOk result (λ share. IfSome share (λ share. slice_get es at ≡ Some (entry_of share)))
 given_stood (Err e) old new es at rises failed found = tt
 given_stood (Ok None) old new es at rises failed found = tt

@@ -6,10 +6,10 @@ use Rattle.std.specs.Int.{from_be_bytes, w32}
 use Rattle.std.proofs.lemmas.List.{length-take, length-drop, take-take}
 use Rattle.grid.specs.Rows.{Row}
 use Rattle.grid.specs.RowOrder.{RowKey, row_key, comes_after, in_order}
-use Rattle.grid.specs.Layout.{name, layout_said, wide, front as front_size, row_front, number_at, count_at}
+use Rattle.grid.specs.Layout.{name, layout_said, wide, front as front_size, row_front, u32_at, count_at}
 use Rattle.grid.specs.Image.{row_head, row_bytes}
 use Rattle.grid.specs.ImageHeads.{head_key, shares_said, head_said}
-use Rattle.grid.specs.ImageReading.{Reading, rows_said, said_as, image_said, from_said, with_row, stopped, preceded, said_row}
+use Rattle.grid.specs.ImageReading.{RowsRead, rows_said, said_as, image_said, from_said, with_row, stopped, preceded, said_row}
 use Rattle.grid.specs.ImageLaws.{IsInRange}
 use Rattle.grid.specs.ImageFaults.{FrontFault, key_at, IsPlaced, HeadFault, RestFault, ImageFault}
 use Rattle.grid.specs.ImageFaults.FrontFault.{other_name, servers_cut, other_servers, shares_cut}
@@ -39,9 +39,9 @@ head_fault layout servers last bytes offset said =
     where_so _ (nat_lt (length bytes) 4) 0 offset _ said (λ is at. server_cut at (ltb-true (length bytes) 4 is))
     (λ isnt said.
     let long4 : 4 ≤ length bytes = ltb-false (length bytes) 4 isnt in
-    where_not _ (nat_lt (number_at bytes 0) servers) 0 offset _ said (λ isnt at. no_server at long4 (ltb-false (number_at bytes 0) servers isnt))
+    where_not _ (nat_lt (u32_at bytes 0) servers) 0 offset _ said (λ isnt at. no_server at long4 (ltb-false (u32_at bytes 0) servers isnt))
     (λ is said.
-    let server : number_at bytes 0 < servers = ltb-true (number_at bytes 0) servers is in
+    let server : u32_at bytes 0 < servers = ltb-true (u32_at bytes 0) servers is in
     where_so _ (nat_lt (length bytes) 20) 4 offset _ said (λ is at. index_cut at long4 server (ltb-true (length bytes) 20 is))
     (λ isnt said.
     let long20 : 20 ≤ length bytes = ltb-false (length bytes) 20 isnt in
@@ -51,21 +51,21 @@ head_fault layout servers last bytes offset said =
     where_not _ (comes_after last (key_at bytes)) 0 offset _ said (λ isnt at. out_of_order at long24 server isnt)
     (λ is said.
     let placed : IsPlaced servers last bytes = record { whole = long24; server = server; after = is } in
-    where_not _ (nat_lt (number_at bytes 20) 256) 20 offset _ said (λ isnt at. high_number at placed (ltb-false (number_at bytes 20) 256 isnt))
+    where_not _ (nat_lt (u32_at bytes 20) 256) 20 offset _ said (λ isnt at. high_number at placed (ltb-false (u32_at bytes 20) 256 isnt))
     (λ is said.
-    let small : number_at bytes 20 < 256 = ltb-true (number_at bytes 20) 256 is in
+    let small : u32_at bytes 20 < 256 = ltb-true (u32_at bytes 20) 256 is in
     where_so _ (nat_lt (length bytes) (row_front layout)) 24 offset _ said (λ is at. length_cut at placed small (ltb-true (length bytes) (row_front layout) is))
     (λ isnt said.
     let whole : row_front layout ≤ length bytes = ltb-false (length bytes) (row_front layout) isnt in
     where_so _ (count_at layout bytes 24 == 0) 24 offset _ said (λ is at. no_bytes at placed small whole (eqb-true (count_at layout bytes 24) 0 is))
     (λ isnt said.
-    let made : RowHead = record { server = number_at bytes 0; index = take 16 (drop 4 bytes); number = number_at bytes 20; length = count_at layout bytes 24 } in
+    let made : RowHead = record { server = u32_at bytes 0; index = take 16 (drop 4 bytes); number = u32_at bytes 20; length = count_at layout bytes 24 } in
     let never : Ok made ≡ Err offset = said in
     cc))))))))
 
 -- what stands in the bytes behind the name, where so many of them are looked at
-behind_at : (bytes : List ℕ) (n : ℕ) → 4 ≤ n → number_at (take n (drop 8 bytes)) 0 ≡ number_at bytes 8
-unfolding number_at
+behind_at : (bytes : List ℕ) (n : ℕ) → 4 ≤ n → u32_at (take n (drop 8 bytes)) 0 ≡ u32_at bytes 8
+unfolding u32_at
 behind_at bytes n le = ap (from_be_bytes w32) (take-take 4 n (drop 8 bytes) le)
 
 front_fault : (layout : Layout) (servers : ℕ) (bytes : List ℕ) (place : ℕ) → take 8 bytes ≡ name layout → shares_said layout servers (take (4 + wide layout) (drop 8 bytes)) ≡ Err place → FrontFault servers bytes place
@@ -73,15 +73,15 @@ front_fault layout servers bytes place named said =
     let front = take (4 + wide layout) (drop 8 bytes) in
     let size : length front ≡ min (4 + wide layout) (length (drop 8 bytes)) = length-take (4 + wide layout) (drop 8 bytes) in
     let behind = length-drop 8 bytes in
-    let at8 : number_at front 0 ≡ number_at bytes 8 = behind_at bytes (4 + wide layout) (omega arith) in
+    let at8 : u32_at front 0 ≡ u32_at bytes 8 = behind_at bytes (4 + wide layout) (omega arith) in
     where_so _ (nat_lt (length front) 4) 8 place _ said (λ is at. servers_cut layout at named (omega (arith, ltb-true (length front) 4 is, wide_some layout)))
     (λ isnt said.
     let long12 : 12 ≤ length bytes = omega (arith, ltb-false (length front) 4 isnt, wide_some layout) in
-    where_not _ (number_at front 0 == servers) 8 place _ said
-    (λ isnt at. other_servers layout at named long12 (λ same. let h : true ≡ false = sym (eq-eqb (number_at front 0) servers (at8 ∙ same)) ∙ isnt in cc))
+    where_not _ (u32_at front 0 == servers) 8 place _ said
+    (λ isnt at. other_servers layout at named long12 (λ same. let h : true ≡ false = sym (eq-eqb (u32_at front 0) servers (at8 ∙ same)) ∙ isnt in cc))
     (λ is said.
     where_so _ (nat_lt (length front) (4 + wide layout)) 12 place _ said
-    (λ is' at. shares_cut layout at named long12 (sym at8 ∙ eqb-true (number_at front 0) servers is) (omega (arith, ltb-true (length front) (4 + wide layout) is')))
+    (λ is' at. shares_cut layout at named long12 (sym at8 ∙ eqb-true (u32_at front 0) servers is) (omega (arith, ltb-true (length front) (4 + wide layout) is')))
     (λ isnt said.
     let never : Ok (count_at layout front 4) ≡ Err place = said in
     cc)))
@@ -158,7 +158,7 @@ cut_row layout n servers last place bytes fault head said cut is =
 some_same : (a b : ℕ) → Some a ≡ Some b → b ≡ a
 some_same a b h = cc
 
-row_stopped : (layout : Layout) (n servers : ℕ) (last : Option RowKey) (place : ℕ) (bytes : List ℕ) (fault : ℕ) (r : Result RowHead ℕ) (next : RowHead → Reading) → Low bytes → head_said layout servers last (take (row_front layout) bytes) ≡ r
+row_stopped : (layout : Layout) (n servers : ℕ) (last : Option RowKey) (place : ℕ) (bytes : List ℕ) (fault : ℕ) (r : Result RowHead ℕ) (next : RowHead → RowsRead) → Low bytes → head_said layout servers last (take (row_front layout) bytes) ≡ r
     → ((head : RowHead) → (next head).fault ≡ Some fault → StopsIn layout n servers (Some (head_key head)) (place + row_front layout + head.length) (drop head.length (drop (row_front layout) bytes)) (next head).rows fault)
     → (with_row layout r place (drop (row_front layout) bytes) next).fault ≡ Some fault → StopsIn layout (suc n) servers last place bytes (with_row layout r place (drop (row_front layout) bytes) next).rows fault
 row_stopped layout n servers last place bytes fault (Err offset) next low said rest is =

@@ -13,7 +13,7 @@ use Rattle.std.proofs.lemmas.Bool.{and_parts, and_from, eqb-true, eq-eqb}
 use Rattle.std.proofs.lemmas.Cmp.{eq_by_cmp_equiv}
 use Rattle.std.proofs.lemmas.List.{map-append}
 use Rattle.std.proofs.lemmas.List.Elements.{filter-append, filter_map-append, Contains-append_left, Contains-append_right}
-use Rattle.share_store.specs.Shares.{Shares, ShareKey, Entry, key_cmp}
+use Rattle.share_store.specs.Shares.{Shares, ShareKey, ShareEntry, key_cmp}
 use Rattle.share_store.specs.MapLaws.{key_cmp_total, key_cmp_exact}
 use Rattle.share_store.specs.Numbers.{of_index}
 use Rattle.grid.specs.Found.{found_in, found_below, entries_at}
@@ -105,9 +105,9 @@ same_found_in ms ns index s same = by_case (slice_get ms s) (slice_get ns s) sam
     by_case : (o p : Option Shares) → ((number : ℕ) → option_and_then (λ (m : Shares). get m (index, number)) o ≡ option_and_then (λ (m : Shares). get m (index, number)) p)
         → found_in s index (option_map_or entries o []) ≡ found_in s index (option_map_or entries p [])
     by_case None None h = refl
-    by_case (Some m) None h = ap (map (λ (e : Entry). (s, e.0.1, e.1))) (nothing_under m index (λ number. sym (h number)))
-    by_case None (Some n) h = sym (ap (map (λ (e : Entry). (s, e.0.1, e.1))) (nothing_under n index h))
-    by_case (Some m) (Some n) h = ap (map (λ (e : Entry). (s, e.0.1, e.1))) (same_of_index m n index h)
+    by_case (Some m) None h = ap (map (λ (e : ShareEntry). (s, e.0.1, e.1))) (nothing_under m index (λ number. sym (h number)))
+    by_case None (Some n) h = sym (ap (map (λ (e : ShareEntry). (s, e.0.1, e.1))) (nothing_under n index h))
+    by_case (Some m) (Some n) h = ap (map (λ (e : ShareEntry). (s, e.0.1, e.1))) (same_of_index m n index h)
 
 pub same_found : (ms ns : List Shares) (index : List ℕ) (servers : ℕ) → ((s number : ℕ) → standing ms s (index, number) ≡ standing ns s (index, number)) → found_below ms index servers ≡ found_below ns index servers
 same_found ms ns index zero same = refl
@@ -115,15 +115,15 @@ same_found ms ns index (suc n) same = let before = same_found ms ns index n same
 
 -- ---- what stands is found
 
-there_in : (server number : ℕ) (index bytes : List ℕ) (es : List Entry) → find key_cmp (index, number) es ≡ Some bytes → Contains {X = Found} (found_in server index es) (server, number, bytes)
+there_in : (server number : ℕ) (index bytes : List ℕ) (es : List ShareEntry) → find key_cmp (index, number) es ≡ Some bytes → Contains {X = Found} (found_in server index es) (server, number, bytes)
 there_in server number index bytes [] is = cc
 there_in server number index bytes (e ∷ es) is = by_key (is_eq (key_cmp (index, number) e.0)) refl is (λ found. there_in server number index bytes es found)
   where
-    later : (b : Bool) → Contains {X = Found} (found_in server index es) (server, number, bytes) → Contains {X = Found} (map (λ (x : Entry). (server, x.0.1, x.1)) (cond b (e ∷ of_index index es) (of_index index es))) (server, number, bytes)
+    later : (b : Bool) → Contains {X = Found} (found_in server index es) (server, number, bytes) → Contains {X = Found} (map (λ (x : ShareEntry). (server, x.0.1, x.1)) (cond b (e ∷ of_index index es) (of_index index es))) (server, number, bytes)
     later true h = Contains-append_right ((server, e.0.1, e.1) ∷ []) (found_in server index es) (server, number, bytes) h
     later false h = h
 
-    here : (b : Bool) → b ≡ true → e.0.1 ≡ number → e.1 ≡ bytes → Contains {X = Found} (map (λ (x : Entry). (server, x.0.1, x.1)) (cond b (e ∷ of_index index es) (of_index index es))) (server, number, bytes)
+    here : (b : Bool) → b ≡ true → e.0.1 ≡ number → e.1 ≡ bytes → Contains {X = Found} (map (λ (x : ShareEntry). (server, x.0.1, x.1)) (cond b (e ∷ of_index index es) (of_index index es))) (server, number, bytes)
     here true is n v = (0, grind arith, λ i. (server, n i, v i))
     here false is n v = cc
 
@@ -176,7 +176,7 @@ module _ (number server : ℕ) (index : List ℕ) where
   placed s = (server, s)
 
   -- one share more in front
-  step : (e : Entry) (es : List Entry) → of_number number (found_in server index (e ∷ es)) ≡ cond (hit e.0) (placed e.1 ∷ []) [] ++ of_number number (found_in server index es)
+  step : (e : ShareEntry) (es : List ShareEntry) → of_number number (found_in server index (e ∷ es)) ≡ cond (hit e.0) (placed e.1 ∷ []) [] ++ of_number number (found_in server index es)
   step e es = by_index (pointwise nat_eq e.0.0 index)
     where
       by_itself : (b : Bool) → map place_in (cond b ((server, e.0.1, e.1) ∷ filter (λ (f : Found). f.1 == number) (found_in server index es)) (filter (λ (f : Found). f.1 == number) (found_in server index es)))
@@ -184,13 +184,13 @@ module _ (number server : ℕ) (index : List ℕ) where
       by_itself true = refl
       by_itself false = refl
 
-      by_index : (b : Bool) → of_number number (map (λ (x : Entry). (server, x.0.1, x.1)) (cond b (e ∷ of_index index es) (of_index index es)))
+      by_index : (b : Bool) → of_number number (map (λ (x : ShareEntry). (server, x.0.1, x.1)) (cond b (e ∷ of_index index es) (of_index index es)))
           ≡ cond (b && (e.0.1 == number)) (placed e.1 ∷ []) [] ++ of_number number (found_in server index es)
       by_index true = by_itself (e.0.1 == number)
       by_index false = refl
 
   -- none is after its place
-  none_after : (es : List Entry) → below_all key_cmp (index, number) es ≡ true → of_number number (found_in server index es) ≡ []
+  none_after : (es : List ShareEntry) → below_all key_cmp (index, number) es ≡ true → of_number number (found_in server index es) ≡ []
   none_after [] below = refl
   none_after (e ∷ es) below =
       let parts = and_parts (is_lt (key_cmp (index, number) e.0)) (below_all key_cmp (index, number) es) below in
@@ -202,7 +202,7 @@ module _ (number server : ℕ) (index : List ℕ) where
       not_equal Equal e = cc
       not_equal Greater e = refl
 
-  in_store : (es : List Entry) → is_sorted key_cmp es ≡ true → of_number number (found_in server index es) ≡ option_to_list (option_map placed (find key_cmp (index, number) es))
+  in_store : (es : List ShareEntry) → is_sorted key_cmp es ≡ true → of_number number (found_in server index es) ≡ option_to_list (option_map placed (find key_cmp (index, number) es))
   in_store [] sorted = refl
   in_store (e ∷ es) sorted =
       let parts = and_parts (below_all key_cmp e.0 es) (is_sorted key_cmp es) sorted in

@@ -4,7 +4,7 @@ use Rattle.std.proofs.lemmas.Option.{slice_get_read}
 use Rattle.std.proofs.lemmas.List.{map-append}
 use Rattle.std.proofs.lemmas.List.Elements.{All-map, All-append, All-nil}
 use Rattle.std.specs.Cmp.Lexicographic.{pointwise}
-use Rattle.share_store.specs.Shares.{Shares, Entry}
+use Rattle.share_store.specs.Shares.{Shares, ShareEntry}
 use Rattle.share_store.specs.Numbers.{of_index}
 use Rattle.grid.specs.Standing.{standing}
 use Rattle.grid.specs.Found.{entries_at, found_in, found_below, AllBut}
@@ -12,33 +12,33 @@ use Rattle.grid.proofs.Entries.{entry_stands, same_bytes}
 use Rattle.grid.proofs.Standing.{take_more}
 
 -- a share of one index is one of the store, under that index
-pub record IsOfIndex (index : List ℕ) (es : List Entry) (e : Entry) : Type 0 where
+pub record IsOfIndex (index : List ℕ) (es : List ShareEntry) (e : ShareEntry) : Type 0 where
   pub place : ℕ
   pub at : slice_get es place ≡ Some e
   pub under : e.0.0 ≡ index
 
-later : (index : List ℕ) (x : Entry) (es : List Entry) (e : Entry) → IsOfIndex index es e → IsOfIndex index (x ∷ es) e
+later : (index : List ℕ) (x : ShareEntry) (es : List ShareEntry) (e : ShareEntry) → IsOfIndex index es e → IsOfIndex index (x ∷ es) e
 later index x es e h = record { place = suc h.place; at = h.at; under = h.under }
 
-pub of_index_at : (index : List ℕ) (es : List Entry) (i : ℕ) (e : Entry) → slice_get (of_index index es) i ≡ Some e → IsOfIndex index es e
+pub of_index_at : (index : List ℕ) (es : List ShareEntry) (i : ℕ) (e : ShareEntry) → slice_get (of_index index es) i ≡ Some e → IsOfIndex index es e
 of_index_at index [] i e at = cc
 of_index_at index (x ∷ es) i e at = by_case (pointwise nat_eq x.0.0 index) refl i at (λ k there. later index x es e (of_index_at index es k e there))
   where
     by_case : (b : Bool) → pointwise nat_eq x.0.0 index ≡ b → (i : ℕ) → slice_get (cond b (x ∷ of_index index es) (of_index index es)) i ≡ Some e → ((k : ℕ) → slice_get (of_index index es) k ≡ Some e → IsOfIndex index (x ∷ es) e) → IsOfIndex index (x ∷ es) e
-    by_case true is zero h more = let same : x ≡ e = cc in record { place = 0; at = ap Some same; under = ap (λ (y : Entry). y.0.0) (sym same) ∙ same_bytes x.0.0 index is }
+    by_case true is zero h more = let same : x ≡ e = cc in record { place = 0; at = ap Some same; under = ap (λ (y : ShareEntry). y.0.0) (sym same) ∙ same_bytes x.0.0 index is }
     by_case true is (suc i) h more = more i h
     by_case false is i h more = more i h
 
 -- it stands there
-pub stands_at : (maps : List Shares) (server : ℕ) (index : List ℕ) (i : ℕ) (e : Entry) → slice_get (of_index index (entries_at maps server)) i ≡ Some e → standing maps server (index, e.0.1) ≡ Some e.1
+pub stands_at : (maps : List Shares) (server : ℕ) (index : List ℕ) (i : ℕ) (e : ShareEntry) → slice_get (of_index index (entries_at maps server)) i ≡ Some e → standing maps server (index, e.0.1) ≡ Some e.1
 stands_at maps server index i e at =
     let of_it = of_index_at index (entries_at maps server) i e at in
     subst (λ (k : List ℕ). standing maps server (k, e.0.1) ≡ Some e.1) of_it.under (entry_stands maps server of_it.place e.0 e.1 of_it.at)
 
-abbrev pub row : ℕ → Entry → ℕ × ℕ × List ℕ
+abbrev pub row : ℕ → ShareEntry → ℕ × ℕ × List ℕ
 row server e = (server, e.0.1, e.1)
 
-same_default : (es : List Entry) (i : ℕ) (d : Entry) → i < length es → get_or es i d ≡ get_or es i (get_or es i d)
+same_default : (es : List ShareEntry) (i : ℕ) (d : ShareEntry) → i < length es → get_or es i d ≡ get_or es i (get_or es i d)
 same_default [] i d lt = absurd (omega arith)
 same_default (x ∷ es) zero d lt = refl
 same_default (x ∷ es) (suc i) d lt = same_default es i d (omega arith)
@@ -55,16 +55,16 @@ all_stand maps index zero = All-nil (λ f. standing maps f.0 (index, f.1) ≡ So
 all_stand maps index (suc n) = All-append (λ f. standing maps f.0 (index, f.1) ≡ Some f.2) (found_below maps index n) (found_in n index (entries_at maps n)) (all_stand maps index n) (all_stand_in maps n index)
 
 -- one more share was looked at
-pub rows_more : (server : ℕ) (es : List Entry) (i : ℕ) (e : Entry) → slice_get es i ≡ Some e → map (row server) (take (i + 1) es) ≡ map (row server) (take i es) ++ row server e ∷ []
+pub rows_more : (server : ℕ) (es : List ShareEntry) (i : ℕ) (e : ShareEntry) → slice_get es i ≡ Some e → map (row server) (take (i + 1) es) ≡ map (row server) (take i es) ++ row server e ∷ []
 rows_more server es i e at = ap (map (row server)) (take_more es i e at) ∙ map-append (row server) (take i es) (e ∷ [])
 
 -- the entry of a number
-pub entry_of_number : (es : List Entry) (i n : ℕ) → slice_get (map (λ (e : Entry). e.0.1) es) i ≡ Some n → (e : Entry) × (slice_get es i ≡ Some e) × (e.0.1 ≡ n)
+pub entry_of_number : (es : List ShareEntry) (i n : ℕ) → slice_get (map (λ (e : ShareEntry). e.0.1) es) i ≡ Some n → (e : ShareEntry) × (slice_get es i ≡ Some e) × (e.0.1 ≡ n)
 entry_of_number [] i n at = cc
 entry_of_number (x ∷ es) zero n at = (x, refl, cc)
 entry_of_number (x ∷ es) (suc i) n at = entry_of_number es i n at
 
-pub rows_missing : (P : ℕ × ℕ × List ℕ → Type 0) (server : ℕ) (es : List Entry) → ((e : Entry) → P (row server e)) → AllBut P (map (row server) es) []
+pub rows_missing : (P : ℕ × ℕ × List ℕ → Type 0) (server : ℕ) (es : List ShareEntry) → ((e : ShareEntry) → P (row server e)) → AllBut P (map (row server) es) []
 rows_missing P server [] f = refl
 rows_missing P server (e ∷ es) f = inl (f e, rows_missing P server es f)
 
@@ -82,7 +82,7 @@ rises_or_stays a b le Q rose calm = by_case (grind arith)
     by_case (inl e) = calm e
     by_case (inr lt) = rose lt
 
-pub past_end : (es : List Entry) (i : ℕ) → None ≡ slice_get es i → length es ≤ i
+pub past_end : (es : List ShareEntry) (i : ℕ) → None ≡ slice_get es i → length es ≤ i
 past_end [] i none = omega arith
 past_end (e ∷ es) zero none = cc
 past_end (e ∷ es) (suc i) none = omega (arith, past_end es i none)

@@ -8,7 +8,7 @@ use Rattle.grid.specs.Rows.{Row}
 use Rattle.grid.specs.RowOrder.{RowKey, row_cmp, row_key, comes_after, AllBefore}
 use Rattle.grid.specs.Layout.{layout_said, wide, front as front_size, row_front}
 use Rattle.grid.specs.ImageHeads.{head_key, shares_said}
-use Rattle.grid.specs.ImageReading.{Reading, rows_said, said_in, said_as, image_said, from_said, stopped, preceded, said_row}
+use Rattle.grid.specs.ImageReading.{RowsRead, rows_said, said_in, said_as, image_said, from_said, stopped, preceded, said_row}
 use Rattle.grid.specs.ImageSteps.{SaysRow, Reads}
 use Rattle.std.specs.Io.KnownBytes.{IsAtEnd}
 use Rattle.grid.specs.Refusals.{IsPartRefusal, IsPutRefusal, IsReaderRefusal}
@@ -32,7 +32,7 @@ before_later [] k l less h = tt
 before_later (row ∷ rows) k l less h = (row_cmp_total.trans (row_key row) k l h.0 less, before_later rows k l less h.1)
 
 -- So far these rows were read, and so many are left to be read.
-pub record SoFar (all : Reading) (layout : Layout) (left servers : ℕ) (last : Option RowKey) (place : ℕ) (now : Option (List ℕ)) (good : Type 0) (held : List Row) : Type 0 where
+pub record SoFar (all : RowsRead) (layout : Layout) (left servers : ℕ) (last : Option RowKey) (place : ℕ) (now : Option (List ℕ)) (good : Type 0) (held : List Row) : Type 0 where
   pub first : List Row
   pub bytes : List ℕ
   pub told : now ≡ Some bytes
@@ -53,8 +53,8 @@ starts (Some bytes) layout n count servers place good held same here none = reco
   before = λ key after. tt;
 }
 
-module _ (all : List ℕ → Reading) (layout : Layout) (servers : ℕ) (good : Type 0) where
-  says_more : (r1 r2 : Option (List ℕ)) (whole : Reading) (n m place next : ℕ) (last : Option RowKey) (held new : List Row) (head : RowHead) (own : List ℕ) → n ≡ suc m → next ≡ place + row_front layout + head.length
+module _ (all : List ℕ → RowsRead) (layout : Layout) (servers : ℕ) (good : Type 0) where
+  says_more : (r1 r2 : Option (List ℕ)) (whole : RowsRead) (n m place next : ℕ) (last : Option RowKey) (held new : List Row) (head : RowHead) (own : List ℕ) → n ≡ suc m → next ≡ place + row_front layout + head.length
       → comes_after last (head_key head) ≡ true → (good → AllBefore held (head_key head) → new ≡ held ++ said_row head own ∷ []) → SoFar whole layout n servers last place r1 good held
       → (bytes : List ℕ) → r1 ≡ Some bytes → SaysRow layout servers last place bytes r2 head own → SoFar whole layout m servers (Some (head_key head)) next r2 good new
   says_more r1 r2 whole n m place next last held new head own same stands after put s bytes at row =
@@ -108,11 +108,11 @@ module _ (all : List ℕ → Reading) (layout : Layout) (servers : ℕ) (good : 
             ∙ ap (λ b. preceded s.first (rows_said layout n servers last place b)) is
             ∙ ap (λ k. preceded s.first (rows_said layout k servers last place now)) same
             ∙ ap (preceded s.first) (bad p cause m) in
-            (ap (λ (r : Reading). r.fault) stops, λ g. s.stand g ∙ sym (append-nil s.first) ∙ ap (λ (r : Reading). r.rows) (sym stops));
+            (ap (λ (r : RowsRead). r.fault) stops, λ g. s.stand g ∙ sym (append-nil s.first) ∙ ap (λ (r : RowsRead). r.rows) (sym stops));
         full = λ server named. let cause : error ≡ Full server = cc in absurd (subst IsPartRefusal cause part);
         err = λ g. record {
           others = (rows_said layout n servers last place s.bytes).rows;
-          joined = ap (λ (r : Reading). r.rows) s.says ∙ ap (λ l. l ++ (rows_said layout n servers last place s.bytes).rows) (sym (s.stand g));
+          joined = ap (λ (r : RowsRead). r.rows) s.says ∙ ap (λ l. l ++ (rows_said layout n servers last place s.bytes).rows) (sym (s.stand g));
         };
       }
 
@@ -136,10 +136,10 @@ module _ (all : List ℕ → Reading) (layout : Layout) (servers : ℕ) (good : 
       let is : s.bytes ≡ now = cc in
       let rest = (rows_said layout m servers (Some (head_key head)) (place + row_front layout + head.length) row.rest).rows in
       let joined : (all bytes).rows ≡ s.first ++ said_row head own ∷ rest =
-      ap (λ (r : Reading). r.rows) s.says
+      ap (λ (r : RowsRead). r.rows) s.says
       ∙ ap (λ b. s.first ++ (rows_said layout n servers last place b).rows) is
       ∙ ap (λ k. s.first ++ (rows_said layout k servers last place now).rows) same
-      ∙ ap (λ (r : Reading). s.first ++ r.rows) (row.says m) in
+      ∙ ap (λ (r : RowsRead). s.first ++ r.rows) (row.says m) in
       record {
         no_fault = tt;
         end = tt;
@@ -182,11 +182,11 @@ module _ (all : List ℕ → Reading) (layout : Layout) (servers : ℕ) (good : 
             ∙ ap (λ b. preceded s.first (rows_said layout n servers last place b)) is
             ∙ ap (λ k. preceded s.first (rows_said layout k servers last place now)) none
             ∙ ap (preceded s.first) (too_many now more.1) in
-            (ap (λ (r : Reading). r.fault) stops ∙ ap Some (sym more.0), λ g. s.stand g ∙ sym (append-nil s.first) ∙ ap (λ (r : Reading). r.rows) (sym stops));
+            (ap (λ (r : RowsRead). r.fault) stops ∙ ap Some (sym more.0), λ g. s.stand g ∙ sym (append-nil s.first) ∙ ap (λ (r : RowsRead). r.rows) (sym stops));
         full = λ server named. let cause : error ≡ Full server = cc in absurd (subst IsPartRefusal cause part);
         err = λ g. record {
           others = (rows_said layout n servers last place s.bytes).rows;
-          joined = ap (λ (r : Reading). r.rows) s.says ∙ ap (λ l. l ++ (rows_said layout n servers last place s.bytes).rows) (sym (s.stand g));
+          joined = ap (λ (r : RowsRead). r.rows) s.says ∙ ap (λ l. l ++ (rows_said layout n servers last place s.bytes).rows) (sym (s.stand g));
         };
       }
     where
@@ -207,16 +207,16 @@ module _ (all : List ℕ → Reading) (layout : Layout) (servers : ℕ) (good : 
       ∙ ap (λ b. preceded s.first (rows_said layout n servers last place b)) is
       ∙ ap (λ k. preceded s.first (rows_said layout k servers last place [])) none in
       record {
-        no_fault = ap (λ (r : Reading). r.fault) whole;
+        no_fault = ap (λ (r : RowsRead). r.fault) whole;
         end = subst IsAtEnd (sym end.1) refl;
-        rows = λ g. s.stand g ∙ sym (append-nil s.first) ∙ ap (λ (r : Reading). r.rows) (sym whole);
+        rows = λ g. s.stand g ∙ sym (append-nil s.first) ∙ ap (λ (r : RowsRead). r.rows) (sym whole);
         bad_image = λ p named. cc;
         full = λ server named. cc;
         err = λ g. tt;
       }
 
 -- an error that `?` passed on
-pub reads_passed : (r0 r2 : Option (List ℕ)) (all : List ℕ → Reading) (room : ℕ → ℕ) (good : Type 0) (held : List Row) (result : Result (Unit {0}) GridFault) (error : GridFault) → IsErrAnd result (λ e. e ≡ error)
+pub reads_passed : (r0 r2 : Option (List ℕ)) (all : List ℕ → RowsRead) (room : ℕ → ℕ) (good : Type 0) (held : List Row) (result : Result (Unit {0}) GridFault) (error : GridFault) → IsErrAnd result (λ e. e ≡ error)
     → IfSome r0 (λ bytes. Reads (all bytes) (Err error) room good held r2) → IfSome r0 (λ bytes. Reads (all bytes) result room good held r2)
 reads_passed r0 r2 all room good held (Ok x) error same reads = absurd same
 reads_passed r0 r2 all room good held (Err e) error same reads = subst (λ f. IfSome r0 (λ bytes. Reads (all bytes) (Err f) room good held r2)) (sym same) reads
@@ -224,7 +224,7 @@ reads_passed r0 r2 all room good held (Err e) error same reads = subst (λ f. If
 -- ---- the bytes before the rows
 
 -- the first bytes named a layout
-pub named : (r0 r1 : Option (List ℕ)) (servers : ℕ) (front : List ℕ) (P : Reading → Type 0) (layout : Layout) → IfSome r0 (λ bytes. (front ≡ take 8 bytes) × (r1 ≡ Some (drop 8 bytes))) → layout_said front ≡ Some layout
+pub named : (r0 r1 : Option (List ℕ)) (servers : ℕ) (front : List ℕ) (P : RowsRead → Type 0) (layout : Layout) → IfSome r0 (λ bytes. (front ≡ take 8 bytes) × (r1 ≡ Some (drop 8 bytes))) → layout_said front ≡ Some layout
     → IfSome r1 (λ bytes. P (said_in layout servers bytes)) → IfSome r0 (λ bytes. P (image_said servers bytes))
 named None r1 servers front P layout came said rest = tt
 named (Some bytes) None servers front P layout came said rest = let no = came.1 in cc
@@ -243,7 +243,7 @@ not_named None r1 servers front came said = tt
 not_named (Some bytes) r1 servers front came said = ap (λ f. said_as (layout_said f) servers (drop 8 bytes)) (sym came.0) ∙ ap (λ o. said_as o servers (drop 8 bytes)) said
 
 -- the bytes behind the name said how many rows there are
-pub counted : (r0 r1 : Option (List ℕ)) (layout : Layout) (servers : ℕ) (front : List ℕ) (P : Reading → Type 0) (count : ℕ) → IfSome r0 (λ bytes. (front ≡ take (4 + wide layout) bytes) × (r1 ≡ Some (drop (4 + wide layout) bytes)))
+pub counted : (r0 r1 : Option (List ℕ)) (layout : Layout) (servers : ℕ) (front : List ℕ) (P : RowsRead → Type 0) (count : ℕ) → IfSome r0 (λ bytes. (front ≡ take (4 + wide layout) bytes) × (r1 ≡ Some (drop (4 + wide layout) bytes)))
     → shares_said layout servers front ≡ Ok count → IfSome r1 (λ bytes. P (rows_said layout count servers None (front_size layout) bytes)) → IfSome r0 (λ bytes. P (said_in layout servers bytes))
 counted None r1 layout servers front P count came said rest = tt
 counted (Some bytes) None layout servers front P count came said rest = let no = came.1 in cc
@@ -265,7 +265,7 @@ not_counted (Some bytes) r1 layout servers front place came said =
     ap (λ f. from_said layout (shares_said layout servers f) servers (drop (4 + wide layout) bytes)) (sym came.0) ∙ ap (λ r. from_said layout r servers (drop (4 + wide layout) bytes)) said
 
 -- the fault stands before the rows
-pub bad_front : (r0 r2 : Option (List ℕ)) (all : List ℕ → Reading) (place : ℕ) (room : ℕ → ℕ) (good : Type 0) (held : List Row) → (good → held ≡ []) → IfSome r0 (λ bytes. all bytes ≡ stopped place)
+pub bad_front : (r0 r2 : Option (List ℕ)) (all : List ℕ → RowsRead) (place : ℕ) (room : ℕ → ℕ) (good : Type 0) (held : List Row) → (good → held ≡ []) → IfSome r0 (λ bytes. all bytes ≡ stopped place)
     → IfSome r0 (λ bytes. Reads (all bytes) (Err (BadImage place)) room good held r2)
 bad_front None r2 all place room good held none is = tt
 bad_front (Some bytes) r2 all place room good held none is =
@@ -273,13 +273,13 @@ bad_front (Some bytes) r2 all place room good held none is =
       no_fault = tt;
       end = tt;
       rows = λ g. tt;
-      bad_image = λ p named. (ap (λ (r : Reading). r.fault) is ∙ (let same : place ≡ p = cc in ap Some same), λ g. none g ∙ ap (λ (r : Reading). r.rows) (sym is));
+      bad_image = λ p named. (ap (λ (r : RowsRead). r.fault) is ∙ (let same : place ≡ p = cc in ap Some same), λ g. none g ∙ ap (λ (r : RowsRead). r.rows) (sym is));
       full = λ server named. cc;
-      err = λ g. record { others = []; joined = ap (λ (r : Reading). r.rows) is ∙ sym (append-nil []) ∙ ap (λ l. l ++ []) (sym (none g)) };
+      err = λ g. record { others = []; joined = ap (λ (r : RowsRead). r.rows) is ∙ sym (append-nil []) ∙ ap (λ l. l ++ []) (sym (none g)) };
     }
 
 -- the first bytes could not be read
-pub no_front : (r0 r2 : Option (List ℕ)) (all : List ℕ → Reading) (error : GridFault) (room : ℕ → ℕ) (good : Type 0) (held : List Row) → (good → held ≡ []) → IsReaderRefusal error
+pub no_front : (r0 r2 : Option (List ℕ)) (all : List ℕ → RowsRead) (error : GridFault) (room : ℕ → ℕ) (good : Type 0) (held : List Row) → (good → held ≡ []) → IsReaderRefusal error
     → IfSome r0 (λ bytes. Reads (all bytes) (Err error) room good held r2)
 no_front None r2 all error room good held none part = tt
 no_front (Some bytes) r2 all error room good held none part = record {
@@ -297,7 +297,7 @@ told_too None P Q h f = tt
 told_too (Some bytes) P Q h f = f bytes h
 
 -- the same under a stronger premise
-pub reads_under : {said : Reading} {result : Result (Unit {0}) GridFault} {room : ℕ → ℕ} (good better : Type 0) {held : List Row} {after : Option (List ℕ)} → (better → good) → Reads said result room good held after → Reads said result room better held after
+pub reads_under : {said : RowsRead} {result : Result (Unit {0}) GridFault} {room : ℕ → ℕ} (good better : Type 0) {held : List Row} {after : Option (List ℕ)} → (better → good) → Reads said result room good held after → Reads said result room better held after
 reads_under good better f reads = record {
   no_fault = reads.no_fault;
   end = reads.end;

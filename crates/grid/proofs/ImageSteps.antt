@@ -4,13 +4,13 @@ use Rattle.std.proofs.lemmas.Bool.{lt-ltb, le-ltb}
 use Rattle.grid.specs.RowOrder.{RowKey}
 use Rattle.grid.specs.Layout.{row_front}
 use Rattle.grid.specs.ImageHeads.{head_key, head_said}
-use Rattle.grid.specs.ImageReading.{Reading, rows_said, with_row, stopped, preceded, said_row}
+use Rattle.grid.specs.ImageReading.{RowsRead, rows_said, with_row, stopped, preceded, said_row}
 use Rattle.grid.specs.ImageSteps.{SaysRow}
 use Rattle.grid.specs.declared.image_fields.RowHead.{RowHead}
 use Rattle.grid.specs.declared.image_layout.Layout.{Layout}
 
 module _ (layout : Layout) (servers : ℕ) (last : Option RowKey) (place : ℕ) where
-  abbrev next_said : ℕ → List ℕ → RowHead → Reading
+  abbrev next_said : ℕ → List ℕ → RowHead → RowsRead
   next_said n left head = rows_said layout n servers (Some (head_key head)) (place + row_front layout + head.length) (drop head.length (drop (row_front layout) left))
 
   pub says_row : (r0 r1 r2 : Option (List ℕ)) (front own : List ℕ) (head : RowHead) → IfSome r0 (λ left. (front ≡ take (row_front layout) left) × (r1 ≡ Some (drop (row_front layout) left))) → head_said layout servers last front ≡ Ok head

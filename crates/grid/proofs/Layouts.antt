@@ -4,7 +4,7 @@ use Rattle.std.specs.Int.{from_be_bytes, w32, w64}
 use Rattle.std.specs.Cmp.Lexicographic.{pointwise}
 use Rattle.std.proofs.lemmas.List.{length-drop}
 use Rattle.std.proofs.lemmas.Nat.{be_bytes_4, be_bytes_8, from_be_bytes-to_be_bytes_4, from_be_bytes-to_be_bytes_8}
-use Rattle.grid.specs.Layout.{name, layout_said, wide, be32, be64, number_at, long_number_at, count_bytes, count_at, count_limit}
+use Rattle.grid.specs.Layout.{name, layout_said, wide, be32, be64, u32_at, long_number_at, count_bytes, count_at, count_limit}
 use Rattle.grid.specs.declared.image_layout.Layout.{Layout}
 use Rattle.grid.specs.declared.image_layout.Layout.TheVariants.{VersionOne, VersionTwo}
 use Rattle.grid.proofs.Entries.{same_bytes}
@@ -64,15 +64,15 @@ unfolding be64
 from-be64 n lt = from_be_bytes-to_be_bytes_8 n lt
 
 -- a number behind so many bytes
-pub number_behind : (front back : List ℕ) (n at : ℕ) → length front ≡ at → n < 2 ^ 32 → number_at (front ++ (be32 n ++ back)) at ≡ n
-unfolding number_at
+pub number_behind : (front back : List ℕ) (n at : ℕ) → length front ≡ at → n < 2 ^ 32 → u32_at (front ++ (be32 n ++ back)) at ≡ n
+unfolding u32_at
 number_behind front back n at long lt =
     ap (λ l. from_be_bytes w32 (take 4 l)) (drop_at front (be32 n ++ back) at long)
     ∙ ap (from_be_bytes w32) (take_at (be32 n) back 4 (length-be32 n))
     ∙ from-be32 n lt
 
-number_last : (front : List ℕ) (n at : ℕ) → length front ≡ at → n < 2 ^ 32 → number_at (front ++ be32 n) at ≡ n
-number_last front n at long lt = ap (λ l. number_at (front ++ l) at) (sym (append-nil (be32 n))) ∙ number_behind front [] n at long lt
+number_last : (front : List ℕ) (n at : ℕ) → length front ≡ at → n < 2 ^ 32 → u32_at (front ++ be32 n) at ≡ n
+number_last front n at long lt = ap (λ l. u32_at (front ++ l) at) (sym (append-nil (be32 n))) ∙ number_behind front [] n at long lt
 
 long_last : (front : List ℕ) (n at : ℕ) → length front ≡ at → n < 2 ^ 64 → long_number_at (front ++ be64 n) at ≡ n
 unfolding long_number_at
@@ -113,8 +113,8 @@ low_at (b ∷ bytes) low zero = low.0
 low_at (b ∷ bytes) low (suc i) = low_at bytes low.1 i
 
 -- a number's bytes are those at its place
-pub be32-number_at : (bytes : List ℕ) (at : ℕ) → Low bytes → at + 4 ≤ length bytes → be32 (number_at bytes at) ≡ take 4 (drop at bytes)
-unfolding be32 number_at
+pub be32-number_at : (bytes : List ℕ) (at : ℕ) → Low bytes → at + 4 ≤ length bytes → be32 (u32_at bytes at) ≡ take 4 (drop at bytes)
+unfolding be32 u32_at
 be32-number_at bytes at low le =
     let four = take 4 (drop at bytes) in
     be_bytes_4 four (from_be_bytes w32 four) (length-take-le 4 (drop at bytes) (omega (arith, length-drop at bytes))) (low_at four (low_take 4 (drop at bytes) (low_drop at bytes low))) refl
@@ -129,8 +129,8 @@ pub bytes-count_at : (layout : Layout) (bytes : List ℕ) (at : ℕ) → Low byt
 bytes-count_at VersionOne bytes at low le = be32-number_at bytes at low le
 bytes-count_at VersionTwo bytes at low le = be64-number_at bytes at low le
 
-pub number_fits : (bytes : List ℕ) (at : ℕ) → Low bytes → number_at bytes at < 2 ^ 32
-unfolding number_at
+pub number_fits : (bytes : List ℕ) (at : ℕ) → Low bytes → u32_at bytes at < 2 ^ 32
+unfolding u32_at
 number_fits bytes at low =
     let four = take 4 (drop at bytes) in
     let each : (i : ℕ) → get_or four i 0 < 256 = low_at four (low_take 4 (drop at bytes) (low_drop at bytes low)) in

@@ -15,7 +15,7 @@ use Rattle.grid.specs.Standing.{Standing, standing}
 use Rattle.grid.specs.Changes.{changed_at}
 use Rattle.grid.specs.Placement.{server_of, placed}
 use Rattle.grid.specs.Leaves.{HoldsAsBefore}
-use Rattle.grid.specs.Changed.{ArePut, StopsAt, IsLost, IsSpoiled}
+use Rattle.grid.specs.Changed.{ArePut, PutStopsAt, IsLost, IsSpoiled}
 use Rattle.grid.specs.Stamped.{IsStamped}
 use Rattle.grid.specs.Histories.{TellsOfChange}
 
@@ -31,9 +31,9 @@ module _ {old mid : GridState} (new : GridState) (index : List ℕ) (is : mid �
   pub put_raised : (shares : List (List ℕ)) → ArePut index shares mid new → ArePut index shares old new
   put_raised shares put = let p = subst (λ (g : GridState). ArePut index shares g new) is put in record { stands = p.stands; rooms = p.rooms }
 
-  pub stops_raised : (shares : List (List ℕ)) (fault : GridFault) → StopsAt index shares mid new fault → StopsAt index shares old new fault
+  pub stops_raised : (shares : List (List ℕ)) (fault : GridFault) → PutStopsAt index shares mid new fault → PutStopsAt index shares old new fault
   stops_raised shares fault stops =
-      let p = subst (λ (g : GridState). StopsAt index shares g new fault) is stops in
+      let p = subst (λ (g : GridState). PutStopsAt index shares g new fault) is stops in
       record {
         n = p.n;
         share = p.share;

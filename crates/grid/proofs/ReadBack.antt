@@ -6,10 +6,10 @@ use Rattle.std.proofs.lemmas.Bool.Decides.{nat_tests}
 use Rattle.std.proofs.lemmas.List.Elements.{All-tail}
 use Rattle.grid.specs.Rows.{Row}
 use Rattle.grid.specs.RowOrder.{RowKey, row_key, comes_after, in_order}
-use Rattle.grid.specs.Layout.{name, layout_said, wide, front, row_front, be32, number_at, count_bytes, count_at, count_limit}
+use Rattle.grid.specs.Layout.{name, layout_said, wide, front, row_front, be32, u32_at, count_bytes, count_at, count_limit}
 use Rattle.grid.specs.Image.{image_in, row_head, row_bytes}
 use Rattle.grid.specs.ImageHeads.{head_key, shares_said, head_said}
-use Rattle.grid.specs.ImageReading.{Reading, rows_said, said_as, image_said, from_said, with_row, stopped, preceded, said_row}
+use Rattle.grid.specs.ImageReading.{RowsRead, rows_said, said_as, image_said, from_said, with_row, stopped, preceded, said_row}
 use Rattle.grid.specs.ImageLaws.{IsInRange, CanBeWritten}
 use Rattle.grid.specs.declared.image_fields.RowHead.{RowHead}
 use Rattle.grid.specs.declared.image_layout.Layout.{Layout}
@@ -25,17 +25,17 @@ abbrev front_tested : Bool → Bool → Bool → ℕ → Result ℕ ℕ
 front_tested b0 b1 b2 count = if b0 then Err 8 else if not b1 then Err 8 else if b2 then Err 12 else Ok count
 
 -- what the bytes before a share's own say, by their fields
-said_by_fields : (layout : Layout) (servers : ℕ) (last : Option RowKey) (bytes : List ℕ) (s n l : ℕ) (i : List ℕ) → length bytes ≡ row_front layout → number_at bytes 0 ≡ s → take 16 (drop 4 bytes) ≡ i → number_at bytes 20 ≡ n → count_at layout bytes 24 ≡ l
+said_by_fields : (layout : Layout) (servers : ℕ) (last : Option RowKey) (bytes : List ℕ) (s n l : ℕ) (i : List ℕ) → length bytes ≡ row_front layout → u32_at bytes 0 ≡ s → take 16 (drop 4 bytes) ≡ i → u32_at bytes 20 ≡ n → count_at layout bytes 24 ≡ l
     → s < servers → comes_after last (s, (i, n)) ≡ true → n < 256 → 0 < l → head_said layout servers last bytes ≡ Ok (record { server = s; index = i; number = n; length = l })
 said_by_fields layout servers last bytes s n l i long e0 e4 e20 e24 lt after small some =
-    by_tests (nat_lt (length bytes) 4) (nat_lt (number_at bytes 0) servers) (nat_lt (length bytes) 20) (nat_lt (length bytes) 24)
-    (comes_after last (number_at bytes 0, (take 16 (drop 4 bytes), number_at bytes 20))) (nat_lt (number_at bytes 20) 256) (nat_lt (length bytes) (row_front layout)) (count_at layout bytes 24 == 0)
-    (number_at bytes 0) (number_at bytes 20) (count_at layout bytes 24) (take 16 (drop 4 bytes))
-    (le-ltb (length bytes) 4 (omega arith)) (lt-ltb (number_at bytes 0) servers (omega arith)) (le-ltb (length bytes) 20 (omega arith)) (le-ltb (length bytes) 24 (omega arith))
-    (ap (λ k. comes_after last (k, (take 16 (drop 4 bytes), number_at bytes 20))) e0 ∙ ap (λ k. comes_after last (s, (k, number_at bytes 20))) e4 ∙ ap (λ k. comes_after last (s, (i, k))) e20 ∙ after)
-    (lt-ltb (number_at bytes 20) 256 (omega arith)) (le-ltb (length bytes) (row_front layout) (omega arith)) (by_number (count_at layout bytes 24) (omega arith))
-    ∙ ap (λ k. Ok (record { server = k; index = take 16 (drop 4 bytes); number = number_at bytes 20; length = count_at layout bytes 24 })) e0
-    ∙ ap (λ k. Ok (record { server = s; index = k; number = number_at bytes 20; length = count_at layout bytes 24 })) e4
+    by_tests (nat_lt (length bytes) 4) (nat_lt (u32_at bytes 0) servers) (nat_lt (length bytes) 20) (nat_lt (length bytes) 24)
+    (comes_after last (u32_at bytes 0, (take 16 (drop 4 bytes), u32_at bytes 20))) (nat_lt (u32_at bytes 20) 256) (nat_lt (length bytes) (row_front layout)) (count_at layout bytes 24 == 0)
+    (u32_at bytes 0) (u32_at bytes 20) (count_at layout bytes 24) (take 16 (drop 4 bytes))
+    (le-ltb (length bytes) 4 (omega arith)) (lt-ltb (u32_at bytes 0) servers (omega arith)) (le-ltb (length bytes) 20 (omega arith)) (le-ltb (length bytes) 24 (omega arith))
+    (ap (λ k. comes_after last (k, (take 16 (drop 4 bytes), u32_at bytes 20))) e0 ∙ ap (λ k. comes_after last (s, (k, u32_at bytes 20))) e4 ∙ ap (λ k. comes_after last (s, (i, k))) e20 ∙ after)
+    (lt-ltb (u32_at bytes 20) 256 (omega arith)) (le-ltb (length bytes) (row_front layout) (omega arith)) (by_number (count_at layout bytes 24) (omega arith))
+    ∙ ap (λ k. Ok (record { server = k; index = take 16 (drop 4 bytes); number = u32_at bytes 20; length = count_at layout bytes 24 })) e0
+    ∙ ap (λ k. Ok (record { server = s; index = k; number = u32_at bytes 20; length = count_at layout bytes 24 })) e4
     ∙ ap (λ k. Ok (record { server = s; index = i; number = k; length = count_at layout bytes 24 })) e20
     ∙ ap (λ k. Ok (record { server = s; index = i; number = n; length = k })) e24
   where
@@ -62,9 +62,9 @@ head_back layout servers last row fits range after =
     let whole : length (((s ++ i) ++ n) ++ l) ≡ row_front layout = omega (arith, length-append ((s ++ i) ++ n) l) in
     let behind : ((s ++ i) ++ n) ++ l ≡ s ++ (i ++ (n ++ l)) = append_assoc (s ++ i) n l ∙ append_assoc s i (n ++ l) in
     said_by_fields layout servers last (row_head layout row) row.0 row.1.0.1 (length row.1.1) i whole
-    (ap (λ b. number_at b 0) behind ∙ number_behind [] (i ++ (n ++ l)) row.0 0 refl (omega (arith, range.server)))
+    (ap (λ b. u32_at b 0) behind ∙ number_behind [] (i ++ (n ++ l)) row.0 0 refl (omega (arith, range.server)))
     (ap (λ b. take 16 (drop 4 b)) behind ∙ ap (take 16) (drop_at s (i ++ (n ++ l)) 4 s4) ∙ take_at i (n ++ l) 16 range.index)
-    (ap (λ b. number_at b 20) (append_assoc (s ++ i) n l) ∙ number_behind (s ++ i) l row.1.0.1 20 si (omega (arith, range.number)))
+    (ap (λ b. u32_at b 20) (append_assoc (s ++ i) n l) ∙ number_behind (s ++ i) l row.1.0.1 20 si (omega (arith, range.number)))
     (count_last layout ((s ++ i) ++ n) (length row.1.1) 24 sin range.short)
     range.server after range.number range.some
 
@@ -96,7 +96,7 @@ rows_back layout servers last place (row ∷ rows) fits range ordered =
     let rest = flat_map (row_bytes layout) rows in
     let here : IsInRange layout servers row = range zero row (omega arith) in
     let head : RowHead = record { server = row.0; index = row.1.0.0; number = row.1.0.1; length = length own } in
-    let next : RowHead → List ℕ → Reading = λ h body. rows_said layout (length rows) servers (Some (head_key h)) (place + row_front layout + h.length) (drop h.length body) in
+    let next : RowHead → List ℕ → RowsRead = λ h body. rows_said layout (length rows) servers (Some (head_key h)) (place + row_front layout + h.length) (drop h.length body) in
     let long = length-row_head layout row here.index in
     let after = left (comes_after last (row_key row)) _ ordered in
     let all : row_bytes layout row ++ rest ≡ row_head layout row ++ (own ++ rest) = append_assoc (row_head layout row) own rest in
@@ -123,10 +123,10 @@ unfolding behind_name
 count_back layout servers count fits few =
     let bytes = be32 servers ++ count_bytes layout count in
     let long : length bytes ≡ 4 + wide layout = length-behind layout servers count in
-    let e0 : number_at bytes 0 ≡ servers = number_behind [] (count_bytes layout count) servers 0 refl fits in
+    let e0 : u32_at bytes 0 ≡ servers = number_behind [] (count_bytes layout count) servers 0 refl fits in
     let e4 : count_at layout bytes 4 ≡ count = count_last layout (be32 servers) count 4 (length-be32 servers) few in
-    by_tests (nat_lt (length bytes) 4) (number_at bytes 0 == servers) (nat_lt (length bytes) (4 + wide layout)) (count_at layout bytes 4)
-    (le-ltb (length bytes) 4 (omega arith)) (eq-eqb (number_at bytes 0) servers e0) (le-ltb (length bytes) (4 + wide layout) (omega arith))
+    by_tests (nat_lt (length bytes) 4) (u32_at bytes 0 == servers) (nat_lt (length bytes) (4 + wide layout)) (count_at layout bytes 4)
+    (le-ltb (length bytes) 4 (omega arith)) (eq-eqb (u32_at bytes 0) servers e0) (le-ltb (length bytes) (4 + wide layout) (omega arith))
     ∙ ap Ok e4
   where
     by_tests : (b0 b1 b2 : Bool) (v : ℕ) → b0 ≡ false → b1 ≡ true → b2 ≡ false → front_tested b0 b1 b2 v ≡ Ok v

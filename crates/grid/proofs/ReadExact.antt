@@ -7,10 +7,10 @@ use Rattle.std.proofs.lemmas.List.{length-take, length-drop, take_all}
 use Rattle.std.proofs.Math.Seq.{take-add}
 use Rattle.grid.specs.Rows.{Row}
 use Rattle.grid.specs.RowOrder.{RowKey, row_key, comes_after, in_order}
-use Rattle.grid.specs.Layout.{name, layout_said, wide, front as front_size, row_front, be32, number_at, count_bytes, count_at}
+use Rattle.grid.specs.Layout.{name, layout_said, wide, front as front_size, row_front, be32, u32_at, count_bytes, count_at}
 use Rattle.grid.specs.Image.{image_head, row_head, row_bytes}
 use Rattle.grid.specs.ImageHeads.{head_key, shares_said, head_said}
-use Rattle.grid.specs.ImageReading.{Reading, rows_said, said_as, image_said, from_said, with_row, stopped, preceded, said_row}
+use Rattle.grid.specs.ImageReading.{RowsRead, rows_said, said_as, image_said, from_said, with_row, stopped, preceded, said_row}
 use Rattle.grid.specs.ImageLaws.{IsInRange, IsImage}
 use Rattle.grid.specs.declared.image_fields.RowHead.{RowHead}
 use Rattle.grid.specs.declared.image_layout.Layout.{Layout}
@@ -30,9 +30,9 @@ module _ {T : Type 0} where
 
 pub record GoodHead (layout : Layout) (servers : ℕ) (last : Option RowKey) (bytes : List ℕ) (head : RowHead) : Type 0 where
   pub long : row_front layout ≤ length bytes
-  pub server : head.server ≡ number_at bytes 0
+  pub server : head.server ≡ u32_at bytes 0
   pub index : head.index ≡ take 16 (drop 4 bytes)
-  pub number : head.number ≡ number_at bytes 20
+  pub number : head.number ≡ u32_at bytes 20
   pub size : head.length ≡ count_at layout bytes 24
   pub in_range : head.server < servers
   pub after : comes_after last (head_key head) ≡ true
@@ -42,14 +42,14 @@ pub record GoodHead (layout : Layout) (servers : ℕ) (last : Option RowKey) (by
 pub good_head : (layout : Layout) (servers : ℕ) (last : Option RowKey) (bytes : List ℕ) (head : RowHead) → head_said layout servers last bytes ≡ Ok head → GoodHead layout servers last bytes head
 good_head layout servers last bytes head said =
     let t0 = unless (nat_lt (length bytes) 4) 0 _ head said in
-    let t1 = only (nat_lt (number_at bytes 0) servers) 0 _ head t0.1 in
+    let t1 = only (nat_lt (u32_at bytes 0) servers) 0 _ head t0.1 in
     let t2 = unless (nat_lt (length bytes) 20) 4 _ head t1.1 in
     let t3 = unless (nat_lt (length bytes) 24) 20 _ head t2.1 in
-    let t4 = only (comes_after last (number_at bytes 0, (take 16 (drop 4 bytes), number_at bytes 20))) 0 _ head t3.1 in
-    let t5 = only (nat_lt (number_at bytes 20) 256) 20 _ head t4.1 in
+    let t4 = only (comes_after last (u32_at bytes 0, (take 16 (drop 4 bytes), u32_at bytes 20))) 0 _ head t3.1 in
+    let t5 = only (nat_lt (u32_at bytes 20) 256) 20 _ head t4.1 in
     let t6 = unless (nat_lt (length bytes) (row_front layout)) 24 _ head t5.1 in
     let t7 = unless (count_at layout bytes 24 == 0) 24 _ head t6.1 in
-    let made : RowHead = record { server = number_at bytes 0; index = take 16 (drop 4 bytes); number = number_at bytes 20; length = count_at layout bytes 24 } in
+    let made : RowHead = record { server = u32_at bytes 0; index = take 16 (drop 4 bytes); number = u32_at bytes 20; length = count_at layout bytes 24 } in
     let last_step : Ok made ≡ Ok head = t7.1 in
     let is : made ≡ head = cc in
     subst (GoodHead layout servers last bytes) is (record {
@@ -58,9 +58,9 @@ good_head layout servers last bytes head said =
       index = refl;
       number = refl;
       size = refl;
-      in_range = ltb-true (number_at bytes 0) servers t1.0;
+      in_range = ltb-true (u32_at bytes 0) servers t1.0;
       after = t4.0;
-      small = ltb-true (number_at bytes 20) 256 t5.0;
+      small = ltb-true (u32_at bytes 20) 256 t5.0;
       some = positive (count_at layout bytes 24) t7.0;
     })
   where
@@ -129,7 +129,7 @@ row_joined layout n servers last bytes head rows low said enough more =
       ordered = both (comes_after last (row_key row)) (in_order (Some (row_key row)) rows) good.after more.ordered;
     }
 
-row_exactly : (layout : Layout) (n servers : ℕ) (last : Option RowKey) (place : ℕ) (bytes : List ℕ) (r : Result RowHead ℕ) (next : RowHead → Reading) → Low bytes → head_said layout servers last (take (row_front layout) bytes) ≡ r
+row_exactly : (layout : Layout) (n servers : ℕ) (last : Option RowKey) (place : ℕ) (bytes : List ℕ) (r : Result RowHead ℕ) (next : RowHead → RowsRead) → Low bytes → head_said layout servers last (take (row_front layout) bytes) ≡ r
     → ((head : RowHead) → (next head).fault ≡ None → ReadExactly layout n servers (Some (head_key head)) (drop head.length (drop (row_front layout) bytes)) (next head).rows)
     → (with_row layout r place (drop (row_front layout) bytes) next).fault ≡ None → ReadExactly layout (suc n) servers last bytes (with_row layout r place (drop (row_front layout) bytes) next).rows
 row_exactly layout n servers last place bytes (Err offset) next low said rest none = cc
@@ -152,18 +152,18 @@ rows_exactly layout (suc n) servers last place bytes low none =
 -- the bytes between the name and the shares, where they are good
 pub record GoodFront (layout : Layout) (servers : ℕ) (bytes : List ℕ) (count : ℕ) : Type 0 where
   pub long : 4 + wide layout ≤ length bytes
-  pub said : number_at bytes 0 ≡ servers
+  pub said : u32_at bytes 0 ≡ servers
   pub counted : count_at layout bytes 4 ≡ count
 
 pub good_front : (layout : Layout) (servers : ℕ) (bytes : List ℕ) (count : ℕ) → shares_said layout servers bytes ≡ Ok count → GoodFront layout servers bytes count
 good_front layout servers bytes count said =
     let t1 = unless (nat_lt (length bytes) 4) 8 _ count said in
-    let t2 = only (number_at bytes 0 == servers) 8 _ count t1.1 in
+    let t2 = only (u32_at bytes 0 == servers) 8 _ count t1.1 in
     let t3 = unless (nat_lt (length bytes) (4 + wide layout)) 12 _ count t2.1 in
     let last_step : Ok (count_at layout bytes 4) ≡ Ok count = t3.1 in
     record {
       long = ltb-false (length bytes) (4 + wide layout) t3.0;
-      said = eqb-true (number_at bytes 0) servers t2.0;
+      said = eqb-true (u32_at bytes 0) servers t2.0;
       counted = cc;
     }
 

@@ -9,7 +9,7 @@ use Rattle.std.specs.Ordering.{is_lt, ordering_then, nat_cmp}
 use Rattle.std.specs.Cmp.{nat_cmp_is}
 use Rattle.std.specs.FinMap.{entries, entries_sorted, is_sorted, same_entries_map}
 use Rattle.std.specs.FinMap.Entries.{below_all}
-use Rattle.share_store.specs.Shares.{Shares, ShareKey, Entry, key_cmp}
+use Rattle.share_store.specs.Shares.{Shares, ShareKey, ShareEntry, key_cmp}
 use Rattle.grid.specs.Found.{entries_at}
 use Rattle.grid.specs.Rows.{Row, rows_below, rows_of}
 use Rattle.grid.specs.RowOrder.{RowKey, row_key, comes_after, in_order}
@@ -41,7 +41,7 @@ later_server : (m n : ℕ) (r : Ordering) → m < n → ordering_then (nat_cmp m
 later_server m n r lt = ap (λ o. ordering_then o r) (sym (nat_cmp_is m n Less lt))
 
 -- the rows of one server behind a row of it
-ordered_behind : (n : ℕ) (key : ShareKey) (es : List Entry) → below_all key_cmp key es ≡ true → is_sorted key_cmp es ≡ true → in_order (Some (n, key)) (map (λ e. (n, e)) es) ≡ true
+ordered_behind : (n : ℕ) (key : ShareKey) (es : List ShareEntry) → below_all key_cmp key es ≡ true → is_sorted key_cmp es ≡ true → in_order (Some (n, key)) (map (λ e. (n, e)) es) ≡ true
 ordered_behind n key [] below sorted = refl
 ordered_behind n key (e ∷ es) below sorted =
     both _ _ (ap is_lt (same_server n (key_cmp key e.0)) ∙ left (is_lt (key_cmp key e.0)) _ below)
@@ -56,7 +56,7 @@ after_earlier : (last : Option RowKey) (n : ℕ) (key : ShareKey) → Earlier la
 after_earlier None n key early = refl
 after_earlier (Some last) n key early = ap is_lt (later_server last.0 n (key_cmp last.1 key) early)
 
-ordered_at : (last : Option RowKey) (n : ℕ) (es : List Entry) → Earlier last n → is_sorted key_cmp es ≡ true → in_order last (map (λ e. (n, e)) es) ≡ true
+ordered_at : (last : Option RowKey) (n : ℕ) (es : List ShareEntry) → Earlier last n → is_sorted key_cmp es ≡ true → in_order last (map (λ e. (n, e)) es) ≡ true
 ordered_at last n [] early sorted = refl
 ordered_at last n (e ∷ es) early sorted = both _ _ (after_earlier last n e.0 early) (ordered_behind n e.0 es (left (below_all key_cmp e.0 es) _ sorted) (right (below_all key_cmp e.0 es) _ sorted))
 
@@ -65,7 +65,7 @@ unfolding last_of
 last_both last [] ys = refl
 last_both last (x ∷ xs) ys = last_both (Some (row_key x)) xs ys
 
-earlier_at : (last : Option RowKey) (n : ℕ) (es : List Entry) → Earlier last (suc n) → Earlier (last_of last (map (λ e. (n, e)) es)) (suc n)
+earlier_at : (last : Option RowKey) (n : ℕ) (es : List ShareEntry) → Earlier last (suc n) → Earlier (last_of last (map (λ e. (n, e)) es)) (suc n)
 unfolding last_of
 earlier_at last n [] early = early
 earlier_at last n (e ∷ es) early = earlier_at (Some (n, e.0)) n es (omega arith)
@@ -120,11 +120,11 @@ pub rows_from : (P : Row → Type 0) (rows : List Row) → All P rows → AllRow
 rows_from P [] all = tt
 rows_from P (row ∷ rows) all = (all zero row (omega arith), rows_from P rows (λ k d lt. all (suc k) d (omega arith)))
 
-here_below : (P : Entry → Type 0) (n : ℕ) (es : List Entry) → All P es → AllRows (λ row. (row.0 < suc n) × P row.1) (map (λ e. (n, e)) es)
+here_below : (P : ShareEntry → Type 0) (n : ℕ) (es : List ShareEntry) → All P es → AllRows (λ row. (row.0 < suc n) × P row.1) (map (λ e. (n, e)) es)
 here_below P n [] all = tt
 here_below P n (e ∷ es) all = ((omega arith, all zero e (omega arith)), here_below P n es (λ k d lt. all (suc k) d (omega arith)))
 
-below_all_rows : (P : Entry → Type 0) (maps : List Shares) (n : ℕ) → ((s : ℕ) → All P (entries_at maps s)) → AllRows (λ row. (row.0 < n) × P row.1) (rows_below maps n)
+below_all_rows : (P : ShareEntry → Type 0) (maps : List Shares) (n : ℕ) → ((s : ℕ) → All P (entries_at maps s)) → AllRows (λ row. (row.0 < n) × P row.1) (rows_below maps n)
 below_all_rows P maps zero each = tt
 below_all_rows P maps (suc n) each =
     rows_both (λ row. (row.0 < suc n) × P row.1) (rows_below maps n) (map (λ e. (n, e)) (entries_at maps n))
@@ -170,7 +170,7 @@ can_be_written maps servers same fits none sized short some =
 -- ---- maps by their rows
 
 -- those entries that stand in rows of one server
-entries_of_server : ℕ → List Row → List Entry
+entries_of_server : ℕ → List Row → List ShareEntry
 entries_of_server n [] = []
 entries_of_server n (row ∷ rows) = if row.0 == n then row.1 ∷ entries_of_server n rows else entries_of_server n rows
 
@@ -184,14 +184,14 @@ server_both n (x ∷ xs) ys = by_test (x.0 == n) (server_both n xs ys)
     by_test true rest = ap (λ l. x.1 ∷ l) rest
     by_test false rest = rest
 
-server_here : (n : ℕ) (es : List Entry) → entries_of_server n (map (λ e. (n, e)) es) ≡ es
+server_here : (n : ℕ) (es : List ShareEntry) → entries_of_server n (map (λ e. (n, e)) es) ≡ es
 unfolding entries_of_server
 server_here n [] = refl
 server_here n (e ∷ es) =
     let tested : (n == n) ≡ true = grind (arith, nat_tests) in
     ap (λ b. if b then e ∷ entries_of_server n (map (λ e. (n, e)) es) else entries_of_server n (map (λ e. (n, e)) es)) tested ∙ ap (λ l. e ∷ l) (server_here n es)
 
-server_other : (n m : ℕ) (es : List Entry) → (m ≡ n → ⊥) → entries_of_server n (map (λ e. (m, e)) es) ≡ []
+server_other : (n m : ℕ) (es : List ShareEntry) → (m ≡ n → ⊥) → entries_of_server n (map (λ e. (m, e)) es) ≡ []
 unfolding entries_of_server
 server_other n m [] other = refl
 server_other n m (e ∷ es) other =

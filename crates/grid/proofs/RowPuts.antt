@@ -10,7 +10,7 @@ use Rattle.std.specs.Ordering.{is_eq, ordering_then, ordering_reverse, nat_cmp}
 use Rattle.std.specs.Cmp.{nat_cmp_is}
 use Rattle.std.specs.FinMap.{find, insert, entries, get-entries, entries-insert}
 use Rattle.std.specs.FinMap.Entries.{put, by_order}
-use Rattle.share_store.specs.Shares.{Shares, ShareKey, Entry, key_cmp}
+use Rattle.share_store.specs.Shares.{Shares, ShareKey, ShareEntry, key_cmp}
 use Rattle.share_store.specs.Put.{put_once}
 use Rattle.grid.specs.Found.{entries_at}
 use Rattle.grid.specs.Rows.{Row, rows_below, rows_of}
@@ -21,20 +21,20 @@ use Rattle.grid.proofs.Standing.{get-set}
 
 -- ---- in one store
 
-abbrev KeysBefore : List Entry → ShareKey → Type 0
+abbrev KeysBefore : List ShareEntry → ShareKey → Type 0
 KeysBefore [] key = Unit {0}
 KeysBefore (e ∷ es) key = (key_cmp e.0 key ≡ Less) × KeysBefore es key
 
 behind : (a b : ShareKey) → key_cmp a b ≡ Less → key_cmp b a ≡ Greater
 behind a b less = key_cmp_total.antisymm b a ∙ ap ordering_reverse less
 
-put_last : (es : List Entry) (key : ShareKey) (bytes : List ℕ) → KeysBefore es key → put key_cmp key bytes es ≡ es ++ (key, bytes) ∷ []
+put_last : (es : List ShareEntry) (key : ShareKey) (bytes : List ℕ) → KeysBefore es key → put key_cmp key bytes es ≡ es ++ (key, bytes) ∷ []
 put_last [] key bytes before = refl
 put_last (e ∷ es) key bytes before =
     ap (λ o. by_order o ((key, bytes) ∷ e ∷ es) ((e.0, bytes) ∷ es) (e ∷ put key_cmp key bytes es)) (behind e.0 key before.0)
     ∙ ap (λ l. e ∷ l) (put_last es key bytes before.1)
 
-find_last : (es : List Entry) (key : ShareKey) → KeysBefore es key → find key_cmp key es ≡ None
+find_last : (es : List ShareEntry) (key : ShareKey) → KeysBefore es key → find key_cmp key es ≡ None
 find_last [] key before = refl
 find_last (e ∷ es) key before = ap (λ o. cond (is_eq o) (Some e.1) (find key_cmp key es)) (behind e.0 key before.0) ∙ find_last es key before.1
 
@@ -60,11 +60,11 @@ before_both (x ∷ xs) ys key p q = (p.0, before_both xs ys key p.1 q)
 same_server : (s : ℕ) (r : Ordering) → ordering_then (nat_cmp s s) r ≡ Less → r ≡ Less
 same_server s r less = sym (ap (λ o. ordering_then o r) (sym (nat_cmp_is s s Equal refl))) ∙ less
 
-keys_here : (s : ℕ) (es : List Entry) (key : ShareKey) → AllBefore (map (λ e. (s, e)) es) (s, key) → KeysBefore es key
+keys_here : (s : ℕ) (es : List ShareEntry) (key : ShareKey) → AllBefore (map (λ e. (s, e)) es) (s, key) → KeysBefore es key
 keys_here s [] key h = tt
 keys_here s (e ∷ es) key h = (same_server s (key_cmp e.0 key) h.0, keys_here s es key h.1)
 
-none_past : (n s : ℕ) (es : List Entry) (key : ShareKey) → s < n → AllBefore (map (λ e. (n, e)) es) (s, key) → es ≡ []
+none_past : (n s : ℕ) (es : List ShareEntry) (key : ShareKey) → s < n → AllBefore (map (λ e. (n, e)) es) (s, key) → es ≡ []
 none_past n s [] key past h = refl
 none_past n s (e ∷ es) key past h =
     let greater : nat_cmp n s ≡ Greater = sym (nat_cmp_is n s Greater past) in
@@ -100,7 +100,7 @@ module _ (maps : List Shares) (s : ℕ) (m : Shares) (key : ShareKey) (bytes : L
 
   at_it : AllBefore (rows_below maps (suc s)) (s, key) → rows_below after (suc s) ≡ rows_below maps (suc s) ++ row ∷ []
   at_it before =
-      let rows : List Entry → List Row = λ es. map (λ e. (s, e)) es in
+      let rows : List ShareEntry → List Row = λ es. map (λ e. (s, e)) es in
       let keys : KeysBefore (entries m) key =
       keys_here s (entries m) key (subst (λ es. AllBefore (rows es) (s, key)) old_entries (before_right (rows_below maps s) (rows (entries_at maps s)) (s, key) before)) in
       ap (λ l. l ++ rows (entries_at after s)) (below_it s (omega arith))
@@ -120,7 +120,7 @@ module _ (maps : List Shares) (s : ℕ) (m : Shares) (key : ShareKey) (bytes : L
           subst (λ j. rows_below after (suc j) ≡ rows_below maps (suc j) ++ row ∷ []) (sym same)
           (at_it (subst (λ j. AllBefore (rows_below maps (suc j)) (s, key)) same held))
       by_case k held earlier (inr past) =
-          let rows : List Entry → List Row = λ es. map (λ e. (k, e)) es in
+          let rows : List ShareEntry → List Row = λ es. map (λ e. (k, e)) es in
           let none : entries_at maps k ≡ [] = none_past k s (entries_at maps k) key past (before_right (rows_below maps k) (rows (entries_at maps k)) (s, key) held) in
           ap (λ es. rows_below after k ++ rows es) (other_entries k (λ same. omega arith) ∙ none)
           ∙ append-nil (rows_below after k)

@@ -7,7 +7,7 @@ use Rattle.std.proofs.lemmas.Bool.{le-ltb}
 use Rattle.std.proofs.lemmas.Grind.{flat_map-append}
 use Rattle.std.proofs.lemmas.List.{append-nil, length-map}
 use Rattle.std.proofs.lemmas.List.Elements.{All-append, All-nil}
-use Rattle.share_store.specs.Shares.{Shares, Entry}
+use Rattle.share_store.specs.Shares.{Shares, ShareEntry}
 use Rattle.grid.specs.Found.{entries_at}
 use Rattle.grid.specs.Rows.{Row, rows_at, rows_below, rows_of}
 use Rattle.grid.specs.Image.{image, image_head, row_bytes, refused_field, refused_place}
@@ -55,14 +55,14 @@ rows_split maps n lt =
 
 pub count_next : (maps : List Shares) (n : ℕ) → length (rows_below maps (n + 1)) ≡ length (rows_below maps n) + length (entries_at maps n)
 count_next maps n =
-    let row : Entry → Row = λ e. (n, e) in
+    let row : ShareEntry → Row = λ e. (n, e) in
     ap (λ m. length (rows_below maps m)) (add-one n) ∙ length-append (rows_below maps n) (rows_at maps n) ∙ ap (λ m. length (rows_below maps n) + m) (length-map (entries_at maps n) row)
 
 -- where the shares of the servers up to one are too many
 pub too_many : (maps : List Shares) (n : ℕ) → n < length maps → 2 ^ 64 ≤ length (rows_below maps n) + length (entries_at maps n) → refused_place (rows_of maps) ≡ Some 12
 too_many maps n lt many =
     let split = rows_split maps n lt in
-    let row : Entry → Row = λ e. (n, e) in
+    let row : ShareEntry → Row = λ e. (n, e) in
     let counted : 2 ^ 64 ≤ length (rows_of maps) =
     omega (arith, many, ap length split.1, length-append (rows_below maps n) (rows_at maps n ++ split.0), length-append (rows_at maps n) split.0, length-map (entries_at maps n) row) in
     ap (λ t. if t then refused_field 20 (rows_of maps) else Some 12) (le-ltb (length (rows_of maps)) (2 ^ 64) counted)

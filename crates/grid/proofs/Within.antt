@@ -2,7 +2,7 @@
 use Rattle.std.proofs.Common.{◌≡◌, ℕ, zero, suc, Bool, true, false, cond, List, [], ◌∷◌, ◌++◌, map, filter, Option, None, Some, slice_get, All, refl, ap}
 use Rattle.std.specs.Prelude.{nat_lt}
 use Rattle.std.proofs.lemmas.List.Elements.{filter-append, All-filter}
-use Rattle.grid.specs.Found.{within}
+use Rattle.grid.specs.Found.{below_limit}
 
 -- ---- what passes a test
 
@@ -27,24 +27,24 @@ filtered_at {A} p (y ∷ ys) i x at = by_case (p y) i at (λ k there. let h = fi
 
 -- ---- within a limit
 
-pub within_none : {A : Type 0} (number : A → ℕ) (limit : Option ℕ) → within number limit [] ≡ []
+pub within_none : {A : Type 0} (number : A → ℕ) (limit : Option ℕ) → below_limit number limit [] ≡ []
 within_none number None = refl
 within_none number (Some limit) = refl
 
-pub within_map : {A B : Type 0} (number : B → ℕ) (f : A → B) (limit : Option ℕ) (xs : List A) → within number limit (map f xs) ≡ map f (within (λ x. number (f x)) limit xs)
+pub within_map : {A B : Type 0} (number : B → ℕ) (f : A → B) (limit : Option ℕ) (xs : List A) → below_limit number limit (map f xs) ≡ map f (below_limit (λ x. number (f x)) limit xs)
 within_map number f None xs = refl
 within_map number f (Some limit) xs = filter-map (λ y. nat_lt (number y) limit) f xs
 
-pub within_append : {A : Type 0} (number : A → ℕ) (limit : Option ℕ) (xs ys : List A) → within number limit (xs ++ ys) ≡ within number limit xs ++ within number limit ys
+pub within_append : {A : Type 0} (number : A → ℕ) (limit : Option ℕ) (xs ys : List A) → below_limit number limit (xs ++ ys) ≡ below_limit number limit xs ++ below_limit number limit ys
 within_append number None xs ys = refl
 within_append number (Some limit) xs ys = filter-append (λ x. nat_lt (number x) limit) xs ys
 
 -- what is within a limit is one of them
-pub within_at : {A : Type 0} (number : A → ℕ) (limit : Option ℕ) (xs : List A) (i : ℕ) (x : A) → slice_get (within number limit xs) i ≡ Some x → (j : ℕ) × (slice_get xs j ≡ Some x)
+pub within_at : {A : Type 0} (number : A → ℕ) (limit : Option ℕ) (xs : List A) (i : ℕ) (x : A) → slice_get (below_limit number limit xs) i ≡ Some x → (j : ℕ) × (slice_get xs j ≡ Some x)
 within_at number None xs i x at = (i, at)
 within_at number (Some limit) xs i x at = filtered_at (λ y. nat_lt (number y) limit) xs i x at
 
 -- and what all have it has
-pub all_within : {A : Type 0} (P : A → Type 0) (number : A → ℕ) (limit : Option ℕ) (xs : List A) → All P xs → All P (within number limit xs)
+pub all_within : {A : Type 0} (P : A → Type 0) (number : A → ℕ) (limit : Option ℕ) (xs : List A) → All P xs → All P (below_limit number limit xs)
 all_within P number None xs all = all
 all_within P number (Some limit) xs all = All-filter (λ x. nat_lt (number x) limit) P xs all

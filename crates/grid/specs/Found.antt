@@ -2,15 +2,15 @@
 use Rattle.std.specs.Prelude.{◌≡◌, ◌⊎◌, ℕ, zero, suc, List, [], ◌∷◌, ◌++◌, map, filter, nat_lt, slice_get, Option, None, Some}
 use Rattle.std.specs.Option.{option_map_or}
 use Rattle.std.specs.FinMap.{entries}
-use Rattle.share_store.specs.Shares.{Shares, Entry}
+use Rattle.share_store.specs.Shares.{Shares, ShareEntry}
 use Rattle.share_store.specs.Numbers.{of_index}
 
 -- the shares of one index in a store, in the order of their numbers, with the server's number
-abbrev pub found_in : ℕ → List ℕ → List Entry → List (ℕ × ℕ × List ℕ)
+abbrev pub found_in : ℕ → List ℕ → List ShareEntry → List (ℕ × ℕ × List ℕ)
 found_in server index es = map (λ e. (server, e.0.1, e.1)) (of_index index es)
 
 -- the entries of one of these maps
-abbrev pub entries_at : List Shares → ℕ → List Entry
+abbrev pub entries_at : List Shares → ℕ → List ShareEntry
 entries_at maps server = option_map_or entries (slice_get maps server) []
 
 -- the shares of one index in the first maps
@@ -19,13 +19,13 @@ found_below maps index zero = []
 found_below maps index (suc n) = found_below maps index n ++ found_in n index (entries_at maps n)
 
 -- those of numbers below a limit, where there is one
-abbrev pub within : {A : Type 0} → (A → ℕ) → Option ℕ → List A → List A
-within number None all = all
-within number (Some limit) all = filter (λ x. nat_lt (number x) limit) all
+abbrev pub below_limit : {A : Type 0} → (A → ℕ) → Option ℕ → List A → List A
+below_limit number None all = all
+below_limit number (Some limit) all = filter (λ x. nat_lt (number x) limit) all
 
 -- a found share as its numbers and bytes
-abbrev pub seen : {A : Type 0} → (A → List ℕ) → ℕ × ℕ × A → ℕ × ℕ × List ℕ
-seen bytes found = (found.0, found.1, bytes found.2)
+abbrev pub found_bytes : {A : Type 0} → (A → List ℕ) → ℕ × ℕ × A → ℕ × ℕ × List ℕ
+found_bytes bytes found = (found.0, found.1, bytes found.2)
 
 -- all of these in their order, less some of those that may be missing
 abbrev pub AllBut : {A : Type 0} → (A → Type 0) → List A → List A → Type 0

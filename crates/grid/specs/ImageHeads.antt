@@ -1,6 +1,6 @@
 -- The fields of an image that stand before the shares, and those before a share's bytes.
 use Rattle.std.specs.Prelude.{ℕ, ◌+◌, not, ◌==◌, nat_lt, List, take, drop, length, Option, Result, Ok, Err, if◌then◌else◌}
-use Rattle.grid.specs.Layout.{wide, row_front, number_at, count_at}
+use Rattle.grid.specs.Layout.{wide, row_front, u32_at, count_at}
 use Rattle.grid.specs.RowOrder.{RowKey, comes_after}
 use Rattle.grid.specs.declared.image_fields.RowHead.{RowHead}
 use Rattle.grid.specs.declared.image_layout.Layout.{Layout}
@@ -13,7 +13,7 @@ head_key head = (head.server, (head.index, head.number))
 abbrev pub shares_said : Layout → ℕ → List ℕ → Result ℕ ℕ
 shares_said layout servers bytes =
     if nat_lt (length bytes) 4 then Err 8
-    else if not (number_at bytes 0 == servers) then Err 8
+    else if not (u32_at bytes 0 == servers) then Err 8
     else if nat_lt (length bytes) (4 + wide layout) then Err 12
     else Ok (count_at layout bytes 4)
 
@@ -23,11 +23,11 @@ shares_said layout servers bytes =
 abbrev pub head_said : Layout → ℕ → Option RowKey → List ℕ → Result RowHead ℕ
 head_said layout servers last bytes =
     if nat_lt (length bytes) 4 then Err 0
-    else if not (nat_lt (number_at bytes 0) servers) then Err 0
+    else if not (nat_lt (u32_at bytes 0) servers) then Err 0
     else if nat_lt (length bytes) 20 then Err 4
     else if nat_lt (length bytes) 24 then Err 20
-    else if not (comes_after last (number_at bytes 0, (take 16 (drop 4 bytes), number_at bytes 20))) then Err 0
-    else if not (nat_lt (number_at bytes 20) 256) then Err 20
+    else if not (comes_after last (u32_at bytes 0, (take 16 (drop 4 bytes), u32_at bytes 20))) then Err 0
+    else if not (nat_lt (u32_at bytes 20) 256) then Err 20
     else if nat_lt (length bytes) (row_front layout) then Err 24
     else if count_at layout bytes 24 == 0 then Err 24
-    else Ok (record { server = number_at bytes 0; index = take 16 (drop 4 bytes); number = number_at bytes 20; length = count_at layout bytes 24 })
+    else Ok (record { server = u32_at bytes 0; index = take 16 (drop 4 bytes); number = u32_at bytes 20; length = count_at layout bytes 24 })

@@ -5,7 +5,7 @@ use Rattle.grid.specs.Rows.{Row}
 use Rattle.grid.specs.RowOrder.{RowKey}
 use Rattle.grid.specs.Layout.{row_front}
 use Rattle.grid.specs.ImageHeads.{head_key}
-use Rattle.grid.specs.ImageReading.{Reading, rows_said, preceded, said_row}
+use Rattle.grid.specs.ImageReading.{RowsRead, rows_said, preceded, said_row}
 use Rattle.grid.specs.declared.fault.GridFault.{GridFault}
 use Rattle.grid.specs.declared.fault.GridFault.TheVariants.{Full, BadImage}
 use Rattle.grid.specs.declared.image_fields.RowHead.{RowHead}
@@ -34,7 +34,7 @@ pub record AreFirst (first rows : List Row) : Type 0 where
 
 -- What came of reading what an image says, where the stores were empty and honest (`good`) and hold these rows now.
 -- for private clauses
-pub record Reads (said : Reading) (result : Result (Unit {0}) GridFault) (room : ℕ → ℕ) (good : Type 0) (held : List Row) (after : Option (List ℕ)) : Type 0 where
+pub record Reads (said : RowsRead) (result : Result (Unit {0}) GridFault) (room : ℕ → ℕ) (good : Type 0) (held : List Row) (after : Option (List ℕ)) : Type 0 where
   pub no_fault : OnOk result (said.fault ≡ None)
   pub end : OnOk result (IsAtEnd after)
   pub rows : good → OnOk result (held ≡ said.rows)

@@ -39,8 +39,8 @@ unfoldable pub be64 : ℕ → List ℕ
 be64 n = to_be_bytes w64 n
 
 -- the number in the four bytes at a place, the highest first
-unfoldable pub number_at : List ℕ → ℕ → ℕ
-number_at bytes at = from_be_bytes w32 (take 4 (drop at bytes))
+unfoldable pub u32_at : List ℕ → ℕ → ℕ
+u32_at bytes at = from_be_bytes w32 (take 4 (drop at bytes))
 
 -- the number in the eight bytes at a place, the highest first
 unfoldable pub long_number_at : List ℕ → ℕ → ℕ
@@ -53,7 +53,7 @@ count_bytes VersionTwo n = be64 n
 
 -- a number of shares or a length, in the bytes at a place
 abbrev pub count_at : Layout → List ℕ → ℕ → ℕ
-count_at VersionOne bytes at = number_at bytes at
+count_at VersionOne bytes at = u32_at bytes at
 count_at VersionTwo bytes at = long_number_at bytes at
 
 -- numbers of shares and lengths are below this

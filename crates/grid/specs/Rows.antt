@@ -1,11 +1,11 @@
 -- The shares of a grid as rows: server by server, each server's in the order of its store.
 use Rattle.std.specs.Prelude.{ℕ, zero, suc, List, [], ◌++◌, length, map}
-use Rattle.share_store.specs.Shares.{Shares, Entry}
+use Rattle.share_store.specs.Shares.{Shares, ShareEntry}
 use Rattle.grid.specs.Found.{entries_at}
 
 -- a server and one of its shares
 abbrev pub Row : Type 0
-Row = ℕ × Entry
+Row = ℕ × ShareEntry
 
 -- the rows of one of these maps; for private clauses
 abbrev pub rows_at : List Shares → ℕ → List Row

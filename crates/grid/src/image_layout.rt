@@ -1,6 +1,6 @@
 //! The two layouts of an image.
 ghost use Rattle.std.specs.Prelude.{◌≡◌, ◌≤◌, ◌+◌, length};
-ghost use Rattle.grid.specs.Layout.{count_at as count_said, layout_said, number_at as number_said, wide as width, long_number_at as long_said};
+ghost use Rattle.grid.specs.Layout.{count_at as count_said, layout_said, u32_at as number_said, wide as width, long_number_at as long_said};
 
 /// How an image is laid out. The number of shares and each share's length have four bytes in version 1, and eight in
 /// version 2; all else is the same. Numbers have their highest byte first.

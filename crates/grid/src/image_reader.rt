@@ -54,7 +54,7 @@ impl<S: Store> Grid<S> {
             (Leaves (states S.shares S.room S.held S.failures S.honest S.history stores.items))
             (λ refusal. Leaves (states S.shares S.room S.held S.failures S.honest S.history stores.items)
             (states S.shares S.room S.held S.failures S.honest S.history refusal.1.items)) }
-        ensures calm { IfOk result (NoneFailed
+        ensures none_failed { IfOk result (NoneFailed
             (states S.shares S.room S.held S.failures S.honest S.history stores.items)) }
         ensures down { IfErr result (λ refusal. TellsDown {T = Unit {0}}
             (states S.shares S.room S.held S.failures S.honest S.history stores.items)

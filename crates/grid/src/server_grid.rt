@@ -12,10 +12,10 @@ ghost use Rattle.grid.specs.Leaves.{Leaves, TellsDown, IsUnchanged, HoldsAsBefor
 ghost use Rattle.grid.specs.Histories.{TellsOfChange};
 ghost use Rattle.grid.specs.Changes.{put_at, without, spoiled};
 ghost use Rattle.grid.specs.Placement.{placed};
-ghost use Rattle.grid.specs.Changed.{ArePut, StopsAt, IsLost, IsSpoiled};
+ghost use Rattle.grid.specs.Changed.{ArePut, PutStopsAt, IsLost, IsSpoiled};
 ghost use Rattle.grid.specs.NewBytes.{HasRoom};
 ghost use Rattle.grid.specs.Refusals.{IsPutRefusal, IsChangeRefusal};
-ghost use Rattle.grid.specs.Found.{entries_at, found_in, found_below, within, AllBut, seen};
+ghost use Rattle.grid.specs.Found.{entries_at, found_in, found_below, below_limit, AllBut, found_bytes};
 ghost use Rattle.grid.specs.OneStore.{IsPutHere};
 
 use crate::GridFault;
@@ -100,7 +100,7 @@ impl<S: Store> Grid<S> {
         ensures ok { IsHonest self.old →
             OnOk result (ArePut index (map rc_slice_items shares.now) self.old self.new) }
         ensures err { IfErr result
-            (StopsAt index (map rc_slice_items shares.now) self.old self.new) }
+            (PutStopsAt index (map rc_slice_items shares.now) self.old self.new) }
         // Refused or not, a crash in the call leaves at each place what stood there or the share that goes there.
         ensures history { IsHonest self.old → TellsOfChange (placed (length self.old.stores) index
             (map rc_slice_items shares.now) (stood self.old)) self.old self.new }
@@ -233,7 +233,7 @@ impl<S: Store> Grid<S> {
         ensures ok { IsHonest self.old →
             OnOk result (ArePut index (map rc_slice_items shares.now) self.old self.new) }
         ensures err { IfErr result
-            (StopsAt index (map rc_slice_items shares.now) self.old self.new) }
+            (PutStopsAt index (map rc_slice_items shares.now) self.old self.new) }
         ensures history { IsHonest self.old → TellsOfChange (placed (length self.old.stores) index
             (map rc_slice_items shares.now) (stood self.old)) self.old self.new }
         ensures never_full { IsHonest self.old →
@@ -310,13 +310,13 @@ impl<S: Store> Grid<S> {
         ensures found { IsHonest self.old → IfOk result (λ found.
             AllBut (λ f. failures_at self.old f.0 < failures_at self.new f.0)
             (found_below (maps_of self.old) index (length self.old.stores))
-            (map (seen rc_slice_items) found.items)) }
+            (map (found_bytes rc_slice_items) found.items)) }
         ensures all { IsHonest self.old → NoneFailed self.old self.new → IfOk result (λ found.
-            map (seen rc_slice_items) found.items
+            map (found_bytes rc_slice_items) found.items
             ≡ found_below (maps_of self.old) index (length self.old.stores)) }
         ensures stands { IsHonest self.old → IfOk result (λ found.
             All (λ f. stood self.old f.0 (index, f.1) ≡ Some f.2)
-            (map (seen rc_slice_items) found.items)) }
+            (map (found_bytes rc_slice_items) found.items)) }
     {
         self.gather_within(index, None)
     }
@@ -332,16 +332,16 @@ impl<S: Store> Grid<S> {
         ensures unchanged { IsHonest self.old → IsUnchanged self.old self.new }
         ensures found { IsHonest self.old → IfOk result (λ found.
             AllBut (λ f. failures_at self.old f.0 < failures_at self.new f.0)
-            (within (λ f. f.1) (Some limit)
+            (below_limit (λ f. f.1) (Some limit)
             (found_below (maps_of self.old) index (length self.old.stores)))
-            (map (seen rc_slice_items) found.items)) }
+            (map (found_bytes rc_slice_items) found.items)) }
         ensures all { IsHonest self.old → NoneFailed self.old self.new → IfOk result (λ found.
-            map (seen rc_slice_items) found.items
-            ≡ within (λ f. f.1) (Some limit)
+            map (found_bytes rc_slice_items) found.items
+            ≡ below_limit (λ f. f.1) (Some limit)
             (found_below (maps_of self.old) index (length self.old.stores))) }
         ensures stands { IsHonest self.old → IfOk result (λ found.
             All (λ f. stood self.old f.0 (index, f.1) ≡ Some f.2)
-            (map (seen rc_slice_items) found.items)) }
+            (map (found_bytes rc_slice_items) found.items)) }
     {
         self.gather_within(index, Some(limit))
     }
@@ -357,16 +357,16 @@ impl<S: Store> Grid<S> {
         ensures unchanged { IsHonest self.old → IsUnchanged self.old self.new }
         ensures found { IsHonest self.old → IfOk result (λ found.
             AllBut (λ f. failures_at self.old f.0 < failures_at self.new f.0)
-            (within (λ f. f.1) limit
+            (below_limit (λ f. f.1) limit
             (found_below (maps_of self.old) index (length self.old.stores)))
-            (map (seen rc_slice_items) found.items)) }
+            (map (found_bytes rc_slice_items) found.items)) }
         ensures all { IsHonest self.old → NoneFailed self.old self.new → IfOk result (λ found.
-            map (seen rc_slice_items) found.items
-            ≡ within (λ f. f.1) limit
+            map (found_bytes rc_slice_items) found.items
+            ≡ below_limit (λ f. f.1) limit
             (found_below (maps_of self.old) index (length self.old.stores))) }
         ensures stands { IsHonest self.old → IfOk result (λ found.
             All (λ f. stood self.old f.0 (index, f.1) ≡ Some f.2)
-            (map (seen rc_slice_items) found.items)) }
+            (map (found_bytes rc_slice_items) found.items)) }
     {
         let mut found = Vec::new(*self.stores.allocator());
         for server in 0..self.servers() {
@@ -388,10 +388,10 @@ impl<S: Store> Grid<S> {
         ensures stamps { self.new.stamps ≡ self.old.stamps }
         ensures unchanged { IsHonest self.old → IsUnchanged self.old self.new }
         ensures found { IsHonest self.old → OnOk result ((given : _)
-            × (map (seen rc_slice_items) found.new.items
-            ≡ map (seen rc_slice_items) found.old.items ++ given)
+            × (map (found_bytes rc_slice_items) found.new.items
+            ≡ map (found_bytes rc_slice_items) found.old.items ++ given)
             × AllBut (λ f. failures_at self.old f.0 < failures_at self.new f.0)
-            (within (λ f. f.1) limit
+            (below_limit (λ f. f.1) limit
             (found_in server index (entries_at (maps_of self.old) server))) given) }
     {
         gather_in(&mut self.stores[server], server, index, limit, found)
@@ -440,10 +440,10 @@ fn gather_in<S: Store>(
     ensures same_history { IsTrue (S.honest store.old) →
         S.history store.new ≡ S.history store.old }
     ensures found { IsTrue (S.honest store.old) → OnOk result ((given : _)
-        × (map (seen rc_slice_items) found.new.items
-        ≡ map (seen rc_slice_items) found.old.items ++ given)
+        × (map (found_bytes rc_slice_items) found.new.items
+        ≡ map (found_bytes rc_slice_items) found.old.items ++ given)
         × AllBut (λ f. (f.0 ≡ server) × (S.failures store.old < S.failures store.new))
-        (within (λ f. f.1) limit
+        (below_limit (λ f. f.1) limit
         (found_in server index (finite.entries (S.shares store.old)))) given) }
 {
     let stored = store.numbers(index)?;
@@ -459,7 +459,7 @@ fn gather_in<S: Store>(
 
 /// Those of these numbers that are below the limit, if there is one.
 fn below(numbers: Vec<u16>, limit: Option<u16>) -> Vec<u16>
-    ensures { result.items ≡ within (λ number. number) limit numbers.items }
+    ensures { result.items ≡ below_limit (λ number. number) limit numbers.items }
 {
     match limit {
         None => numbers,

@@ -14,7 +14,7 @@ use Rattle.std.proofs.lemmas.Str.{IsUtf8-from_is_utf8, is_utf8-from_IsUtf8}
 use Rattle.std.proofs.Math.Seq.{drop-append-add}
 use Rattle.httparse.specs.Grammar.{LineEnd, crlf, lf, print_end, print_blank, print_version, Field, IsField, print_field, print_section, is_token_byte, is_uri_byte, is_value_byte, is_token, IsToken, RequestHead, IsRequestHead, print_request, ReadsRequest}
 use Rattle.httparse.proofs.GrammarLemmas.{print_request-append, cons-append}
-use Rattle.http_edge.specs.Block.{is_line_feed, is_carriage_return, is_space, is_colon, ended, line_of, first_part, field_of, section_of, parts_from, parts_of, is_field, is_request_head, printed_as, head_of}
+use Rattle.http_edge.specs.Block.{is_line_feed, is_carriage_return, is_space, is_colon, text_and_end, line_of, first_part, field_of, section_of, parts_from, parts_of, is_field, is_request_head, printed_as, head_of}
 
 -- ---- tests
 
@@ -77,9 +77,9 @@ line_split text lf s none =
 
 line_of_is : (text : List ℕ) (end : LineEnd) → All (IsNot 13) text
     → line_of (text ++ cr_of end) ≡ (text, end)
-line_of_is text crlf none = ap ended (slice_split_at is_carriage_return text 13 [] none refl)
+line_of_is text crlf none = ap text_and_end (slice_split_at is_carriage_return text 13 [] none refl)
 line_of_is text lf none =
-    ap ended (ap (slice_split is_carriage_return) (append-nil text) ∙ slice_split_none is_carriage_return text none)
+    ap text_and_end (ap (slice_split is_carriage_return) (append-nil text) ∙ slice_split_none is_carriage_return text none)
 
 -- ---- fields
 

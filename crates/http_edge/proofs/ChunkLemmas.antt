@@ -11,7 +11,7 @@ use Rattle.httparse.specs.Grammar.{ChunkLine, IsChunkLine, IsExtension, print_ex
 use Rattle.http_edge.specs.Judge.{most_body_bytes}
 use Rattle.http_edge.specs.Plain.{is_line_byte}
 use Rattle.http_edge.specs.Chunks.{most_chunk_line_bytes, most_trailer_bytes, Chunk, print_chunk, IsChunk, print_trailer, IsTrailer, ChunkedBody, print_trailers, print_body, IsChunkedBody, content_of, IsBeginning}
-use Rattle.http_edge.specs.Places.{with_digit, within, after_size, in_size, in_extension, sized, in_trailer, after_data, step, with_byte, Reading, whole, broken, read, resume, line_start, chunked_of}
+use Rattle.http_edge.specs.Places.{size_with_digit, place_within, after_size, in_size, in_extension, sized, in_trailer, after_data, step, with_byte, BodyReading, whole, broken, read, resume, line_start, chunked_of}
 use Rattle.http_edge.specs.declared.item.FramingFault.TheVariants.{BadChunk, TooLong}
 use Rattle.http_edge.specs.declared.place.Place.{Place}
 use Rattle.http_edge.specs.declared.place.Place.TheVariants.{Size, AfterSize, Extension, LineFeed, Data, DataReturn, DataLineFeed, Trailers, Trailer, TrailerLineFeed, LastLineFeed}
@@ -23,7 +23,7 @@ use Rattle.http_edge.proofs.ReadingLemmas.{read_byte, read_data, then_read, read
 abbrev pub capped : ℕ → ℕ
 capped n = min n (most_body_bytes + 1)
 
-capped_digit : (n b : ℕ) → with_digit (capped n) b ≡ capped (n * 16 + digit_value b)
+capped_digit : (n b : ℕ) → size_with_digit (capped n) b ≡ capped (n * 16 + digit_value b)
 capped_digit n b = go n (digit_value b)
   where
     go : (n d : ℕ) → min (min n (most_body_bytes + 1) * 16 + d) (most_body_bytes + 1) ≡ min (n * 16 + d) (most_body_bytes + 1)
@@ -53,7 +53,7 @@ no_le n m h = grind (arith, nat_tests)
 
 -- ---- a chunk line
 
-step_digit : (count size digits b : ℕ) → is_digit b 16 ≡ true → digits < 16 → step count (Size size digits) b ≡ Next (Size (with_digit size b) (digits + 1))
+step_digit : (count size digits b : ℕ) → is_digit b 16 ≡ true → digits < 16 → step count (Size size digits) b ≡ Next (Size (size_with_digit size b) (digits + 1))
 unfolding step in_size
 step_digit count size digits b hex few = rw (hex, yes_lt digits 16 few) refl
 
@@ -62,7 +62,7 @@ read_digits : (n : ℕ) (content : List ℕ) (v digits : ℕ) (d rest : List ℕ
 read_digits n content v digits [] rest all few =
     ap (λ (k : ℕ). read k content (Size (capped v) digits) rest) (omega arith) ∙ ap (λ (k : ℕ). read (n + 0) content (Size (capped v) k) rest) (omega arith)
 read_digits n content v digits (b ∷ d) rest all few =
-    goes n content (Size (capped v) digits) (Size (with_digit (capped v) b) (digits + 1)) b (d ++ rest)
+    goes n content (Size (capped v) digits) (Size (size_with_digit (capped v) b) (digits + 1)) b (d ++ rest)
     (step_digit (length content) (capped v) digits b (hex_is_digit b (is_true (is_ascii_hexdigit b) (All-head (λ x. IsTrue (is_ascii_hexdigit x)) b d all))) (omega arith)) refl
     ∙ ap (λ (k : ℕ). read (n + 1) content (Size k (digits + 1)) (d ++ rest)) (capped_digit v b)
     ∙ read_digits (n + 1) content (v * 16 + digit_value b) (digits + 1) d rest (All-tail (λ x. IsTrue (is_ascii_hexdigit x)) b d all) (omega arith)
@@ -91,7 +91,7 @@ after_is_after size taken = record { same = λ count b other. refl; kept = λ co
 ows_bytes : (b : ℕ) → is_ows b ≡ true → (is_digit b 16 ≡ false) × (eqb b 13 ≡ false)
 ows_bytes b h = (grind (arith, nat_tests), grind (arith, nat_tests))
 
-within_room : (most needed : ℕ) (place : Place) → needed ≤ most → within most needed place ≡ Next place
+within_room : (most needed : ℕ) (place : Place) → needed ≤ most → place_within most needed place ≡ Next place
 within_room most needed place h = rw (yes_le needed most h) refl
 
 step_blank : (size taken b : ℕ) → is_ows b ≡ true → taken + 3 ≤ most_chunk_line_bytes → after_size size taken b ≡ Next (AfterSize size (taken + 1))
@@ -351,7 +351,7 @@ read_last n content line lines rest is short none all room =
     ∙ ap (λ (k : ℕ). whole content k) (omega (arith, length-append (print_chunk_line line) (print_trailers lines)))
 
 -- what a body reads as: its content, or too long where that is over the limit
-abbrev IsReadAs : ℕ → List ℕ → List ℕ → ℕ → Reading → Type 0
+abbrev IsReadAs : ℕ → List ℕ → List ℕ → ℕ → BodyReading → Type 0
 IsReadAs n content bytes size r =
     (length content + length bytes ≤ most_body_bytes → r ≡ whole (content ++ bytes) (n + size))
     × (most_body_bytes < length content + length bytes → (k : ℕ) × (r ≡ broken TooLong k))
@@ -414,7 +414,7 @@ long_body_is_read body rest is long = (body_reads body rest is).1 (omega arith)
 pub refused_begins_none : (s : List ℕ) (n : ℕ) → chunked_of s ≡ broken BadChunk n → IsBeginning s → ⊥
 refused_begins_none s n e (body, more, is, same) =
     let longer : chunked_of (print_body body ++ []) ≡ broken BadChunk n
-    = ap chunked_of (append-nil (print_body body) ∙ same) ∙ read-append 0 [] line_start s more ∙ ap (λ (r : Reading). then_read (0 + length s) r more) e in
+    = ap chunked_of (append-nil (print_body body) ∙ same) ∙ read-append 0 [] line_start s more ∙ ap (λ (r : BodyReading). then_read (0 + length s) r more) e in
     by_le ⊥ (length (content_of body.chunks)) most_body_bytes
     (λ fits. let no : whole (content_of body.chunks) (length (print_body body)) ≡ broken BadChunk n = sym (body_is_read body [] is fits) ∙ longer in absurd (cc))
     (λ long. let far = long_body_is_read body [] is long in let no : broken TooLong far.0 ≡ broken BadChunk n = sym far.1 ∙ longer in absurd (cc))

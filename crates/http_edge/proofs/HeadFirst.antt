@@ -9,11 +9,11 @@ use Rattle.std.proofs.lemmas.Bool.Decides.{nat_tests}
 use Rattle.std.proofs.lemmas.List.Elements.{All-head, All-tail}
 use Rattle.httparse.specs.Grammar.{LineEnd, crlf, lf, print_end, Field, print_field, IsField, print_section, RequestHead, IsRequestHead, print_request}
 use Rattle.http_edge.specs.Judge.{within_limit, verdict_of, block_verdict, request, request_of, is_head_request, most_body_bytes}
-use Rattle.http_edge.specs.Frame.{empty_line_length, block_length, most_head_bytes, frame}
+use Rattle.http_edge.specs.Frame.{empty_line_length, head_length, most_head_bytes, frame}
 use Rattle.http_edge.specs.Chunks.{ChunkedBody, print_body, IsChunkedBody, content_of}
 use Rattle.http_edge.specs.Limit.{PassesLimit}
 use Rattle.http_edge.specs.Places.{whole, line_start}
-use Rattle.http_edge.specs.Left.{body_of, chunks_of, frame_from, frame_read, frame_after}
+use Rattle.http_edge.specs.FramingState.{body_of, chunks_of, frame_from, frame_read, frame_after}
 use Rattle.http_edge.specs.declared.item.FramingFault.TheVariants.{TooLong}
 use Rattle.http_edge.specs.declared.item.Item.TheVariants.{Fault}
 use Rattle.http_edge.specs.declared.verdict.Awaited.{Awaited}
@@ -34,7 +34,7 @@ text_begins [] s some no_lf no_cr = absurd (omega arith)
 text_begins (b ∷ text) s some no_lf no_cr = begins_none b (text ++ s) (All-head (IsNot 10) b text no_lf) (All-head (IsNot 13) b text no_cr)
 
 -- bytes without an LF go before a block
-text_before : (text s : List ℕ) (n : ℕ) → All (IsNot 10) text → block_length s ≡ Some n → block_length (text ++ s) ≡ Some (length text + n)
+text_before : (text s : List ℕ) (n : ℕ) → All (IsNot 10) text → head_length s ≡ Some n → head_length (text ++ s) ≡ Some (length text + n)
 text_before [] s n no_lf e = e ∙ ap Some (omega arith)
 text_before (b ∷ text) s n no_lf e =
     let head : eqb b 10 ≡ false = All-head (IsNot 10) b text no_lf in
@@ -42,7 +42,7 @@ text_before (b ∷ text) s n no_lf e =
     rw (head, more) (ap Some (omega arith))
 
 -- and so does the end of a line
-end_before : (end : LineEnd) (s : List ℕ) (n : ℕ) → block_length (10 ∷ s) ≡ Some (1 + n) → block_length (print_end end ++ s) ≡ Some (length (print_end end) + n)
+end_before : (end : LineEnd) (s : List ℕ) (n : ℕ) → head_length (10 ∷ s) ≡ Some (1 + n) → head_length (print_end end ++ s) ≡ Some (length (print_end end) + n)
 end_before lf s n e = e
 end_before crlf s n e = ap (option_map (λ (k : ℕ). 1 + k)) e ∙ ap Some (omega arith)
 
@@ -64,7 +64,7 @@ print_length f = length-append (f.name ++ 58 ∷ f.raw) (print_end f.end)
 
 -- a line's LF, the field lines and the empty line
 section_block : (fields : List Field) (last : LineEnd) (more : List ℕ) → All IsField fields
-    → block_length (10 ∷ (print_section fields last ++ more)) ≡ Some (1 + length (print_section fields last))
+    → head_length (10 ∷ (print_section fields last ++ more)) ≡ Some (1 + length (print_section fields last))
 section_block [] last more all =
     let here = last_line last more in
     let test : ends_block 10 (print_end last ++ more) ≡ true = positive (empty_line_length (print_end last ++ more)) (let some = some_end last in omega arith) in
@@ -77,8 +77,8 @@ section_block (f ∷ fields) last more all =
     let no_lf = text_no 10 lf_no_token refl refl f valid in
     let no_cr = text_no 13 cr_no_token refl refl f valid in
     let behind = print_section fields last ++ more in
-    let next : block_length (10 ∷ behind) ≡ Some (1 + length (print_section fields last)) = section_block fields last more (All-tail IsField f fields all) in
-    let line : block_length (field_text f ++ (print_end f.end ++ behind)) ≡ Some (length (field_text f) + (length (print_end f.end) + length (print_section fields last)))
+    let next : head_length (10 ∷ behind) ≡ Some (1 + length (print_section fields last)) = section_block fields last more (All-tail IsField f fields all) in
+    let line : head_length (field_text f ++ (print_end f.end ++ behind)) ≡ Some (length (field_text f) + (length (print_end f.end) + length (print_section fields last)))
     = text_before (field_text f) (print_end f.end ++ behind) _ no_lf (end_before f.end behind _ next) in
     let text : print_section (f ∷ fields) last ++ more ≡ field_text f ++ (print_end f.end ++ behind)
     = append_assoc (print_field f ++ flat_map print_field fields) (print_end last) more
@@ -90,7 +90,7 @@ section_block (f ∷ fields) last more all =
     let size : length (print_section (f ∷ fields) last) ≡ length (print_field f) + length (print_section fields last)
     = ap length (append_assoc (print_field f) (flat_map print_field fields) (print_end last)) ∙ length-append (print_field f) (print_section fields last) in
     let printed = print_length f in
-    ap (λ (x : List ℕ). block_length (10 ∷ x)) text ∙ rw (test, line) (ap Some (omega arith))
+    ap (λ (x : List ℕ). head_length (10 ∷ x)) text ∙ rw (test, line) (ap Some (omega arith))
 
 some_start : (h : RequestHead) → IsRequestHead h → 0 < length (start_text h)
 unfolding start_text
@@ -114,7 +114,7 @@ head_block h v blank =
     record {
       no_blank = λ more. ap empty_line_length (split more)
           ∙ text_begins (start_text h) (print_end h.line_end ++ (section ++ more)) (some_start h v) no_lf no_cr;
-      block = λ more. ap block_length (split more)
+      block = λ more. ap head_length (split more)
           ∙ text_before (start_text h) (print_end h.line_end ++ (section ++ more)) _ no_lf
           (end_before h.line_end (section ++ more) _ (section_block h.fields h.last more v.fields))
           ∙ ap Some (sym size);

@@ -21,7 +21,7 @@ use Rattle.http_edge.specs.declared.verdict.Chunked.{Chunked}
 use Rattle.http_edge.specs.Block.{head_of}
 use Rattle.octets.specs.Case.{eq_ignore_case}
 use Rattle.http_edge.specs.Judge.{field_of, head_parts, has_good_hosts, count_named, is_head_request, is_length, is_coding, most_body_bytes, length_of, length_by, body_length, Framing, counted, chunked, framing_by_length, framing_by_coding, framing_by, body_framing, with_framing, head_verdict, verdict_of, within_limit, block_verdict, request, request_of}
-use Rattle.http_edge.specs.Read.{IsRead}
+use Rattle.http_edge.specs.Read.{IsItemRead}
 use Rattle.http_edge.proofs.BlockLemmas.{head_of_reads}
 
 length_short : (value : List ℕ) (n : ℕ) → length_of value ≡ Ok n → n ≤ most_body_bytes
@@ -207,7 +207,7 @@ pub block_is_in_chunks : (block : List ℕ) (a : Chunked) → block_verdict bloc
 block_is_in_chunks block a e = block_is_head block (InChunks a) a.head chunked e (λ h minor k. head_is_in_chunks h minor a k) (λ k. cc)
 
 -- with a body as long as it says
-pub taken_read : (a : Awaited) (body : List ℕ) → IsTaken a → length body ≡ a.length → IsRead (request a body)
+pub taken_read : (a : Awaited) (body : List ℕ) → IsTaken a → length body ≡ a.length → IsItemRead (request a body)
 taken_read a body t e = (
   t.of.block,
   t.of.head,
@@ -219,5 +219,5 @@ taken_read a body t e = (
 )
 
 -- with a body of chunks
-pub chunks_read : (a : Chunked) (body : List ℕ) → IsHeadOf a.head chunked → length body ≤ most_body_bytes → IsRead (request_of a body)
+pub chunks_read : (a : Chunked) (body : List ℕ) → IsHeadOf a.head chunked → length body ≤ most_body_bytes → IsItemRead (request_of a body)
 chunks_read a body t short = (t.block, t.head, t.reads, t.parts, t.few, short, inr t.says)

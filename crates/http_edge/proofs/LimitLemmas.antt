@@ -10,7 +10,7 @@ use Rattle.httparse.specs.Grammar.{ChunkLine, IsChunkLine, print_chunk_line, chu
 use Rattle.http_edge.specs.Judge.{most_body_bytes}
 use Rattle.http_edge.specs.Chunks.{most_chunk_line_bytes, most_trailer_bytes, Chunk, print_chunk, IsChunk, content_of}
 use Rattle.http_edge.specs.Limit.{PassesLimit}
-use Rattle.http_edge.specs.Places.{within, must_be, after_size, in_size, in_extension, sized, in_trailer, step, with_byte, going, broken, read, resume, line_start, chunked_of, IsPlace, IsStep}
+use Rattle.http_edge.specs.Places.{place_within, must_be, after_size, in_size, in_extension, sized, in_trailer, step, with_byte, going, broken, read, resume, line_start, chunked_of, IsFramingPlace, IsFramingStep}
 use Rattle.http_edge.specs.declared.item.FramingFault.TheVariants.{BadChunk, TooLong}
 use Rattle.http_edge.specs.declared.place.Place.{Place}
 use Rattle.http_edge.specs.declared.place.Place.TheVariants.{Size, AfterSize, Extension, LineFeed, Data, DataReturn, DataLineFeed, Trailers, Trailer, TrailerLineFeed, LastLineFeed}
@@ -69,7 +69,7 @@ long_cond P false x y h k = k refl
 long_bad : (P : Type 0) → IfTooLong P (Broken BadChunk)
 long_bad P = λ e. absurd (cc)
 
-long_within : (P : Type 0) (most needed : ℕ) (place : Place) → IfTooLong P (within most needed place)
+long_within : (P : Type 0) (most needed : ℕ) (place : Place) → IfTooLong P (place_within most needed place)
 long_within P most needed place = long_cond P (nat_le needed most) (Next place) (Broken BadChunk) (λ e. tt) (λ e. long_bad P)
 
 long_must : (P : Type 0) (wanted b : ℕ) (s : Step) → (b ≡ wanted → IfTooLong P s) → IfTooLong P (must_be wanted b s)
@@ -126,7 +126,7 @@ feed_passes text content size b h few =
     above : (n : ℕ) → nat_le n most_body_bytes ≡ false → most_body_bytes < n
     above n e = grind (arith, nat_tests)
 
-step_passes : (text content : List ℕ) (place : Place) (b : ℕ) → Begun text content place → IsPlace (length content) place
+step_passes : (text content : List ℕ) (place : Place) (b : ℕ) → Begun text content place → IsFramingPlace (length content) place
     → IfTooLong (PassesLimit (text ++ b ∷ [])) (step (length content) place b)
 unfolding step
 step_passes text content (Size size digits) b h at = long_size _ size digits b
@@ -141,7 +141,7 @@ step_passes text content (Trailer taken) b h at = long_trailer _ (TrailerLineFee
 step_passes text content (TrailerLineFeed taken) b h at = long_must _ 10 b (Next (Trailers (taken + 1))) (λ is. tt)
 step_passes text content LastLineFeed b h at = long_must _ 10 b Ended (λ is. tt)
 
-read_passes : (n : ℕ) (text content : List ℕ) (place : Place) (s : List ℕ) (k : ℕ) → Begun text content place → IsPlace (length content) place
+read_passes : (n : ℕ) (text content : List ℕ) (place : Place) (s : List ℕ) (k : ℕ) → Begun text content place → IsFramingPlace (length content) place
     → read n content place s ≡ broken TooLong k → PassesLimit (text ++ take (k - n) s)
 read_passes n text content place [] k h at e = absurd (let no : going content place ≡ broken TooLong k = sym (read_none n content place) ∙ e in cc)
 read_passes n text content place (b ∷ s) k h at e =
@@ -150,9 +150,9 @@ read_passes n text content place (b ∷ s) k h at e =
     (λ next begun here f. read_passes (n + 1) (text ++ b ∷ []) (with_byte place content b) next s k begun here f)
   where
     go : (x : Step) → OnStep (λ next. Begun (text ++ b ∷ []) (with_byte place content b) next) (Found (text ++ b ∷ []) (with_byte place content b)) x
-        → IsStep (length (with_byte place content b)) x → IfTooLong (PassesLimit (text ++ b ∷ [])) x
+        → IsFramingStep (length (with_byte place content b)) x → IfTooLong (PassesLimit (text ++ b ∷ [])) x
         → resume (n + 1) x (with_byte place content b) s ≡ broken TooLong k
-        → ((next : Place) → Begun (text ++ b ∷ []) (with_byte place content b) next → IsPlace (length (with_byte place content b)) next
+        → ((next : Place) → Begun (text ++ b ∷ []) (with_byte place content b) next → IsFramingPlace (length (with_byte place content b)) next
         → read (n + 1) (with_byte place content b) next s ≡ broken TooLong k → PassesLimit ((text ++ b ∷ []) ++ take (k - (n + 1)) s))
         → PassesLimit (text ++ take (k - n) (b ∷ s))
     go (Next next) begun here long f later =

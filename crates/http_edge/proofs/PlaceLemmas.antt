@@ -13,7 +13,7 @@ use Rattle.httparse.specs.Grammar.{ChunkLine, IsChunkLine, print_chunk_line, chu
 use Rattle.http_edge.specs.Judge.{most_body_bytes}
 use Rattle.http_edge.specs.Plain.{is_line_byte}
 use Rattle.http_edge.specs.Chunks.{most_chunk_line_bytes, most_trailer_bytes, Chunk, print_chunk, IsChunk, print_trailer, IsTrailer, ChunkedBody, print_trailers, print_body, IsChunkedBody, content_of, IsBeginning, StandsIn}
-use Rattle.http_edge.specs.Places.{with_digit, within, must_be, after_size, in_size, in_extension, sized, in_trailer, after_data, step, with_byte, Reading, going, whole, broken, read, resume, line_start, chunked_of}
+use Rattle.http_edge.specs.Places.{size_with_digit, place_within, must_be, after_size, in_size, in_extension, sized, in_trailer, after_data, step, with_byte, BodyReading, going, whole, broken, read, resume, line_start, chunked_of}
 use Rattle.http_edge.specs.declared.item.FramingFault.TheVariants.{BadChunk}
 use Rattle.http_edge.specs.declared.place.Place.{Place}
 use Rattle.http_edge.specs.declared.place.Place.TheVariants.{Size, AfterSize, Extension, LineFeed, Data, DataReturn, DataLineFeed, Trailers, Trailer, TrailerLineFeed, LastLineFeed}
@@ -32,7 +32,7 @@ on_cond : (P : Place → Type 0) (Q : Type 0) (t : Bool) (x y : Step) → (t ≡
 on_cond P Q true x y h k = h refl
 on_cond P Q false x y h k = k refl
 
-on_within : (P : Place → Type 0) (Q : Type 0) (most needed : ℕ) (place : Place) → (needed ≤ most → P place) → OnStep P Q (within most needed place)
+on_within : (P : Place → Type 0) (Q : Type 0) (most needed : ℕ) (place : Place) → (needed ≤ most → P place) → OnStep P Q (place_within most needed place)
 on_within P Q most needed place h = on_cond P Q (nat_le needed most) (Next place) (Broken BadChunk) (λ e. h (grind (arith, nat_tests))) (λ e. tt)
 
 on_must : (P : Place → Type 0) (Q : Type 0) (wanted b : ℕ) (s : Step) → (b ≡ wanted → OnStep P Q s) → OnStep P Q (must_be wanted b s)
@@ -156,7 +156,7 @@ longer text content place next more b h at = record {
 hex_of : (b : ℕ) → is_digit b 16 ≡ true → is_ascii_hexdigit b ≡ true
 hex_of b h = grind (arith, nat_tests)
 
-capped_push : (v b : ℕ) → with_digit (capped v) b ≡ capped (v * 16 + digit_value b)
+capped_push : (v b : ℕ) → size_with_digit (capped v) b ≡ capped (v * 16 + digit_value b)
 capped_push v b = go v (digit_value b)
   where
     go : (n d : ℕ) → min (min n (most_body_bytes + 1) * 16 + d) (most_body_bytes + 1) ≡ min (n * 16 + d) (most_body_bytes + 1)
@@ -236,12 +236,12 @@ size_begun text content size digits b h =
     let P : Place → Type 0 = λ next. Begun (text ++ b ∷ []) content next in
     let Q : Type 0 = Found (text ++ b ∷ []) content in
     on_cond P Q (is_digit b 16 && nat_lt digits 16) _ _
-    (λ e. longer text content (Size size digits) (Size (with_digit size b) (digits + 1)) content b h (record {
+    (λ e. longer text content (Size size digits) (Size (size_with_digit size b) (digits + 1)) content b h (record {
       content_is = h.at.content_is;
       count = length-append h.part (b ∷ []) ∙ ap (λ (n : ℕ). n + 1) h.at.count;
       few = small digits (and_right (is_digit b 16) (nat_lt digits 16) e);
       digits_are = snoc_all is_ascii_hexdigit h.part b h.at.digits_are (hex_of b (and_left (is_digit b 16) (nat_lt digits 16) e));
-      size_is = ap (λ (n : ℕ). with_digit n b) h.at.size_is ∙ capped_push (digits_value 16 h.part) b ∙ ap capped (sym (digits_value_push 16 h.part b));
+      size_is = ap (λ (n : ℕ). size_with_digit n b) h.at.size_is ∙ capped_push (digits_value 16 h.part) b ∙ ap capped (sym (digits_value_push 16 h.part b));
     }))
     (λ e. on_cond P Q (eqb digits 0) _ _ (λ none. tt) (λ some. after_begun text content h.part (Size size digits) size digits b h (record {
       content_is = h.at.content_is;
@@ -551,7 +551,7 @@ step_begun text content (TrailerLineFeed taken) b h =
 step_begun text content LastLineFeed b h =
     on_must _ _ 10 b Ended (λ is. subst (λ (x : ℕ). Found (text ++ x ∷ []) content) (sym is) (body_found text content h))
 
-abbrev IsFound : List ℕ → ℕ → Reading → Type 0
+abbrev IsFound : List ℕ → ℕ → BodyReading → Type 0
 IsFound text total (going content place) = Begun text content place
 IsFound text total (whole content k) = (k ≤ total) × StandsIn text content (total - k)
 IsFound text total (broken fault k) = Unit {0}

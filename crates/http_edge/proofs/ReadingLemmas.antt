@@ -8,7 +8,7 @@ use Rattle.std.proofs.lemmas.List.{take-append-drop, length-take-le, drop-drop}
 use Rattle.httparse.specs.Grammar.{is_ows}
 use Rattle.http_edge.specs.Judge.{most_body_bytes}
 use Rattle.http_edge.specs.Chunks.{most_chunk_line_bytes, most_trailer_bytes}
-use Rattle.http_edge.specs.Places.{with_digit, within, must_be, after_size, in_size, in_extension, sized, in_trailer, after_data, step, with_byte, Reading, going, whole, broken, read, resume, line_start, chunked_of, IsPlace, IsStep}
+use Rattle.http_edge.specs.Places.{size_with_digit, place_within, must_be, after_size, in_size, in_extension, sized, in_trailer, after_data, step, with_byte, BodyReading, going, whole, broken, read, resume, line_start, chunked_of, IsFramingPlace, IsFramingStep}
 use Rattle.http_edge.specs.declared.item.FramingFault.{FramingFault}
 use Rattle.http_edge.specs.declared.item.FramingFault.TheVariants.{BadChunk, TooLong}
 use Rattle.http_edge.specs.declared.place.Place.{Place}
@@ -23,7 +23,7 @@ unfolding read
 read_byte n content place b bytes = go (step (length content) place b)
   where
     go : (s : Step)
-        → elim s as (λ _. Reading) [
+        → elim s as (λ _. BodyReading) [
           | Next next ↦ read (n + 1) (with_byte place content b) next bytes
           | Ended ↦ whole (with_byte place content b) (n + 1)
           | Broken fault ↦ broken fault (n + 1)
@@ -37,7 +37,7 @@ unfolding read
 read_none n content place = refl
 
 -- what was read, and then the bytes after it
-abbrev pub then_read : ℕ → Reading → List ℕ → Reading
+abbrev pub then_read : ℕ → BodyReading → List ℕ → BodyReading
 then_read n (going content place) more = read n content place more
 then_read n (whole content k) more = whole content k
 then_read n (broken fault k) more = broken fault k
@@ -50,7 +50,7 @@ read-append n content place [] more =
 read-append n content place (b ∷ s) more =
     read_byte n content place b (s ++ more)
     ∙ go (step (length content) place b) (λ next. read-append (n + 1) (with_byte place content b) next s more)
-    ∙ ap (λ (r : Reading). then_read (n + length (b ∷ s)) r more) (sym (read_byte n content place b s))
+    ∙ ap (λ (r : BodyReading). then_read (n + length (b ∷ s)) r more) (sym (read_byte n content place b s))
   where
     go : (x : Step)
         → ((next : Place) → read (n + 1) (with_byte place content b) next (s ++ more)
@@ -63,7 +63,7 @@ read-append n content place (b ∷ s) more =
     go (Broken fault) later = refl
 
 -- how many bytes are counted
-abbrev pub shifted : ℕ → Reading → Reading
+abbrev pub shifted : ℕ → BodyReading → BodyReading
 shifted m (going content place) = going content place
 shifted m (whole content k) = whole content (m + k)
 shifted m (broken fault k) = broken fault (m + k)
@@ -83,12 +83,12 @@ read_shifted m n content place (b ∷ s) =
     go (Broken fault) later = ap (λ (k : ℕ). broken fault k) (omega arith)
 
 -- of how many bytes an end can be
-abbrev pub IsWithin : ℕ → ℕ → Reading → Type 0
+abbrev pub IsWithin : ℕ → ℕ → BodyReading → Type 0
 IsWithin n most (going content place) = Unit {0}
 IsWithin n most (whole content k) = (n < k) × (k ≤ n + most)
 IsWithin n most (broken fault k) = (n < k) × (k ≤ n + most)
 
-wider : (n most : ℕ) (r : Reading) → IsWithin (n + 1) most r → IsWithin n (1 + most) r
+wider : (n most : ℕ) (r : BodyReading) → IsWithin (n + 1) most r → IsWithin n (1 + most) r
 wider n most (going content place) h = tt
 wider n most (whole content k) h = (omega (arith, h.0), omega (arith, h.1))
 wider n most (broken fault k) h = (omega (arith, h.0), omega (arith, h.1))
@@ -110,20 +110,20 @@ read_within n content place (b ∷ s) =
 
 -- ---- places
 
-within_place : (count most needed : ℕ) (place : Place) → (needed ≤ most → IsPlace count place) → IsStep count (within most needed place)
-within_place count most needed place h = elim (nat_le needed most) as (λ v. nat_le needed most ≡ v → IsStep count (cond v (Next place) (Broken BadChunk))) [
+within_place : (count most needed : ℕ) (place : Place) → (needed ≤ most → IsFramingPlace count place) → IsFramingStep count (place_within most needed place)
+within_place count most needed place h = elim (nat_le needed most) as (λ v. nat_le needed most ≡ v → IsFramingStep count (cond v (Next place) (Broken BadChunk))) [
   | true ↦ λ e. h (grind (arith, nat_tests))
   | false ↦ λ e. tt
 ] refl
 
-must_place : (count wanted b : ℕ) (next : Step) → IsStep count next → IsStep count (must_be wanted b next)
-must_place count wanted b next h = elim (eqb b wanted) as (λ v. IsStep count (cond v next (Broken BadChunk))) [ true ↦ h | false ↦ tt ]
+must_place : (count wanted b : ℕ) (next : Step) → IsFramingStep count next → IsFramingStep count (must_be wanted b next)
+must_place count wanted b next h = elim (eqb b wanted) as (λ v. IsFramingStep count (cond v next (Broken BadChunk))) [ true ↦ h | false ↦ tt ]
 
-cond_place : (count : ℕ) (t : Bool) (x y : Step) → IsStep count x → IsStep count y → IsStep count (cond t x y)
+cond_place : (count : ℕ) (t : Bool) (x y : Step) → IsFramingStep count x → IsFramingStep count y → IsFramingStep count (cond t x y)
 cond_place count true x y h k = h
 cond_place count false x y h k = k
 
-after_place : (count size taken b : ℕ) → count ≤ most_body_bytes → size ≤ most_body_bytes + 1 → IsStep count (after_size size taken b)
+after_place : (count size taken b : ℕ) → count ≤ most_body_bytes → size ≤ most_body_bytes + 1 → IsFramingStep count (after_size size taken b)
 unfolding after_size
 after_place count size taken b few small =
     cond_place count (eqb b 13) _ _ (few, small)
@@ -131,7 +131,7 @@ after_place count size taken b few small =
     (cond_place count (eqb b 59) _ _ (within_place count most_chunk_line_bytes (taken + 3) (Extension size (taken + 1)) (λ h. (few, small, omega arith)))
     tt))
 
-size_place : (count size digits b : ℕ) → count ≤ most_body_bytes → size ≤ most_body_bytes + 1 → IsStep count (in_size size digits b)
+size_place : (count size digits b : ℕ) → count ≤ most_body_bytes → size ≤ most_body_bytes + 1 → IsFramingStep count (in_size size digits b)
 unfolding in_size
 size_place count size digits b few small =
     go (is_digit b 16) (nat_lt digits 16) refl
@@ -139,44 +139,44 @@ size_place count size digits b few small =
     capped : (n : ℕ) → min n (most_body_bytes + 1) ≤ most_body_bytes + 1
     capped n = omega arith
 
-    rest : IsStep count (cond (eqb digits 0) (Broken BadChunk) (after_size size digits b))
+    rest : IsFramingStep count (cond (eqb digits 0) (Broken BadChunk) (after_size size digits b))
     rest = cond_place count (eqb digits 0) _ _ tt (after_place count size digits b few small)
 
     go : (d v : Bool) → nat_lt digits 16 ≡ v
-        → IsStep count (cond (d && v) (Next (Size (with_digit size b) (digits + 1))) (cond (eqb digits 0) (Broken BadChunk) (after_size size digits b)))
+        → IsFramingStep count (cond (d && v) (Next (Size (size_with_digit size b) (digits + 1))) (cond (eqb digits 0) (Broken BadChunk) (after_size size digits b)))
     go true true e = (few, capped (size * 16 + digit_value b), grind (arith, nat_tests))
     go true false e = rest
     go false v e = rest
 
-extension_place : (count size taken b : ℕ) → count ≤ most_body_bytes → size ≤ most_body_bytes + 1 → IsStep count (in_extension size taken b)
+extension_place : (count size taken b : ℕ) → count ≤ most_body_bytes → size ≤ most_body_bytes + 1 → IsFramingStep count (in_extension size taken b)
 unfolding in_extension
 extension_place count size taken b few small =
     cond_place count (eqb b 13) _ _ (few, small) (cond_place count (eqb b 10) _ _ tt
     (within_place count most_chunk_line_bytes (taken + 3) (Extension size (taken + 1)) (λ h. (few, small, omega arith))))
 
-trailer_place : (count taken b : ℕ) (place : Place) → count ≤ most_body_bytes → IsPlace count place → IsStep count (in_trailer place taken b)
+trailer_place : (count taken b : ℕ) (place : Place) → count ≤ most_body_bytes → IsFramingPlace count place → IsFramingStep count (in_trailer place taken b)
 unfolding in_trailer
 trailer_place count taken b place few h =
     cond_place count (eqb b 13) _ _ h (cond_place count (eqb b 10) _ _ tt
     (within_place count most_trailer_bytes (taken + 5) (Trailer (taken + 1)) (λ k. (few, omega arith))))
 
-sized_place : (count size : ℕ) → count ≤ most_body_bytes → IsStep count (sized count size)
-sized_place count size few = elim (eqb size 0) as (λ v. eqb size 0 ≡ v → IsStep count (cond v (Next (Trailers 0)) (cond (nat_le (count + size) most_body_bytes) (Next (Data size)) (Broken TooLong)))) [
+sized_place : (count size : ℕ) → count ≤ most_body_bytes → IsFramingStep count (sized count size)
+sized_place count size few = elim (eqb size 0) as (λ v. eqb size 0 ≡ v → IsFramingStep count (cond v (Next (Trailers 0)) (cond (nat_le (count + size) most_body_bytes) (Next (Data size)) (Broken TooLong)))) [
   | true ↦ λ e. (few, lit≤ tt)
-  | false ↦ λ e. elim (nat_le (count + size) most_body_bytes) as (λ v. nat_le (count + size) most_body_bytes ≡ v → IsStep count (cond v (Next (Data size)) (Broken TooLong))) [
+  | false ↦ λ e. elim (nat_le (count + size) most_body_bytes) as (λ v. nat_le (count + size) most_body_bytes ≡ v → IsFramingStep count (cond v (Next (Data size)) (Broken TooLong))) [
     | true ↦ λ f. (grind (arith, nat_tests), grind (arith, nat_tests))
     | false ↦ λ f. tt
   ] refl
 ] refl
 
 -- the place after some of a chunk's bytes
-pub data_place : (count missing taken : ℕ) → count + missing ≤ most_body_bytes → 0 < taken → taken ≤ missing → IsPlace (count + taken) (after_data missing taken)
-data_place count missing taken fits some below = elim (nat_lt taken missing) as (λ v. nat_lt taken missing ≡ v → IsPlace (count + taken) (cond v (Data (missing - taken)) DataReturn)) [
+pub data_place : (count missing taken : ℕ) → count + missing ≤ most_body_bytes → 0 < taken → taken ≤ missing → IsFramingPlace (count + taken) (after_data missing taken)
+data_place count missing taken fits some below = elim (nat_lt taken missing) as (λ v. nat_lt taken missing ≡ v → IsFramingPlace (count + taken) (cond v (Data (missing - taken)) DataReturn)) [
   | true ↦ λ e. (grind (arith, nat_tests), omega arith)
   | false ↦ λ e. omega arith
 ] refl
 
-pub step_place : (content : List ℕ) (place : Place) (b : ℕ) → IsPlace (length content) place → IsStep (length (with_byte place content b)) (step (length content) place b)
+pub step_place : (content : List ℕ) (place : Place) (b : ℕ) → IsFramingPlace (length content) place → IsFramingStep (length (with_byte place content b)) (step (length content) place b)
 unfolding step
 step_place content (Size size digits) b h = size_place (length content) size digits b h.0 h.1
 step_place content (AfterSize size taken) b h = after_place (length content) size taken b h.0 h.1
@@ -193,25 +193,25 @@ step_place content (TrailerLineFeed taken) b h = must_place (length content) 10 
 step_place content LastLineFeed b h = must_place (length content) 10 b Ended h
 
 -- what is read is at a place, or isn't too long
-abbrev pub IsSmall : Reading → Type 0
-IsSmall (going content place) = IsPlace (length content) place
+abbrev pub IsSmall : BodyReading → Type 0
+IsSmall (going content place) = IsFramingPlace (length content) place
 IsSmall (whole content k) = length content ≤ most_body_bytes
 IsSmall (broken fault k) = Unit {0}
 
-pub read_small : (n : ℕ) (content : List ℕ) (place : Place) (s : List ℕ) → IsPlace (length content) place → IsSmall (read n content place s)
+pub read_small : (n : ℕ) (content : List ℕ) (place : Place) (s : List ℕ) → IsFramingPlace (length content) place → IsSmall (read n content place s)
 read_small n content place [] h = rw (read_none n content place) h
 read_small n content place (b ∷ s) h =
     rw (read_byte n content place b s)
     (go (step (length content) place b) (step_place content place b h) (λ next k. read_small (n + 1) (with_byte place content b) next s k))
   where
-    go : (x : Step) → IsStep (length (with_byte place content b)) x
-        → ((next : Place) → IsPlace (length (with_byte place content b)) next → IsSmall (read (n + 1) (with_byte place content b) next s))
+    go : (x : Step) → IsFramingStep (length (with_byte place content b)) x
+        → ((next : Place) → IsFramingPlace (length (with_byte place content b)) next → IsSmall (read (n + 1) (with_byte place content b) next s))
         → IsSmall (resume (n + 1) x (with_byte place content b) s)
     go (Next next) k later = later next k
     go Ended k later = k
     go (Broken fault) k later = tt
 
-pub start_place : IsPlace 0 line_start
+pub start_place : IsFramingPlace 0 line_start
 start_place = (omega arith, omega arith, omega arith)
 
 -- ---- the bytes of a chunk at once
@@ -242,8 +242,8 @@ read_data n content missing (b ∷ c ∷ d) more some below =
 pub some_data : (n : ℕ) (content new : List ℕ) (place next : Place) (missing taken : ℕ) (bytes : List ℕ) → place ≡ Data missing
     → 0 < taken → taken ≤ missing → taken ≤ length bytes → new ≡ content ++ take taken bytes → next ≡ after_data missing taken
     → read n content place bytes ≡ read (n + taken) new next (drop taken bytes)
-some_data n content new place next missing taken bytes at some below within pushed then =
-    let long : length (take taken bytes) ≡ taken = length-take-le taken bytes within in
+some_data n content new place next missing taken bytes at some below place_within pushed then =
+    let long : length (take taken bytes) ≡ taken = length-take-le taken bytes place_within in
     ap (λ (p : Place). read n content p bytes) at
     ∙ ap (read n content (Data missing)) (sym (take-append-drop taken bytes))
     ∙ read_data n content missing (take taken bytes) (drop taken bytes) (omega arith) (omega arith)
@@ -272,11 +272,11 @@ some_byte n content place (b ∷ bytes) s other some is =
     read_byte n content place b bytes ∙ ap (λ (x : Step). resume (n + 1) x (with_byte place content b) bytes) (sym is)
     ∙ ap (λ (c : List ℕ). resume (n + 1) s c bytes) (kept_byte place content b other)
 
-pub byte_place : (content : List ℕ) (place : Place) (b : ℕ) (s : Step) → ((m : ℕ) → place ≡ Data m → ⊥) → IsPlace (length content) place
-    → s ≡ step (length content) place b → IsStep (length content) s
+pub byte_place : (content : List ℕ) (place : Place) (b : ℕ) (s : Step) → ((m : ℕ) → place ≡ Data m → ⊥) → IsFramingPlace (length content) place
+    → s ≡ step (length content) place b → IsFramingStep (length content) s
 byte_place content place b s other at is =
-    subst (IsStep (length content)) (sym is)
-    (subst (λ (c : List ℕ). IsStep (length c) (step (length content) place b)) (kept_byte place content b other) (step_place content place b at))
+    subst (IsFramingStep (length content)) (sym is)
+    (subst (λ (c : List ℕ). IsFramingStep (length c) (step (length content) place b)) (kept_byte place content b other) (step_place content place b at))
 
 -- what was read before, and what was then
 pub read_more : (was content new : List ℕ) (start place : Place) (bytes rest : List ℕ) (at taken : ℕ) (s : Step)

@@ -19,13 +19,13 @@ abbrev pub is_colon : ℕ → Bool
 is_colon b = b == colon
 
 -- a line's text and its end, from the parts round its CR
-abbrev pub ended : List (List ℕ) → List ℕ × LineEnd
-ended [] = ([], lf)
-ended (text ∷ []) = (text, lf)
-ended (text ∷ rest ∷ more) = (text, crlf)
+abbrev pub text_and_end : List (List ℕ) → List ℕ × LineEnd
+text_and_end [] = ([], lf)
+text_and_end (text ∷ []) = (text, lf)
+text_and_end (text ∷ rest ∷ more) = (text, crlf)
 
 abbrev pub line_of : List ℕ → List ℕ × LineEnd
-line_of line = ended (slice_split is_carriage_return line)
+line_of line = text_and_end (slice_split is_carriage_return line)
 
 -- the first of the parts
 abbrev pub first_part : List (List ℕ) → List ℕ

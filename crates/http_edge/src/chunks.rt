@@ -3,7 +3,7 @@ ghost use Rattle.std.specs.Prelude.{◌≡◌, ◌<◌, ◌≤◌, ◌+◌, ◌+
 ghost use Rattle.std.specs.Char.{is_digit, digit_value};
 ghost use Rattle.httparse.specs.Grammar.{is_ows};
 ghost use Rattle.http_edge.specs.Judge.{most_body_bytes};
-ghost use Rattle.http_edge.specs.Places.{with_digit, within, must_be, after_size, in_size, in_extension, sized, in_trailer, step, after_data, read, resume, IsPlace, IsStep, IsTaken};
+ghost use Rattle.http_edge.specs.Places.{size_with_digit, place_within, must_be, after_size, in_size, in_extension, sized, in_trailer, step, after_data, read, resume, IsFramingPlace, IsFramingStep, IsTakenByStep};
 
 use crate::item::FramingFault;
 use crate::judge::MOST_BODY_BYTES;
@@ -32,7 +32,7 @@ fn hex_value(b: u8) -> Option<usize>
 
 /// A place, where its line has room for so many bytes that have to follow.
 fn within(most: usize, needed: usize, place: Place) -> Step
-    ensures { result ≡ within most needed place }
+    ensures { result ≡ place_within most needed place }
 {
     if needed <= most {
         Step::Next(place)
@@ -163,7 +163,7 @@ fn in_trailer(place: Place, taken: usize, b: u8) -> Step
 /// What a byte comes to at a place that is in no chunk's bytes, where the content has so many bytes.
 #[tactic(auto, unfolding(crate::specs::Places::step))]
 fn step(count: usize, place: Place, b: u8) -> Step
-    requires { IsPlace count place }
+    requires { IsFramingPlace count place }
     ensures { result ≡ step count place b }
 {
     match place {
@@ -205,11 +205,11 @@ pub fn read_some(
     place: Place,
     bytes: &[u8],
 ) -> Result<(Step, usize), AllocError>
-    requires place { IsPlace (length content.old.items) place }
+    requires place { IsFramingPlace (length content.old.items) place }
     requires some { 0 < length bytes.now }
     ensures read { IfOk result (λ done. (n : ℕ) → read n content.old.items place bytes.now
         ≡ resume (n + done.1) done.0 content.new.items (drop done.1 bytes.now)) }
-    ensures place { IfOk result (λ done. IsStep (length content.new.items) done.0) }
+    ensures place { IfOk result (λ done. IsFramingStep (length content.new.items) done.0) }
     ensures some { IfOk result (λ done. (0 < done.1) × (done.1 ≤ length bytes.now)) }
 {
     if let Place::Data { missing } = place {
@@ -227,11 +227,11 @@ pub fn read_chunks(
     place: Place,
     bytes: &[u8],
 ) -> Result<(Step, usize), AllocError>
-    requires place { IsPlace (length content.old.items) place }
+    requires place { IsFramingPlace (length content.old.items) place }
     ensures read { IfOk result (λ done. read 0 content.old.items place bytes.now
         ≡ resume done.1 done.0 content.new.items (drop done.1 bytes.now)) }
-    ensures place { IfOk result (λ done. IsStep (length content.new.items) done.0) }
-    ensures taken { IfOk result (λ done. IsTaken done.0 done.1 (length bytes.now)) }
+    ensures place { IfOk result (λ done. IsFramingStep (length content.new.items) done.0) }
+    ensures taken { IfOk result (λ done. IsTakenByStep done.0 done.1 (length bytes.now)) }
 {
     let mut place = place;
     let mut at = 0;

@@ -4,8 +4,8 @@ ghost use Rattle.std.specs.List.{list_any};
 ghost use Rattle.http_edge.specs.Judge.{closes};
 ghost use Rattle.http_edge.specs.Frame.{frame};
 ghost use Rattle.http_edge.specs.Kept.{kept_bytes};
-ghost use Rattle.http_edge.specs.Left.{part_of, closed, is_closed, rest, frame_from, rest_from};
-ghost use Rattle.http_edge.specs.State.{IsSettled, Takes, listed};
+ghost use Rattle.http_edge.specs.FramingState.{part_of, closed, is_closed, rest, frame_from, rest_from};
+ghost use Rattle.http_edge.specs.State.{IsSettled, Takes, item_list};
 
 use crate::item::Item;
 use crate::line::split_line;
@@ -22,10 +22,10 @@ pub struct Conn {
 }
 
 impl Model for Conn {
-    ghost use Rattle.http_edge.specs.Left.{Left};
+    ghost use Rattle.http_edge.specs.FramingState.{FramingState};
     ghost use Rattle.http_edge.specs.State.{IsWaiting, left_of};
 
-    ghost Value = { Left };
+    ghost Value = { FramingState };
 
     ghost view = { λ c. left_of c.state };
 
@@ -58,7 +58,7 @@ impl Conn {
         ensures kept { OnOk result ((before : List ℕ) → self.old ≡ rest before
             → self.new ≡ rest (before ++ piece.now)) }
         ensures refused { OnErr result (self.new ≡ closed) }
-        ensures calm { (piece.now ≡ []) ⊎ (self.old ≡ closed) → IsOk result }
+        ensures takes_no_memory { (piece.now ≡ []) ⊎ (self.old ≡ closed) → IsOk result }
         ensures quiet { piece.now ≡ [] → IfOk result (λ items. items.items ≡ []) }
     {
         let mut items = Vec::new(self.alloc);
@@ -130,7 +130,7 @@ impl Conn {
     fn add<'a>(&mut self, bytes: &'a [u8]) -> Result<(Option<Item>, &'a [u8]), AllocError>
         requires some { 0 < length bytes.now }
         ensures { IfOk result (λ step.
-            Takes self.old bytes.now (listed step.0) self.new step.1.now) }
+            Takes self.old bytes.now (item_list step.0) self.new step.1.now) }
     {
         match mem::replace(&mut self.state, State::Closed) {
             State::Head(part) => {

@@ -5,13 +5,13 @@ ghost use Rattle.httparse.specs.Grammar.{LineEnd, print_end, RequestHead, IsRequ
 ghost use Rattle.http_edge.specs.Block.{head_of};
 ghost use Rattle.http_edge.specs.Judge.{closes, within_limit, verdict_of, block_verdict, request, request_of, is_head_request, most_body_bytes};
 ghost use Rattle.http_edge.specs.Frame.{frame, most_head_bytes};
-ghost use Rattle.http_edge.specs.Left.{Left, part_of, body_of, chunks_of, is_closed, rest, frame_from, rest_from, frame_after};
+ghost use Rattle.http_edge.specs.FramingState.{FramingState, part_of, body_of, chunks_of, is_closed, rest, frame_from, rest_from, frame_after};
 ghost use Rattle.http_edge.specs.declared.item.Item.TheVariants.{Fault};
 ghost use Rattle.http_edge.specs.declared.verdict.Awaited.{Awaited};
 ghost use Rattle.http_edge.specs.declared.verdict.Chunked.{Chunked};
-ghost use Rattle.http_edge.specs.Read.{IsRead};
+ghost use Rattle.http_edge.specs.Read.{IsItemRead};
 ghost use Rattle.http_edge.specs.Plain.{is_line_byte};
-ghost use Rattle.http_edge.specs.Reply.{line_end};
+ghost use Rattle.http_edge.specs.Reply.{crlf};
 ghost use Rattle.http_edge.specs.Chunks.{ChunkedBody, print_body, IsChunkedBody, content_of, IsBeginning, StandsIn};
 ghost use Rattle.http_edge.specs.Limit.{PassesLimit};
 ghost use Rattle.http_edge.specs.Places.{going, whole, broken, chunked_of, line_start};
@@ -23,9 +23,9 @@ ghost use Rattle.http_edge.specs.declared.item.FramingFault.TheVariants.{BadChun
 pub fn pieces_join()
     ensures items { (s more : List ℕ) → frame (s ++ more) ≡ frame s ++ frame_from (rest s) more }
     ensures left { (s more : List ℕ) → rest (s ++ more) ≡ rest_from (rest s) more }
-    ensures items_from { (left : Left) (s more : List ℕ)
+    ensures items_from { (left : FramingState) (s more : List ℕ)
         → frame_from left (s ++ more) ≡ frame_from left s ++ frame_from (rest_from left s) more }
-    ensures left_from { (left : Left) (s more : List ℕ)
+    ensures left_from { (left : FramingState) (s more : List ℕ)
         → rest_from left (s ++ more) ≡ rest_from (rest_from left s) more }
 {}
 
@@ -81,7 +81,7 @@ pub fn body_comes_next()
 /// Each request that stands in the bytes has a head of the grammar of `httparse` with at most 64 fields, and a body as
 /// long as they say.
 pub fn requests_are_read()
-    ensures { (s : List ℕ) → All IsRead (frame s) }
+    ensures { (s : List ℕ) → All IsItemRead (frame s) }
 {}
 
 /// The digits of a number hold no CR and no LF, so a reply's field may have them in its value.
@@ -91,11 +91,11 @@ pub fn numbers_are_plain()
 
 /// What a chunked body reads as, on small texts.
 pub fn small_chunked_bodies()
-    ensures whole { chunked_of (codes "2" ++ line_end ++ codes "fo" ++ line_end
-        ++ codes "1;x=y" ++ line_end ++ codes "o" ++ line_end
-        ++ codes "0" ++ line_end ++ codes "A: b" ++ line_end ++ line_end) ≡ whole (codes "foo") 28 }
-    ensures bad { chunked_of (codes "2" ++ line_end ++ codes "foo") ≡ broken BadChunk 6 }
-    ensures long { chunked_of (codes "1000001" ++ line_end) ≡ broken TooLong 9 }
+    ensures whole { chunked_of (codes "2" ++ crlf ++ codes "fo" ++ crlf
+        ++ codes "1;x=y" ++ crlf ++ codes "o" ++ crlf
+        ++ codes "0" ++ crlf ++ codes "A: b" ++ crlf ++ crlf) ≡ whole (codes "foo") 28 }
+    ensures bad { chunked_of (codes "2" ++ crlf ++ codes "foo") ≡ broken BadChunk 6 }
+    ensures long { chunked_of (codes "1000001" ++ crlf) ≡ broken TooLong 9 }
 {}
 
 /// A text of the grammar of chunked bodies is read as what it brings, whatever follows it; what is read as a whole body

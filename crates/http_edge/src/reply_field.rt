@@ -23,14 +23,14 @@ pub enum FieldValue {
 
 impl Model for ReplyField {
     ghost use Rattle.http_edge.specs.declared.field.Field.{Field};
-    ghost use Rattle.http_edge.specs.Value.{value_of};
+    ghost use Rattle.http_edge.specs.Value.{field_value};
     ghost use Rattle.http_edge.specs.Plain.{IsPlain};
 
     ghost Value = { Field };
 
-    ghost view = { λ f. record { name = f.name.now; value = value_of f.value } };
+    ghost view = { λ f. record { name = f.name.now; value = field_value f.value } };
 
-    ghost invariant = { λ f. IsPlain (record { name = f.name.now; value = value_of f.value }) };
+    ghost invariant = { λ f. IsPlain (record { name = f.name.now; value = field_value f.value }) };
 }
 
 /// The fields of a reply in their order, which contracts see as a list.

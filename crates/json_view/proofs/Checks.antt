@@ -11,18 +11,18 @@ use Rattle.base32_text.specs.Base32.{spelling}
 use Rattle.chk_file.specs.Check.{HealthValue}
 use Rattle.dir_codec.specs.Sound.{ItemsAreSound}
 use Rattle.json_view.specs.Strings.{quoted, truth}
-use Rattle.json_view.specs.Checks.{share_text, counts_text, check_text, literal_check_text}
+use Rattle.json_view.specs.Checks.{bad_share_text, counts_text, check_text, literal_check_text}
 use Rattle.json_view.specs.Values.{share_value, shares_value, check_value, literal_check_value, IsCounted}
 use Rattle.json_view.proofs.Commas.{parted, parted_joined}
 use Rattle.json_view.proofs.ReadBack.{ValuesAreReadBack, read_as}
 
 -- ---- shares
 
-share_written : (index : List ℕ) (share : ℕ × ℕ) → share_text (quoted (spelling index)) share ≡ compact_text (share_value index share)
-unfolding quoted share_text
+share_written : (index : List ℕ) (share : ℕ × ℕ) → bad_share_text (quoted (spelling index)) share ≡ compact_text (share_value index share)
+unfolding quoted bad_share_text
 share_written index share = refl
 
-pub shares_written : (later : Bool) (index : List ℕ) (shares : List (ℕ × ℕ)) → parted later (map (share_text (quoted (spelling index))) shares) (93 ∷ []) ≡ items_text later (shares_value index shares)
+pub shares_written : (later : Bool) (index : List ℕ) (shares : List (ℕ × ℕ)) → parted later (map (bad_share_text (quoted (spelling index))) shares) (93 ∷ []) ≡ items_text later (shares_value index shares)
 shares_written later index [] = refl
 shares_written later index (share ∷ more) =
     let first = share_written index share in
@@ -67,10 +67,10 @@ unfolding serde_json_on_literals quoted counts_text check_text before
 check_written index health =
     let healthy = truth_written (health.good == health.expected) in
     let recoverable = truth_written (nat_le health.needed health.good) in
-    let shares = sym (parted_joined (map (share_text (quoted (spelling index))) health.corrupt) (93 ∷ [])) ∙ shares_written false index health.corrupt in
+    let shares = sym (parted_joined (map (bad_share_text (quoted (spelling index))) health.corrupt) (93 ∷ [])) ∙ shares_written false index health.corrupt in
     check_closed (codes "{\"results\":{\"count-corrupt-shares\":") (decimal (length health.corrupt)) (codes ",\"count-shares-expected\":") (decimal health.expected)
     (codes ",\"count-shares-good\":") (decimal health.good) (codes ",\"count-shares-needed\":") (decimal health.needed) (codes ",\"healthy\":") (truth (health.good == health.expected))
-    (codes ",\"list-corrupt-shares\":[") (join_with_byte 44 (map (share_text (quoted (spelling index))) health.corrupt)) (codes ",\"recoverable\":") (truth (nat_le health.needed health.good))
+    (codes ",\"list-corrupt-shares\":[") (join_with_byte 44 (map (bad_share_text (quoted (spelling index))) health.corrupt)) (codes ",\"recoverable\":") (truth (nat_le health.needed health.good))
     (codes ",\"storage-index\":") (quoted (spelling index))
     ∙ (λ i. codes "{\"results\":{\"count-corrupt-shares\":"
     ++ (before health (healthy i ++ (codes ",\"list-corrupt-shares\":[" ++ (shares i ++ (codes ",\"recoverable\":" ++ (recoverable i ++ 125 ∷ [])))))

@@ -10,7 +10,7 @@ use Rattle.serde_json.proofs.OnLiterals.{serde_json_on_literals}
 use Rattle.base32_text.specs.Base32.{spelling}
 use Rattle.chk_file.specs.Check.{HealthValue}
 use Rattle.json_view.specs.Strings.{quoted, truth}
-use Rattle.json_view.specs.Checks.{share_text, counts_text, with_place, sharemap, servers_text, sharemap_text, mapped_check_text}
+use Rattle.json_view.specs.Checks.{bad_share_text, counts_text, with_place, sharemap, servers_text, sharemap_text, mapped_check_text}
 use Rattle.json_view.specs.Values.{shares_value, servers_value, sharemap_value, mapped_check_value, in_key_order, IsCounted}
 use Rattle.json_view.proofs.Checks.{Fits, shares_written, shares_shallow, truth_written, before}
 use Rattle.json_view.proofs.Commas.{parted, parted_joined}
@@ -87,11 +87,11 @@ unfolding serde_json_on_literals quoted counts_text mapped_check_text before
 mapped_check_written index health =
     let healthy = truth_written (health.good == health.expected) in
     let recoverable = truth_written (nat_le health.needed health.good) in
-    let shares = sym (parted_joined (map (share_text (quoted (spelling index))) health.corrupt) (93 ∷ [])) ∙ shares_written false index health.corrupt in
+    let shares = sym (parted_joined (map (bad_share_text (quoted (spelling index))) health.corrupt) (93 ∷ [])) ∙ shares_written false index health.corrupt in
     let mapped = map_written health.places in
     mapped_closed (codes "{\"results\":{\"count-corrupt-shares\":") (decimal (length health.corrupt)) (codes ",\"count-shares-expected\":") (decimal health.expected)
     (codes ",\"count-shares-good\":") (decimal health.good) (codes ",\"count-shares-needed\":") (decimal health.needed) (codes ",\"healthy\":") (truth (health.good == health.expected))
-    (codes ",\"list-corrupt-shares\":[") (join_with_byte 44 (map (share_text (quoted (spelling index))) health.corrupt)) (codes ",\"recoverable\":") (truth (nat_le health.needed health.good))
+    (codes ",\"list-corrupt-shares\":[") (join_with_byte 44 (map (bad_share_text (quoted (spelling index))) health.corrupt)) (codes ",\"recoverable\":") (truth (nat_le health.needed health.good))
     (codes ",\"sharemap\":") (sharemap_text health.places) (codes ",\"storage-index\":") (quoted (spelling index))
     ∙ (λ i. codes "{\"results\":{\"count-corrupt-shares\":"
     ++ (before health (healthy i ++ (codes ",\"list-corrupt-shares\":[" ++ (shares i ++ (codes ",\"recoverable\":" ++ (recoverable i ++ (codes ",\"sharemap\":" ++ (mapped i ++ 125 ∷ [])))))))

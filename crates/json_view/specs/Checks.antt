@@ -6,8 +6,8 @@ use Rattle.chk_file.specs.Check.{HealthValue}
 use Rattle.json_view.specs.Strings.{quoted, truth}
 
 -- a share that isn't good: its server, the storage index, given as a JSON string, and its number
-unfoldable pub share_text : List ℕ → ℕ × ℕ → List ℕ
-share_text index share = concat (codes "[" ∷ decimal share.0 ∷ codes "," ∷ index ∷ codes "," ∷ decimal share.1 ∷ codes "]" ∷ [])
+unfoldable pub bad_share_text : List ℕ → ℕ × ℕ → List ℕ
+bad_share_text index share = concat (codes "[" ∷ decimal share.0 ∷ codes "," ∷ index ∷ codes "," ∷ decimal share.1 ∷ codes "]" ∷ [])
 
 -- how many shares are not good, were made, are good and are enough; a file is healthy where all that were made are good
 unfoldable pub counts_text : HealthValue → List ℕ
@@ -22,7 +22,7 @@ counts_text health = concat (
 -- the check of the file whose shares lie under a storage index; it is recoverable where as many are good as are enough
 unfoldable pub check_text : List ℕ → HealthValue → List ℕ
 check_text index health = concat (
-    counts_text health ∷ join_with_byte 44 (map (share_text (quoted (spelling index))) health.corrupt)
+    counts_text health ∷ join_with_byte 44 (map (bad_share_text (quoted (spelling index))) health.corrupt)
     ∷ codes "],\"recoverable\":" ∷ truth (nat_le health.needed health.good)
     ∷ codes "},\"storage-index\":" ∷ quoted (spelling index) ∷ codes "}" ∷ [])
 
@@ -53,7 +53,7 @@ sharemap_text places = concat (codes "{" ∷ join_with_byte 44 (map servers_text
 -- the same check, and where the shares are
 unfoldable pub mapped_check_text : List ℕ → HealthValue → List ℕ
 mapped_check_text index health = concat (
-    counts_text health ∷ join_with_byte 44 (map (share_text (quoted (spelling index))) health.corrupt)
+    counts_text health ∷ join_with_byte 44 (map (bad_share_text (quoted (spelling index))) health.corrupt)
     ∷ codes "],\"recoverable\":" ∷ truth (nat_le health.needed health.good)
     ∷ codes ",\"sharemap\":" ∷ sharemap_text health.places
     ∷ codes "},\"storage-index\":" ∷ quoted (spelling index) ∷ codes "}" ∷ [])

@@ -3,7 +3,7 @@ ghost use Rattle.std.specs.Prelude.{◌≡◌, ◌++◌, None, codes, decimal, m
 ghost use Rattle.std.specs.List.{join_with_byte};
 ghost use Rattle.base32_text.specs.Base32.{spelling};
 ghost use Rattle.json_view.specs.Strings.{quoted};
-ghost use Rattle.json_view.specs.Checks.{share_text, counts_text, check_text, sharemap_text, mapped_check_text, place_text, end_text, literal_check_text};
+ghost use Rattle.json_view.specs.Checks.{bad_share_text, counts_text, check_text, sharemap_text, mapped_check_text, place_text, end_text, literal_check_text};
 
 use crate::text::{put_all, put_comma, put_string, truth};
 use base32_text::push_encoded;
@@ -107,7 +107,7 @@ fn put_counts(out: &mut Vec<u8>, health: &Health) -> Result<(), AllocError>
 /// Puts the shares that aren't good. The storage index comes as a JSON string.
 fn put_shares(out: &mut Vec<u8>, index: &[u8], shares: &[(usize, u16)]) -> Result<(), AllocError>
     ensures { OnOk result (out.new.items
-        ≡ out.old.items ++ join_with_byte 44 (map (share_text index.now) shares.now)) }
+        ≡ out.old.items ++ join_with_byte 44 (map (bad_share_text index.now) shares.now)) }
 {
     for (at, share) in shares.iter().enumerate() {
         put_comma(out, at > 0)?;
@@ -117,9 +117,9 @@ fn put_shares(out: &mut Vec<u8>, index: &[u8], shares: &[(usize, u16)]) -> Resul
 }
 
 /// Puts a share: its server, the storage index and its number.
-#[tactic(auto, unfolding(crate::specs::Checks::share_text))]
+#[tactic(auto, unfolding(crate::specs::Checks::bad_share_text))]
 fn put_share(out: &mut Vec<u8>, index: &[u8], share: &(usize, u16)) -> Result<(), AllocError>
-    ensures { OnOk result (out.new.items ≡ out.old.items ++ share_text index.now share.now) }
+    ensures { OnOk result (out.new.items ≡ out.old.items ++ bad_share_text index.now share.now) }
 {
     let mut server = Buffer::new();
     let mut number = Buffer::new();

@@ -15,7 +15,7 @@ use Rattle.grid.specs.Placement.{server_of, placed}
 use Rattle.chk_file.specs.Upload.{Upload, index, share_of, shares_of}
 use Rattle.chk_file.specs.Marks.{shown}
 use Rattle.chk_file.specs.World.{World}
-use Rattle.gate_core.specs.Settings.{Settings, under}
+use Rattle.gate_core.specs.Settings.{GatewaySettings, under}
 use Rattle.gate_core.specs.Items.{Asked}
 use Rattle.gate_core.specs.Runs.{upload_by, after_entry}
 use Rattle.restarts.proofs.Ends.{PutLaw, LostLaw, SpoiledLaw}
@@ -32,34 +32,34 @@ share_kept servers None number c s q bytes is = is
 share_kept servers (Some u) number c s q bytes is =
     either_way (nat_lt number u.n && (s == server_of servers (index u) number && eq_by_cmp key_cmp q (index u, number))) bytes (share_of u number) (c s q) is
 
-one_kept : (settings : Settings) (x : Change) (c : Standing) (s : ℕ) (q : ShareKey) (bytes : List ℕ) → IsPut x → c s q ≡ Some bytes → changed settings x c s q ≡ Some bytes
+one_kept : (settings : GatewaySettings) (x : Change) (c : Standing) (s : ℕ) (q : ShareKey) (bytes : List ℕ) → IsPut x → c s q ≡ Some bytes → changed settings x c s q ≡ Some bytes
 one_kept settings (Put id secret item number) c s q bytes put is = share_kept settings.servers (upload_by (under settings secret) item) number c s q bytes is
 one_kept settings (Lose server key) c s q bytes put is = absurd put
 one_kept settings (Spoil server key place) c s q bytes put is = absurd put
 
-kept : (settings : Settings) (changes : List Change) (k : ℕ) (c : Standing) (s : ℕ) (q : ShareKey) (bytes : List ℕ) → AllByRecursion IsPut changes → c s q ≡ Some bytes
+kept : (settings : GatewaySettings) (changes : List Change) (k : ℕ) (c : Standing) (s : ℕ) (q : ShareKey) (bytes : List ℕ) → AllByRecursion IsPut changes → c s q ≡ Some bytes
     → all_changed settings (take k changes) c s q ≡ Some bytes
 kept settings [] zero c s q bytes puts is = is
 kept settings [] (suc k) c s q bytes puts is = is
 kept settings (x ∷ changes) zero c s q bytes puts is = is
 kept settings (x ∷ changes) (suc k) c s q bytes puts is = kept settings changes k (changed settings x c) s q bytes puts.1 (one_kept settings x c s q bytes puts.0 is)
 
-pub still_seen : (settings : Settings) (changes : List Change) (before seen : Standing) (s : ℕ) (q : ShareKey) (bytes : List ℕ) → AllByRecursion IsPut changes → IsSeen settings changes before seen
+pub still_seen : (settings : GatewaySettings) (changes : List Change) (before seen : Standing) (s : ℕ) (q : ShareKey) (bytes : List ℕ) → AllByRecursion IsPut changes → IsSeen settings changes before seen
     → before s q ≡ Some bytes → seen s q ≡ Some bytes
 still_seen settings changes before seen s q bytes puts each is = (each s q).1 ∙ kept settings changes (each s q).0 before s q bytes puts is
 
-all_kept : (settings : Settings) (changes : List Change) (c : Standing) (s : ℕ) (q : ShareKey) (bytes : List ℕ) → AllByRecursion IsPut changes → c s q ≡ Some bytes → all_changed settings changes c s q ≡ Some bytes
+all_kept : (settings : GatewaySettings) (changes : List Change) (c : Standing) (s : ℕ) (q : ShareKey) (bytes : List ℕ) → AllByRecursion IsPut changes → c s q ≡ Some bytes → all_changed settings changes c s q ≡ Some bytes
 all_kept settings [] c s q bytes puts is = is
 all_kept settings (x ∷ changes) c s q bytes puts is = all_kept settings changes (changed settings x c) s q bytes puts.1 (one_kept settings x c s q bytes puts.0 is)
 
-later : (settings : Settings) (changes : List Change) (k : ℕ) (c : Standing) (s : ℕ) (q : ShareKey) (bytes : List ℕ) → AllByRecursion IsPut changes → all_changed settings (take k changes) c s q ≡ Some bytes
+later : (settings : GatewaySettings) (changes : List Change) (k : ℕ) (c : Standing) (s : ℕ) (q : ShareKey) (bytes : List ℕ) → AllByRecursion IsPut changes → all_changed settings (take k changes) c s q ≡ Some bytes
     → all_changed settings changes c s q ≡ Some bytes
 later settings [] zero c s q bytes puts is = is
 later settings [] (suc k) c s q bytes puts is = is
 later settings (x ∷ changes) zero c s q bytes puts is = all_kept settings (x ∷ changes) c s q bytes puts is
 later settings (x ∷ changes) (suc k) c s q bytes puts is = later settings changes k (changed settings x c) s q bytes puts.1 is
 
-pub still_stands : (settings : Settings) (changes : List Change) (before seen : Standing) (s : ℕ) (q : ShareKey) (bytes : List ℕ) → AllByRecursion IsPut changes → IsSeen settings changes before seen
+pub still_stands : (settings : GatewaySettings) (changes : List Change) (before seen : Standing) (s : ℕ) (q : ShareKey) (bytes : List ℕ) → AllByRecursion IsPut changes → IsSeen settings changes before seen
     → seen s q ≡ Some bytes → all_changed settings changes before s q ≡ Some bytes
 still_stands settings changes before seen s q bytes puts each is = later settings changes (each s q).0 before s q bytes puts (sym (each s q).1 ∙ is)
 
@@ -85,7 +85,7 @@ module _ (servers : ℕ) (u : Upload) (c : Standing) (all : AllStandIn servers u
           ap (λ b. cond b (Some (unwrap_or (c s q) (unwrap_or (slice_get (shares_of u) q.1) []))) (c s q)) on
           ∙ ap (λ (o : Option (List ℕ)). Some (unwrap_or o (unwrap_or (slice_get (shares_of u) q.1) []))) is ∙ sym is
 
-pub done : PutLaw → LostLaw → SpoiledLaw → (settings : Settings) (w : World) (id : ℕ) (secret : List ℕ) (item : Item) (u : Upload) → upload_by (under settings secret) item ≡ Some u
+pub done : PutLaw → LostLaw → SpoiledLaw → (settings : GatewaySettings) (w : World) (id : ℕ) (secret : List ℕ) (item : Item) (u : Upload) → upload_by (under settings secret) item ≡ Some u
     → AllStandIn settings.servers u (shown w.marks) → shown (after_entry settings (Asked id secret item) w).marks ≡ shown w.marks
 done put lost spoil settings w id secret item u is all =
     stands_after put lost spoil settings secret id u w item is ∙ (λ j s q. same_at settings.servers u (shown w.marks) all s q j)

@@ -18,7 +18,7 @@ use Rattle.chk_file.specs.Upload.{Upload, index, share_of, shares_of}
 use Rattle.chk_file.specs.Marks.{shown, put_marks}
 use Rattle.chk_file.specs.World.{World, with_file}
 use Rattle.web_ops.specs.Uploads.{after_stored}
-use Rattle.gate_core.specs.Settings.{Settings, under}
+use Rattle.gate_core.specs.Settings.{GatewaySettings, under}
 use Rattle.gate_core.specs.Items.{Entry, Asked, Lost, Spoiled}
 use Rattle.gate_core.specs.Runs.{upload_by, after_entry}
 use Rattle.restarts.specs.CutOff.{IsCutOff}
@@ -36,20 +36,20 @@ share_there servers None number c e s q same = same
 share_there servers (Some u) number c e s q same =
     ap (λ (o : Option (List ℕ)). cond (nat_lt number u.n && (s == server_of servers (index u) number && eq_by_cmp key_cmp q (index u, number))) (Some (unwrap_or o (share_of u number))) o) same
 
-there : (settings : Settings) (x : Change) (c e : Standing) (s : ℕ) (q : ShareKey) → c s q ≡ e s q → changed settings x c s q ≡ changed settings x e s q
+there : (settings : GatewaySettings) (x : Change) (c e : Standing) (s : ℕ) (q : ShareKey) → c s q ≡ e s q → changed settings x c s q ≡ changed settings x e s q
 there settings (Put id secret item number) c e s q same = share_there settings.servers (upload_by (under settings secret) item) number c e s q same
 there settings (Lose server key) c e s q same = ap (λ (o : Option (List ℕ)). cond (s == server && eq_by_cmp key_cmp q key) None o) same
 there settings (Spoil server key place) c e s q same =
     ap (λ (o : Option (List ℕ)). cond (s == server && eq_by_cmp key_cmp q key) (option_map (λ bytes. toggled bytes place) o) o) same
 
-all_there : (settings : Settings) (changes : List Change) (c e : Standing) (s : ℕ) (q : ShareKey) → c s q ≡ e s q → all_changed settings changes c s q ≡ all_changed settings changes e s q
+all_there : (settings : GatewaySettings) (changes : List Change) (c e : Standing) (s : ℕ) (q : ShareKey) → c s q ≡ e s q → all_changed settings changes c s q ≡ all_changed settings changes e s q
 all_there settings [] c e s q same = same
 all_there settings (x ∷ changes) c e s q same = all_there settings changes (changed settings x c) (changed settings x e) s q (there settings x c e s q same)
 
 -- ---- a change is a part of its item
 
 -- there stands what stood before, or what stands after the item
-abbrev pub IsPartAt : Settings → World → Entry → Standing → ℕ → ShareKey → Type 0
+abbrev pub IsPartAt : GatewaySettings → World → Entry → Standing → ℕ → ShareKey → Type 0
 IsPartAt settings w x c s q = (c s q ≡ shown w.marks s q) ⊎ (c s q ≡ shown (after_entry settings x w).marks s q)
 
 module _ (servers : ℕ) (u : Upload) (number : ℕ) (c : Standing) where
@@ -89,7 +89,7 @@ module _ (servers : ℕ) (u : Upload) (number : ℕ) (c : Standing) where
           (here (ltb-true number u.n parts.0))) in
           inr (ap (λ b. cond b (Some (unwrap_or (c s q) (share_of u number))) (c s q)) on ∙ sym mine)
 
-module _ (put : PutLaw) (lost : LostLaw) (spoil : SpoiledLaw) (settings : Settings) where
+module _ (put : PutLaw) (lost : LostLaw) (spoil : SpoiledLaw) (settings : GatewaySettings) where
   pub stands_after : (secret : List ℕ) (id : ℕ) (u : Upload) (w : World) (item : Item) → upload_by (under settings secret) item ≡ Some u
       → shown (after_entry settings (Asked id secret item) w).marks ≡ placed settings.servers (index u) (shares_of u) (shown w.marks)
   stands_after secret id u w item is =

@@ -5,10 +5,10 @@ use Rattle.std.proofs.lemmas.Bool.{cases_eq}
 use Rattle.std.specs.FinMap as map
 use Rattle.grid.specs.GridState.{GridState, NoneFailed}
 use Rattle.gate_core.specs.declared.stage.Stage.TheVariants.{Open as OpenStage}
-use Rattle.gate_core.specs.Settings.{Settings}
+use Rattle.gate_core.specs.Settings.{GatewaySettings}
 use Rattle.gate_core.specs.Events.{Event, Open, Bytes, End, Take}
 use Rattle.gate_core.specs.ConnectionState.{ConnectionState, State, Connections, connection_at}
-use Rattle.gate_core.specs.AfterCall.{with_held, with_grid, opened, taken, ended}
+use Rattle.gate_core.specs.AfterCall.{with_held, with_grid, opened, taken, ended_state}
 use Rattle.gate_core.specs.Served.{IsFed, IsReceived}
 use Rattle.gate_core.specs.Came.{Opening, Came, IsRoomy}
 use Rattle.gate_core.proofs.Maps.{get-insert_here, get-insert_other}
@@ -65,7 +65,7 @@ pub together : ReceivedLaw → (opening : Opening) (all part new : State) (event
 together law opening all part new events id held piece came is found going r roomy calm =
     let after : State = record { settings = all.settings; connections = map.insert all.connections id r.after; grid = new.grid; tally = all.tally } in
     let fed : IsFed all.settings piece held r.after all.grid new.grid =
-    subst (λ (s : Settings). IsFed s piece held r.after all.grid new.grid) is.settings (subst (λ (g : GridState). IsFed part.settings piece held r.after g new.grid) is.grid r.fed) in
+    subst (λ (s : GatewaySettings). IsFed s piece held r.after all.grid new.grid) is.settings (subst (λ (g : GridState). IsFed part.settings piece held r.after g new.grid) is.grid r.fed) in
     let received : IsReceived all after id held piece = record { after = r.after; settings = refl; connections = refl; fed = fed } in
     goes_on opening all part new id r.after events (Bytes id piece) is r.settings r.connections
     (law opening all after events id held piece came (is.held id held found) going received roomy (subst (λ (g : GridState). NoneFailed g new.grid) is.grid calm))

@@ -7,7 +7,7 @@ use Rattle.grid.specs.Standing.{Standing}
 use Rattle.grid.specs.Placement.{server_of}
 use Rattle.grid.specs.Changes.{without, spoiled}
 use Rattle.chk_file.specs.Upload.{Upload, index, share_of}
-use Rattle.gate_core.specs.Settings.{Settings, under}
+use Rattle.gate_core.specs.Settings.{GatewaySettings, under}
 use Rattle.gate_core.specs.Items.{Entry, Asked, Lost, Spoiled}
 use Rattle.gate_core.specs.Runs.{upload_by}
 
@@ -36,12 +36,12 @@ with_one_share servers (Some u) number before s q =
     else before s q
 
 -- what stands after a change
-abbrev pub changed : Settings → Change → Standing → Standing
+abbrev pub changed : GatewaySettings → Change → Standing → Standing
 changed settings (Put id secret item number) before = with_one_share settings.servers (upload_by (under settings secret) item) number before
 changed settings (Lose server key) before = without server key before
 changed settings (Spoil server key place) before = spoiled server key place before
 
 -- and after several, one after the other, whoever made them
-abbrev pub all_changed : Settings → List Change → Standing → Standing
+abbrev pub all_changed : GatewaySettings → List Change → Standing → Standing
 all_changed settings [] before = before
 all_changed settings (x ∷ changes) before = all_changed settings changes (changed settings x before)

@@ -6,7 +6,7 @@ use Rattle.grid.specs.Placement.{server_of}
 use Rattle.chk_file.specs.Upload.{Upload, index}
 use Rattle.chk_file.specs.Marks.{shown}
 use Rattle.chk_file.specs.World.{World}
-use Rattle.gate_core.specs.Settings.{Settings}
+use Rattle.gate_core.specs.Settings.{GatewaySettings}
 use Rattle.gate_core.specs.Items.{Entry}
 use Rattle.gate_core.specs.Runs.{world_after}
 use Rattle.gate_core.specs.Uploaded.{IsLeftBy}
@@ -15,12 +15,12 @@ use Rattle.many_gates.specs.Changes.{Change, Put, Lose, Spoil, items_of_changes,
 
 -- Each place was looked at at a moment of its own, after some of the changes that were made meanwhile: there stood then
 -- what was seen.
-abbrev pub IsSeen : Settings → List Change → Standing → Standing → Type 0
+abbrev pub IsSeen : GatewaySettings → List Change → Standing → Standing → Type 0
 IsSeen settings changes before seen = (s : ℕ) (q : ShareKey) → (k : ℕ) × (seen s q ≡ all_changed settings (take k changes) before s q)
 
 -- What was seen a run leaves that goes on with ends of the items that were under way: each not begun, or done and then shares
 -- that hadn't stood before it lost.
-pub record SeenOf (settings : Settings) (past : List Entry) (w : World) (changes : List Change) (seen : Standing) : Type 0 where
+pub record SeenOf (settings : GatewaySettings) (past : List Entry) (w : World) (changes : List Change) (seen : Standing) : Type 0 where
   pub ends : List Entry
   pub are : AreEnds settings w (items_of_changes changes) ends
   pub left : IsLeftBy settings (past ++ ends) (world_after settings w ends)

@@ -10,15 +10,15 @@ ghost use Rattle.chk_file.specs.Upload.{Upload};
 ghost use Rattle.chk_file.specs.Marks.{shown};
 ghost use Rattle.chk_file.specs.World.{World};
 ghost use Rattle.chk_file.specs.Look.{look_in, by_held};
-ghost use Rattle.gate_core.specs.Settings.{Settings, under};
+ghost use Rattle.gate_core.specs.Settings.{GatewaySettings, under};
 ghost use Rattle.gate_core.specs.Events.{Event, Open, Bytes, End, Take};
 ghost use Rattle.gate_core.specs.Items.{Entry, Asked};
 ghost use Rattle.gate_core.specs.Runs.{upload_by, after_entry, world_after, told};
-ghost use Rattle.gate_core.specs.Reach.{only};
+ghost use Rattle.gate_core.specs.Reach.{only_caller};
 ghost use Rattle.gate_core.specs.Apart.{Apart};
 ghost use Rattle.gate_core.specs.Uploaded.{IsProper, IsLeftBy};
 ghost use Rattle.gate_core.specs.ConnectionState.{ConnectionState, State, connection_at};
-ghost use Rattle.gate_core.specs.AfterCall.{with_held, opened, taken, ended};
+ghost use Rattle.gate_core.specs.AfterCall.{with_held, opened, taken, ended_state};
 ghost use Rattle.gate_core.specs.Served.{IsReceived};
 ghost use Rattle.gate_core.specs.Came.{Opening, Came, IsRoomy};
 ghost use Rattle.restarts.specs.Mended.{AreCutOff};
@@ -29,7 +29,7 @@ ghost use Rattle.many_gates.specs.Parts.{IsOneOfThem, GoesOnTogether};
 /// What is seen while others change a grid, each place at a moment of its own, is what stands where each of the items
 /// under way was cut off, done, or not begun.
 pub fn looks_see_items_cut_off()
-    ensures { (settings : Settings) (changes : List Change) (before seen : Standing) →
+    ensures { (settings : GatewaySettings) (changes : List Change) (before seen : Standing) →
         IsSeen settings changes before seen →
         AreCutOff settings before (items_of_changes changes) seen }
 {
@@ -38,7 +38,7 @@ pub fn looks_see_items_cut_off()
 
 /// So it is what a run leaves: all items that were done before, whole, and ends of those under way.
 pub fn looks_are_at_runs()
-    ensures { (settings : Settings) (past : List Entry) (w : World) (changes : List Change)
+    ensures { (settings : GatewaySettings) (past : List Entry) (w : World) (changes : List Change)
         (seen : Standing) → IsLeftBy settings past w →
         AllByRecursion (λ x. IsProper settings (item_of_change x ∷ [])) changes →
         IsSeen settings changes (shown w.marks) seen → SeenOf settings past w changes seen }
@@ -50,10 +50,10 @@ pub fn looks_are_at_runs()
 /// Where only gateways change the grid, a look finds what stood when it began, and what it finds stands when it ends:
 /// no share goes away.
 pub fn looks_lie_between()
-    ensures seen { (settings : Settings) (changes : List Change) (before seen : Standing) (s : ℕ)
+    ensures seen { (settings : GatewaySettings) (changes : List Change) (before seen : Standing) (s : ℕ)
         (q : ShareKey) (bytes : List ℕ) → AllByRecursion IsPut changes →
         IsSeen settings changes before seen → before s q ≡ Some bytes → seen s q ≡ Some bytes }
-    ensures stands { (settings : Settings) (changes : List Change) (before seen : Standing)
+    ensures stands { (settings : GatewaySettings) (changes : List Change) (before seen : Standing)
         (s : ℕ) (q : ShareKey) (bytes : List ℕ) → AllByRecursion IsPut changes →
         IsSeen settings changes before seen → seen s q ≡ Some bytes →
         all_changed settings changes before s q ≡ Some bytes }
@@ -61,7 +61,7 @@ pub fn looks_lie_between()
 
 /// An upload of which a share of each number stands is done: the run may have it whole.
 pub fn whole_uploads_are_done()
-    ensures { (settings : Settings) (w : World) (id : ℕ) (secret : List ℕ) (item : Item)
+    ensures { (settings : GatewaySettings) (w : World) (id : ℕ) (secret : List ℕ) (item : Item)
         (u : Upload) → upload_by (under settings secret) item ≡ Some u →
         AllStandIn settings.servers u (shown w.marks) →
         shown (after_entry settings (Asked id secret item) w).marks ≡ shown w.marks }
@@ -72,10 +72,10 @@ pub fn whole_uploads_are_done()
 /// An item that is answered by what was seen so is told what the written answers say in the world that this run
 /// leaves, where no two of its strings collide.
 pub fn answers_are_written_ones()
-    ensures { (settings : Settings) (past : List Entry) (w : World) (changes : List Change)
+    ensures { (settings : GatewaySettings) (past : List Entry) (w : World) (changes : List Change)
         (seen : Standing) (run : SeenOf settings past w changes seen) (caller : ℕ) (x : Entry) →
         IsProper settings (x ∷ []) →
-        Apart settings (only caller) (past ++ run.ends) (world_after settings w run.ends) (x ∷ []) →
+        Apart settings (only_caller caller) (past ++ run.ends) (world_after settings w run.ends) (x ∷ []) →
         told settings (look_in seen) caller x
         ≡ told settings (by_held (world_after settings w run.ends)) caller x }
 {
@@ -106,7 +106,7 @@ pub fn gateways_are_one()
     ensures ended { (opening : Opening) (all part : State) (events : List Event) (id : ℕ)
         (held : ConnectionState) → Came opening all events → IsOneOfThem part all →
         connection_at part id ≡ Some held →
-        GoesOnTogether opening all (with_held part id (ended held)) id events (End id) }
+        GoesOnTogether opening all (with_held part id (ended_state held)) id events (End id) }
 {
     gate_core::laws::came_goes_on();
 }

@@ -6,7 +6,7 @@ use Rattle.std.proofs.lemmas.Str.{IsUtf8-from_is_utf8}
 use Rattle.std.specs.List.{list_all, slice_split}
 use Rattle.std.specs.Str.{is_utf8}
 use Rattle.percent_encoding.specs.Percent.{percent_decode}
-use Rattle.path_names.specs.Names.{first_or_empty, without_end_slash, segments, texts}
+use Rattle.path_names.specs.Names.{first_or_empty, without_end_slash, path_segments, segment_texts}
 
 -- the test fails where the bytes aren't UTF-8
 pub not_utf8 : (bytes : List ℕ) → ¬ (IsUtf8 bytes) → is_utf8 bytes ≡ false
@@ -29,11 +29,11 @@ mapped (x ∷ xs) = ap (λ rest. percent_decode x.now ∷ rest) (mapped xs)
 
 -- the pieces, decoded, are the path's texts
 pub texts_from_pieces : (path cut : List ℕ) (items shown : List (Bor (List ℕ))) → cut ≡ without_end_slash path → map (λ piece. piece.now) items ≡ slice_split (λ b. b == 47) cut → shown ≡ items
-    → map (λ piece. percent_decode piece.now) shown ≡ texts path
+    → map (λ piece. percent_decode piece.now) shown ≡ segment_texts path
 texts_from_pieces path cut items shown whole split same = ap (map (λ piece. percent_decode piece.now)) same ∙ mapped items ∙ ap (map percent_decode) (split ∙ ap (slice_split (λ b. b == 47)) whole)
 
-pub length-texts : (path : List ℕ) → 0 < length (texts path)
-length-texts path = let pieces = length-slice_split (λ b. b == 47) (without_end_slash path) in let same = length-map (segments path) percent_decode in omega (arith, pieces, same)
+pub length-texts : (path : List ℕ) → 0 < length (segment_texts path)
+length-texts path = let pieces = length-slice_split (λ b. b == 47) (without_end_slash path) in let same = length-map (path_segments path) percent_decode in omega (arith, pieces, same)
 
 pub first_is : (xs : List (List ℕ)) (x : List ℕ) → 0 < length xs → x ≡ get_or xs 0 x → first_or_empty xs ≡ x
 first_is [] x some is = absurd (omega arith)

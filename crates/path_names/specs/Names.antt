@@ -32,12 +32,12 @@ abbrev pub without_end_slash : List ℕ → List ℕ
 without_end_slash path = if slice_index path (length path - 1) == slash then take (length path - 1) path else path
 
 -- the bytes between the slashes; one empty segment at the end is no segment
-abbrev pub segments : List ℕ → List (List ℕ)
-segments path = slice_split (λ b. b == slash) (without_end_slash path)
+abbrev pub path_segments : List ℕ → List (List ℕ)
+path_segments path = slice_split (λ b. b == slash) (without_end_slash path)
 
 -- the bytes that the segments stand for
-abbrev pub texts : List ℕ → List (List ℕ)
-texts path = map percent_decode (segments path)
+abbrev pub segment_texts : List ℕ → List (List ℕ)
+segment_texts path = map percent_decode (path_segments path)
 
 abbrev pub is_empty : List ℕ → Bool
 is_empty text = length text == 0
@@ -53,7 +53,7 @@ first_or_empty (text ∷ more) = text
 abbrev pub names_of : List ℕ → Result (List ℕ × List (List ℕ)) PathFault
 names_of path =
     if has_bad_escape path then Err BadEscape
-    else (if not (list_all is_utf8 (texts path)) then Err NotUtf8
-    else (if nat_lt (1 + max_names) (length (texts path)) then Err TooMany
-    else (if list_any is_empty (drop 1 (texts path)) then Err EmptyName
-    else Ok (first_or_empty (texts path), map nfc_text (drop 1 (texts path))))))
+    else (if not (list_all is_utf8 (segment_texts path)) then Err NotUtf8
+    else (if nat_lt (1 + max_names) (length (segment_texts path)) then Err TooMany
+    else (if list_any is_empty (drop 1 (segment_texts path)) then Err EmptyName
+    else Ok (first_or_empty (segment_texts path), map nfc_text (drop 1 (segment_texts path))))))

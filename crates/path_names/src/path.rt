@@ -4,7 +4,7 @@ ghost use Rattle.std.specs.List.{list_all, list_any};
 ghost use Rattle.std.specs.Str.{is_utf8};
 ghost use Rattle.percent_encoding.specs.Percent.{percent_decode};
 ghost use Rattle.dir_codec.specs.Children.{nfc_text};
-ghost use Rattle.path_names.specs.Names.{texts, is_empty, names_of};
+ghost use Rattle.path_names.specs.Names.{segment_texts, is_empty, names_of};
 ghost use Rattle.path_names.specs.declared.fault.PathFault.TheVariants.{NotUtf8, NoMemory};
 
 use crate::fault::PathFault;
@@ -45,12 +45,12 @@ pub fn names(alloc: Global, path: &[u8]) -> Result<(Text, Names), PathFault>
 }
 /// The texts of the path's segments.
 fn decoded(alloc: Global, path: &[u8]) -> Result<Vec<Text>, PathFault>
-    ensures ok { IfOk result (λ found. found.items ≡ texts path.now) }
+    ensures ok { IfOk result (λ found. found.items ≡ segment_texts path.now) }
     ensures some { IfOk result (λ found. 0 < length found.items) }
-    ensures utf8 { IfOk result (λ found. list_all is_utf8 (texts path.now) ≡ true) }
+    ensures utf8 { IfOk result (λ found. list_all is_utf8 (segment_texts path.now) ≡ true) }
     ensures fault { IfErr result (λ fault. fault ≢ NoMemory → fault ≡ NotUtf8) }
     ensures other { IfErr result (λ fault. fault ≢ NoMemory →
-        list_all is_utf8 (texts path.now) ≡ false) }
+        list_all is_utf8 (segment_texts path.now) ≡ false) }
 {
     let pieces = segments(alloc, without_end_slash(path))?;
     let mut found = Vec::with_capacity(alloc, pieces.len())?;

@@ -2,17 +2,17 @@
 use Rattle.std.specs.Prelude.{◌≡◌, ⊤, List, All}
 use Rattle.caps.specs.declared.cap.Cap.{Cap}
 use Rattle.caps.specs.declared.cap.Cap.TheVariants.{Chk, Lit, DirChk, DirLit, ChkVerify, DirChkVerify}
-use Rattle.path_walk.specs.Walk.{Gives}
+use Rattle.path_walk.specs.Walk.{FileLookup}
 
 -- they give the same for the fields of a stored directory
-abbrev pub AgreesAt : Gives → Gives → Cap → Type 0
-AgreesAt gives other (Chk fields) = ⊤
-AgreesAt gives other (Lit bytes) = ⊤
-AgreesAt gives other (DirChk fields) = gives fields ≡ other fields
-AgreesAt gives other (DirLit bytes) = ⊤
-AgreesAt gives other (ChkVerify fields) = ⊤
-AgreesAt gives other (DirChkVerify fields) = ⊤
+abbrev pub GivesSameAt : FileLookup → FileLookup → Cap → Type 0
+GivesSameAt gives other (Chk fields) = ⊤
+GivesSameAt gives other (Lit bytes) = ⊤
+GivesSameAt gives other (DirChk fields) = gives fields ≡ other fields
+GivesSameAt gives other (DirLit bytes) = ⊤
+GivesSameAt gives other (ChkVerify fields) = ⊤
+GivesSameAt gives other (DirChkVerify fields) = ⊤
 
 -- and for each of the caps
-abbrev pub AgreeOn : Gives → Gives → List Cap → Type 0
-AgreeOn gives other caps = All (AgreesAt gives other) caps
+abbrev pub GiveSameOn : FileLookup → FileLookup → List Cap → Type 0
+GiveSameOn gives other caps = All (GivesSameAt gives other) caps

@@ -23,9 +23,9 @@ pub record IsChild (cap : Cap) (name : List ℕ) (child : Cap) : Type 0 where
   pub found : child_in name bytes ≡ Ok child
 
 -- the names lead from the cap to the end, from child to child
-abbrev pub Leads : Cap → List (List ℕ) → Cap → Type 0
-Leads cap [] end = end ≡ cap
-Leads cap (name ∷ more) end = (child : Cap) × (IsChild cap name child × Leads child more end)
+abbrev pub NamesLeadTo : Cap → List (List ℕ) → Cap → Type 0
+NamesLeadTo cap [] end = end ≡ cap
+NamesLeadTo cap (name ∷ more) end = (child : Cap) × (IsChild cap name child × NamesLeadTo child more end)
 
 -- why there is no step from a cap: no bytes of it were found, they have no such child, or it reads no directory
 abbrev pub IsStop : Cap → List ℕ → WalkFault → Type 0
@@ -37,6 +37,6 @@ IsStop (ChkVerify fields) name fault = fault ≡ NotDirectory
 IsStop (DirChkVerify fields) name fault = fault ≡ NotDirectory
 
 -- the first names lead to a cap from which there is no step by the next
-abbrev pub Stops : Cap → List (List ℕ) → WalkFault → Type 0
-Stops cap [] fault = ⊥
-Stops cap (name ∷ more) fault = IsStop cap name fault ⊎ ((child : Cap) × (IsChild cap name child × Stops child more fault))
+abbrev pub WalkStops : Cap → List (List ℕ) → WalkFault → Type 0
+WalkStops cap [] fault = ⊥
+WalkStops cap (name ∷ more) fault = IsStop cap name fault ⊎ ((child : Cap) × (IsChild cap name child × WalkStops child more fault))

@@ -3,35 +3,35 @@ ghost use Rattle.std.specs.Prelude.{◌≡◌, ℕ, List, Ok, Err, IfSome, Conta
 ghost use Rattle.caps.specs.declared.cap.Cap.{Cap};
 ghost use Rattle.caps.specs.Fields.{ReadValue};
 ghost use Rattle.chk_file.specs.Bound.{Bound};
-ghost use Rattle.path_walk.specs.Walk.{Gives, walked, met};
-ghost use Rattle.path_walk.specs.Way.{Leads, Stops};
+ghost use Rattle.path_walk.specs.Walk.{FileLookup, walked, met};
+ghost use Rattle.path_walk.specs.Way.{NamesLeadTo, WalkStops};
 ghost use Rattle.path_walk.specs.declared.fault.WalkFault.{WalkFault};
-ghost use Rattle.path_walk.specs.Agree.{AgreeOn};
+ghost use Rattle.path_walk.specs.Agree.{GiveSameOn};
 
 /// Where two looks agree on the caps that a walk meets, it ends alike over both, and meets the same caps.
 pub fn walks_agree_where_looks_do()
-    ensures walks { (gives other : Gives) (cap : Cap) (names : List (List ℕ)) →
-        AgreeOn gives other (met gives cap names) →
+    ensures walks { (gives other : FileLookup) (cap : Cap) (names : List (List ℕ)) →
+        GiveSameOn gives other (met gives cap names) →
         walked gives cap names ≡ walked other cap names }
-    ensures met { (gives other : Gives) (cap : Cap) (names : List (List ℕ)) →
-        AgreeOn gives other (met gives cap names) →
+    ensures met { (gives other : FileLookup) (cap : Cap) (names : List (List ℕ)) →
+        GiveSameOn gives other (met gives cap names) →
         met gives cap names ≡ met other cap names }
 {}
 
 /// A walk meets the cap that it begins at and the one that it ends at.
 pub fn walks_meet_their_ends()
-    ensures beginning { (gives : Gives) (cap : Cap) (names : List (List ℕ)) →
+    ensures beginning { (gives : FileLookup) (cap : Cap) (names : List (List ℕ)) →
         Contains (met gives cap names) cap }
-    ensures end { (gives : Gives) (cap : Cap) (names : List (List ℕ)) (end : Cap) →
+    ensures end { (gives : FileLookup) (cap : Cap) (names : List (List ℕ)) (end : Cap) →
         walked gives cap names ≡ Ok end → Contains (met gives cap names) end }
 {}
 
 /// Over a look that gives only bound bytes, the names lead to the end of a walk, or stop with its fault.
 pub fn bound_looks_lead()
-    ensures leads { (gives : Gives) (cap : Cap) (names : List (List ℕ)) (end : Cap) →
+    ensures leads { (gives : FileLookup) (cap : Cap) (names : List (List ℕ)) (end : Cap) →
         ((f : ReadValue) → IfSome (gives f) (Bound f)) → walked gives cap names ≡ Ok end →
-        Leads cap names end }
-    ensures stops { (gives : Gives) (cap : Cap) (names : List (List ℕ)) (fault : WalkFault) →
+        NamesLeadTo cap names end }
+    ensures stops { (gives : FileLookup) (cap : Cap) (names : List (List ℕ)) (fault : WalkFault) →
         ((f : ReadValue) → IfSome (gives f) (Bound f)) → walked gives cap names ≡ Err fault →
-        Stops cap names fault }
+        WalkStops cap names fault }
 {}

@@ -3,7 +3,7 @@ use Rattle.std.proofs.Common.{◌≡◌, ℕ, ◌-◌, ◌<◌, ◌≤◌, Bool,
 use Rattle.std.specs.Prelude.{nat_lt, nat_le, ◌==◌}
 use Rattle.std.proofs.lemmas.Bool.Decides.{nat_tests}
 use Rattle.range_view.specs.Asked.{Asked, FromTo, From, Last}
-use Rattle.range_view.specs.Resolved.{answered}
+use Rattle.range_view.specs.Resolved.{resolved_range}
 use Rattle.range_view.specs.declared.range.Resolved.TheVariants.{Whole, Part, Unsatisfiable}
 
 above : (n m : ℕ) → nat_le n m ≡ false → m < n
@@ -15,7 +15,7 @@ not_below n m h = grind (arith, nat_tests)
 not_zero : (n : ℕ) → (n == 0) ≡ false → 0 < n
 not_zero n h = grind (arith, nat_tests)
 
-pub within : (asked : Option Asked) (size from to : ℕ) → answered asked size ≡ Part from to → (from ≤ to) × (to < size)
+pub within : (asked : Option Asked) (size from to : ℕ) → resolved_range asked size ≡ Part from to → (from ≤ to) × (to < size)
 within None size from to e = absurd (cc)
 within (Some (FromTo first last)) size from to e = go (nat_lt last first) (nat_le size first) refl refl e
   where

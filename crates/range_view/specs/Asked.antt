@@ -17,8 +17,8 @@ abbrev pub past : ℕ
 past = 2 ^ 64
 
 -- the number that one or more digits write, none for any other text
-abbrev pub number_of : List ℕ → Option ℕ
-number_of text =
+abbrev pub digits_number : List ℕ → Option ℕ
+digits_number text =
     if not (length text == 0) && list_all is_ascii_digit text then Some (min (digits_value 10 text) past) else None
 
 abbrev pub from_to : Option ℕ → Option ℕ → Option Asked
@@ -29,9 +29,9 @@ from_to None last = None
 -- `first-last`, `first-` or `-count`
 abbrev pub asked_by : List ℕ → List ℕ → Option Asked
 asked_by first last =
-    if length first == 0 then option_map Last (number_of last)
-    else (if length last == 0 then option_map From (number_of first)
-    else from_to (number_of first) (number_of last))
+    if length first == 0 then option_map Last (digits_number last)
+    else (if length last == 0 then option_map From (digits_number first)
+    else from_to (digits_number first) (digits_number last))
 
 -- what stands before and after the first `-`
 abbrev pub asked_at : List ℕ → Option ℕ → Option Asked

@@ -3,7 +3,7 @@ ghost use Rattle.std.specs.Prelude.{◌≡◌, ◌==◌, ◌+◌, ◌*◌, ◌&&
 ghost use Rattle.std.specs.Char.{is_ascii_digit};
 ghost use Rattle.std.specs.List.{list_all};
 ghost use Rattle.std.specs.Str.Parse.{digits_value};
-ghost use Rattle.range_view.specs.Asked.{number_of, past};
+ghost use Rattle.range_view.specs.Asked.{digits_number, past};
 
 use octets::is_all_digits;
 use std::marker::Model;
@@ -62,7 +62,7 @@ impl Number {
 
 /// The number that one or more digits write, `None` for any other text.
 pub fn number_of(text: &[u8]) -> Option<Number>
-    ensures { result ≡ number_of text.now }
+    ensures { result ≡ digits_number text.now }
 {
     if !is_number(text) {
         return None;

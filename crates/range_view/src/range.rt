@@ -1,7 +1,7 @@
 //! Which part of a file is asked for.
 ghost use Rattle.std.specs.Prelude.{◌≡◌, Some};
 ghost use Rattle.range_view.specs.Asked.{asked_by, asked_of_set, FromTo, From, Last};
-ghost use Rattle.range_view.specs.Resolved.{answered, resolved};
+ghost use Rattle.range_view.specs.Resolved.{resolved_range, resolved};
 
 use crate::number::{Number, number_of};
 use crate::value::{cut_at_dash, set_of};
@@ -38,7 +38,7 @@ pub fn resolve(text: &[u8], size: u64) -> Resolved
 
 /// What follows the unit, for a file of `size` bytes.
 fn resolve_set(set: &[u8], size: u64) -> Resolved
-    ensures { result ≡ answered (asked_of_set set.now) size }
+    ensures { result ≡ resolved_range (asked_of_set set.now) size }
 {
     match cut_at_dash(set) {
         Some((first, last)) => resolve_texts(first, last, size),
@@ -48,7 +48,7 @@ fn resolve_set(set: &[u8], size: u64) -> Resolved
 
 /// What stands before and after the dash, for a file of `size` bytes.
 fn resolve_texts(first: &[u8], last: &[u8], size: u64) -> Resolved
-    ensures { result ≡ answered (asked_by first.now last.now) size }
+    ensures { result ≡ resolved_range (asked_by first.now last.now) size }
 {
     if first.is_empty() {
         return match number_of(last) {
@@ -70,7 +70,7 @@ fn resolve_texts(first: &[u8], last: &[u8], size: u64) -> Resolved
 
 /// The bytes from one place to another.
 fn bytes_between(first: Number, last: Number, size: u64) -> Resolved
-    ensures { result ≡ answered (Some (FromTo first last)) size }
+    ensures { result ≡ resolved_range (Some (FromTo first last)) size }
 {
     if last.is_below(&first) {
         return Resolved::Whole;
@@ -86,7 +86,7 @@ fn bytes_between(first: Number, last: Number, size: u64) -> Resolved
 
 /// The bytes from a place on.
 fn bytes_from(first: Number, size: u64) -> Resolved
-    ensures { result ≡ answered (Some (From first)) size }
+    ensures { result ≡ resolved_range (Some (From first)) size }
 {
     match first.below(size) {
         Some(from) => Resolved::Part(from, size - 1),
@@ -96,7 +96,7 @@ fn bytes_from(first: Number, size: u64) -> Resolved
 
 /// The last so many bytes.
 fn last_bytes(count: Number, size: u64) -> Resolved
-    ensures { result ≡ answered (Some (Last count)) size }
+    ensures { result ≡ resolved_range (Some (Last count)) size }
 {
     if count.is_zero() {
         return Resolved::Unsatisfiable;

@@ -4,7 +4,7 @@ use Rattle.resp.specs.declared.limits.Limits.{Limits}
 use Rattle.resp.specs.declared.reply.Reply.{Reply}
 use Rattle.resp.specs.Spelled.{SpellsReply}
 use Rattle.redis_store.specs.Commands.{auth_command}
-use Rattle.redis_store.specs.Replies.{IsDone}
+use Rattle.redis_store.specs.Replies.{IsOkReply}
 
 -- what was told, and what came until something was told again
 abbrev pub Exchange : Type 0
@@ -47,5 +47,5 @@ value_limits longest = record { line = 512; bulk = longest; elements = 0 }
 abbrev pub IsGreeted : Option (List ℕ) → Talk → Type 0
 IsGreeted None talk = IsSilent talk
 IsGreeted (Some password) None = Unit {0}
-IsGreeted (Some password) (Some all) = (reply : Reply) × (came : List ℕ) × IsDone reply × SpellsReply short_limits reply came
+IsGreeted (Some password) (Some all) = (reply : Reply) × (came : List ℕ) × IsOkReply reply × SpellsReply short_limits reply came
     × (all ≡ (auth_command password, came) ∷ [])

@@ -1,5 +1,5 @@
 -- The keys of shares on a server.
-use Rattle.std.specs.Prelude.{◌≡◌, ℕ, ◌/◌, ◌%◌, ◌<◌, ◌^◌, List, [], ◌∷◌, ◌++◌, length, All}
+use Rattle.std.specs.Prelude.{ℕ, ◌/◌, ◌%◌, List, [], ◌∷◌, ◌++◌}
 use Rattle.hex.specs.Hex.{encode_lower}
 
 -- a storage index and a number in hexadecimal, with lower-case letters, the number's high byte first
@@ -9,9 +9,3 @@ digits index number = encode_lower (index ++ number / 256 ∷ number % 256 ∷ [
 -- the key of a share: the grid's id, and behind it those digits
 abbrev pub key : List ℕ → List ℕ → ℕ → List ℕ
 key grid index number = grid ++ digits index number
-
--- a storage index of 16 bytes, and a number of 16 bits
-pub record IsPlace (index : List ℕ) (number : ℕ) : Type 0 where
-  pub long : length index ≡ 16
-  pub octets : All (λ byte. byte < 256) index
-  pub small : number < 2 ^ 16

@@ -1,5 +1,5 @@
 -- Read GridText and Strange for whose a server is and Keys for where a share stands, then Exchanges and Told: what a
--- connection was told and what came. Commands, Replies and Answers are its bytes. Left says how a connection is left.
+-- connection was told and what came. Commands, Replies and Answers are its bytes. AfterExchange says how a connection is left.
 pub mod Keys
 pub mod GridText
 pub mod Strange
@@ -8,4 +8,4 @@ pub mod Replies
 pub mod Exchanges
 pub mod Answers
 pub mod Told
-pub mod Left
+pub mod AfterExchange

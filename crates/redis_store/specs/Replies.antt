@@ -6,8 +6,8 @@ use Rattle.resp.specs.declared.reply.Reply.{Reply}
 use Rattle.resp.specs.declared.reply.Reply.TheVariants as reply
 
 -- `+OK`
-abbrev pub IsDone : Reply → Type 0
-IsDone answer = answer ≡ reply.One (item.Text (codes "OK"))
+abbrev pub IsOkReply : Reply → Type 0
+IsOkReply answer = answer ≡ reply.One (item.Text (codes "OK"))
 
 -- the bytes, or that there are none
 abbrev pub IsValue : Reply → Option (List ℕ) → Type 0

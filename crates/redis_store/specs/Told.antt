@@ -11,7 +11,7 @@ use Rattle.redis_store.specs.declared.connection.Greeting.{Greeting}
 use Rattle.redis_store.specs.Answers.{SaysWhether, SayWhich}
 use Rattle.redis_store.specs.Commands.{put_command}
 use Rattle.redis_store.specs.GridText.{grid_text}
-use Rattle.redis_store.specs.Left.{IsOfLink}
+use Rattle.redis_store.specs.AfterExchange.{IsOfLink}
 use Rattle.redis_store.specs.Strange.{IsStrange}
 use Rattle.redis_store.specs.declared.fault.ServerFault.{ServerFault}
 use Rattle.redis_store.specs.declared.fault.ServerFault.TheVariants.{SettingsRotten, OtherGrid, OtherSecret, OtherPlace}

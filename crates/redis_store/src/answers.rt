@@ -2,9 +2,9 @@
 ghost use Rattle.std.specs.Prelude.{◌≡◌, ◌↔◌, ◌+◌, ◌++◌, ◌∷◌, ◌<◌, ◌^◌, ℕ, Bool, List, Option, [], IsTrue, IfSome, IfNone, IfOk, IfErr, OnOk, length, if◌then◌else◌};
 ghost use Rattle.resp.specs.declared.reply.Item.TheVariants as item;
 ghost use Rattle.resp.specs.declared.reply.Reply.TheVariants as replies;
-ghost use Rattle.redis_store.specs.Replies.{IsDone, IsValue, IsOtherKind, GivesShare};
+ghost use Rattle.redis_store.specs.Replies.{IsOkReply, IsValue, IsOtherKind, GivesShare};
 ghost use Rattle.redis_store.specs.Answers.{SaysWhether, SayWhich, IsFaultOf};
-ghost use Rattle.redis_store.specs.Left.{IsOfReply};
+ghost use Rattle.redis_store.specs.AfterExchange.{IsOfReply};
 
 use crate::ServerFault;
 use octets::Bytes;
@@ -13,7 +13,7 @@ use std::alloc::{AllocError, Global};
 
 /// Whether it is `OK`.
 pub(crate) fn is_done(reply: &Reply) -> bool
-    ensures { IsTrue result ↔ IsDone reply.now }
+    ensures { IsTrue result ↔ IsOkReply reply.now }
 {
     match reply {
         Reply::One(Item::Text(text)) => text.as_slice() == b"OK".as_slice(),

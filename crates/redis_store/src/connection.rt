@@ -3,12 +3,12 @@ ghost use Rattle.std.specs.Prelude.{◌≡◌, ◌<◌, ◌++◌, ◌⊎◌, ℕ
 ghost use Rattle.resp.specs.Command.{line_end};
 ghost use Rattle.resp.specs.Spelled.{SpellsReply, SpellsAll};
 ghost use Rattle.resp.specs.declared.reply.Reply.{Reply};
-ghost use Rattle.redis_store.specs.Replies.{IsDone, IsError, IsValue};
+ghost use Rattle.redis_store.specs.Replies.{IsOkReply, IsError, IsValue};
 ghost use Rattle.redis_store.specs.Exchanges.{short_limits, with_exchange, IsGreeted};
 ghost use Rattle.redis_store.specs.Answers.{SaysWhether};
 ghost use Rattle.redis_store.specs.Commands.{auth_command, get_command, put_command};
 ghost use Rattle.redis_store.specs.GridText.{grid_text};
-ghost use Rattle.redis_store.specs.Left.{IsRestBegun, IsBreak, IsErrorReply, IsLeftAfter, IsOfLink, IsOfReply};
+ghost use Rattle.redis_store.specs.AfterExchange.{IsRestBegun, IsBreak, IsErrorReply, IsLeftAfter, IsOfLink, IsOfReply};
 ghost use Rattle.redis_store.specs.Told.{found_reply, IsAtHand, IsOpened, IsToldIn, IsToldOf};
 
 use crate::ServerFault;
@@ -17,7 +17,7 @@ use crate::commands::{auth, get, put};
 use crate::link::Link;
 use crate::settings_key::{check_grid, grid_text};
 use crate::talk::{talk, talk_each, talk_long};
-use folder_shelf::Settings;
+use folder_shelf::StoreSettings;
 use octets::Bytes;
 use resp::{Limits, Reply};
 use std::alloc::Global;
@@ -43,7 +43,7 @@ pub(crate) struct Greeting {
     /// The name under which it stands whose the server is.
     pub(crate) name: Bytes,
     /// Whose it has to be.
-    pub(crate) settings: Settings,
+    pub(crate) settings: StoreSettings,
 }
 
 /// How long a server is left alone.
@@ -296,7 +296,7 @@ fn connect_as<L: Link>(
 
 /// Says who asks.
 fn log_in<L: Link>(alloc: Global, link: &mut L, password: &[u8]) -> Result<(), ServerFault>
-    ensures taken { OnOk result ((reply : Reply) × (came : List ℕ) × IsDone reply
+    ensures taken { OnOk result ((reply : Reply) × (came : List ℕ) × IsOkReply reply
         × SpellsReply short_limits reply came × (L.talk link.new
         ≡ with_exchange (L.talk link.old) (auth_command password.now) came)) }
     ensures of_link { IfErr result (λ fault. IsOfLink fault) }

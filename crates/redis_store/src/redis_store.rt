@@ -10,7 +10,7 @@ ghost use Rattle.redis_store.specs.Exchanges.{short_limits};
 ghost use Rattle.redis_store.specs.Answers.{SaysWhether};
 ghost use Rattle.redis_store.specs.Commands.{get_command, delete_command, put_command, exists_command, exists_below};
 ghost use Rattle.redis_store.specs.GridText.{grid_name};
-ghost use Rattle.redis_store.specs.Left.{IsErrorReply, IsLeftAfter, IsWell};
+ghost use Rattle.redis_store.specs.AfterExchange.{IsErrorReply, IsLeftAfter, IsWell};
 ghost use Rattle.redis_store.specs.Told.{IsAtHand, IsToldIn, IsSaidBy, AreSaidBy, IsShareGivenBy, IsRefusedBy};
 
 use crate::ServerFault;
@@ -19,7 +19,7 @@ use crate::commands::{delete, exist_below, exists, get, put, put_head};
 use crate::connection::{Connection, Greeting, SHORT};
 use crate::keys::spell_key;
 use crate::link::Link;
-use folder_shelf::Settings;
+use folder_shelf::StoreSettings;
 use octets::Bytes;
 use resp::{Limits, Reply};
 use share_store::{Share, Store, StoreFault};
@@ -36,7 +36,7 @@ pub struct Server {
     pub grid: Bytes,
     /// Whose the server has to be: its place, and the grid. Their text stands under the name that is `grid` and the
     /// word `grid` behind it.
-    pub settings: Settings,
+    pub settings: StoreSettings,
     /// What the server wants to be told first (AUTH).
     pub password: Option<Bytes>,
     /// How many bytes a share has, at most.

@@ -1,7 +1,7 @@
 //! Commands, and their replies.
 ghost use Rattle.std.specs.Prelude.{◌≡◌, ◌<◌, ◌≤◌, ◌+◌, ◌++◌, ℕ, List, [], length, take, drop, vec_len, IfOk, IfErr, OnOk};
 ghost use Rattle.std.specs.List.{flat_map};
-ghost use Rattle.redis_store.specs.Left.{IsOfLink};
+ghost use Rattle.redis_store.specs.AfterExchange.{IsOfLink};
 ghost use Rattle.redis_store.specs.Exchanges.{with_heard, with_exchange};
 ghost use Rattle.resp.specs.Command.{line_end};
 ghost use Rattle.resp.specs.Spelled.{SpellsReply, SpellsAll};

@@ -22,11 +22,11 @@ use Rattle.chk_file.specs.Upload.{Upload, index, share_of, shares_of}
 use Rattle.chk_file.specs.Marks.{Marks, shown, put_marks, lost_mark, spoiled_mark}
 use Rattle.chk_file.specs.World.{World, with_file}
 use Rattle.web_ops.specs.Uploads.{after_stored}
-use Rattle.gate_core.specs.Settings.{Settings, under}
+use Rattle.gate_core.specs.Settings.{GatewaySettings, under}
 use Rattle.gate_core.specs.Items.{Entry, Asked, Lost, Spoiled}
 use Rattle.gate_core.specs.Runs.{upload_by, after_entry, world_after}
 use Rattle.gate_core.specs.Uploaded.{IsProper, uploads_by, uploads_of}
-use Rattle.restarts.specs.CutOff.{Place, losses, IsCutOff}
+use Rattle.restarts.specs.CutOff.{SharePlace, losses, IsCutOff}
 use Rattle.restarts.specs.Resumed.{Resumed}
 use Rattle.restarts.proofs.Gone.{gone, hits, hits_is, SomeHit, not_hit, hit, place_of, cut, cut_among, cut_hits}
 
@@ -40,16 +40,16 @@ abbrev pub SpoiledLaw : Type 0
 SpoiledLaw = (server : ℕ) (key : ShareKey) (place : ℕ) (marks : Marks) → shown (spoiled_mark server key place marks) ≡ spoiled server key place (shown marks)
 
 -- what stands after losses
-shown-losses : LostLaw → (settings : Settings) (ps : List Place) (w : World) → shown (world_after settings w (losses ps)).marks ≡ gone ps (shown w.marks)
+shown-losses : LostLaw → (settings : GatewaySettings) (ps : List SharePlace) (w : World) → shown (world_after settings w (losses ps)).marks ≡ gone ps (shown w.marks)
 shown-losses law settings [] w = refl
 shown-losses law settings (p ∷ ps) w = shown-losses law settings ps (after_entry settings (Lost p.0 p.1) w) ∙ ap (gone ps) (law p.0 p.1 w.marks)
 
 -- nothing is uploaded by losses
-none_uploaded : (settings : Settings) (ps : List Place) → uploads_of settings (losses ps) ≡ []
+none_uploaded : (settings : GatewaySettings) (ps : List SharePlace) → uploads_of settings (losses ps) ≡ []
 none_uploaded settings [] = refl
 none_uploaded settings (p ∷ ps) = none_uploaded settings ps
 
-not_begun : (settings : Settings) (w : World) (x : Entry) (c : Standing) → ((s : ℕ) (q : ShareKey) → c s q ≡ shown w.marks s q) → Resumed settings w x c
+not_begun : (settings : GatewaySettings) (w : World) (x : Entry) (c : Standing) → ((s : ℕ) (q : ShareKey) → c s q ≡ shown w.marks s q) → Resumed settings w x c
 not_begun settings w x c same = record {
   last = [];
   end = inl refl;
@@ -58,7 +58,7 @@ not_begun settings w x c same = record {
 }
 
 -- what is brought by an item is brought by it and losses
-pub still_proper : (settings : Settings) (x : Entry) (ps : List Place) → IsProper settings (x ∷ []) → IsProper settings (x ∷ losses ps)
+pub still_proper : (settings : GatewaySettings) (x : Entry) (ps : List SharePlace) → IsProper settings (x ∷ []) → IsProper settings (x ∷ losses ps)
 still_proper settings x ps proper = record {
   sharing = proper.sharing;
   bytes = subst (All (λ (u : Upload). AreBytes u.bytes)) (sym (flat_map-append (uploads_by settings) (x ∷ []) (losses ps) ∙ ap (λ l. uploads_of settings (x ∷ []) ++ l) (none_uploaded settings ps) ∙ append-nil (uploads_of settings (x ∷ [])))) proper.bytes;
@@ -66,8 +66,8 @@ still_proper settings x ps proper = record {
 
 -- ---- an upload
 
-module _ (put : PutLaw) (lost : LostLaw) (settings : Settings) (w : World) (u : Upload) (c : Standing) where
-  abbrev ps : List Place
+module _ (put : PutLaw) (lost : LostLaw) (settings : GatewaySettings) (w : World) (u : Upload) (c : Standing) where
+  abbrev ps : List SharePlace
   ps = cut settings.servers (index u) c u.n
 
   long : length (shares_of u) ≡ u.n
@@ -171,7 +171,7 @@ module _ (put : PutLaw) (lost : LostLaw) (settings : Settings) (w : World) (u : 
 
 -- ---- a loss or a spoiled share
 
-one_place : (settings : Settings) (w : World) (x : Entry) (c : Standing) (server : ℕ) (key : ShareKey)
+one_place : (settings : GatewaySettings) (w : World) (x : Entry) (c : Standing) (server : ℕ) (key : ShareKey)
     → ((s : ℕ) (q : ShareKey) → hits (server, key) s q ≡ false → shown (after_entry settings x w).marks s q ≡ shown w.marks s q)
     → IsCutOff settings w x c → Resumed settings w x c
 one_place settings w x c server key only off = elim (off server key) [
@@ -190,7 +190,7 @@ one_place settings w x c server key only off = elim (off server key) [
         let at = hits_is (server, key) s q on in
         ap (λ t. c t q) at.0 ∙ ap (c server) at.1 ∙ here ∙ ap (st server) (sym at.1) ∙ ap (λ t. st t q) (sym at.0)
 
-pub resumed : PutLaw → LostLaw → SpoiledLaw → (settings : Settings) (w : World) (x : Entry) (c : Standing) → IsCutOff settings w x c → Resumed settings w x c
+pub resumed : PutLaw → LostLaw → SpoiledLaw → (settings : GatewaySettings) (w : World) (x : Entry) (c : Standing) → IsCutOff settings w x c → Resumed settings w x c
 resumed put lost spoil settings w (Asked id secret item) c off = by_upload (upload_by (under settings secret) item) refl
   where
     by_length : (u : Upload) → upload_by (under settings secret) item ≡ Some u → (b : Bool) → nat_lt 55 (length u.bytes) ≡ b → Resumed settings w (Asked id secret item) c

@@ -21,12 +21,12 @@ use Rattle.chk_file.specs.World.{World, with_file}
 use Rattle.web_ops.specs.Changes.{IsBegunIn}
 use Rattle.web_ops.specs.Uploads.{after_stored}
 use Rattle.gate_core.specs.declared.tally.Tally.{Tally}
-use Rattle.gate_core.specs.Settings.{Settings, under}
+use Rattle.gate_core.specs.Settings.{GatewaySettings, under}
 use Rattle.gate_core.specs.Items.{Entry, Asked, Lost, Spoiled, entries_of_items}
 use Rattle.gate_core.specs.Runs.{upload_by, after_entry}
 use Rattle.gate_core.specs.Uploaded.{IsProper, BringsBytes}
 use Rattle.gate_core.specs.Served.{AreBegun}
-use Rattle.gate_core.specs.Stopped.{IsStopped, upload_at}
+use Rattle.gate_core.specs.Stopped.{IsStoppedByMemory, upload_at}
 use Rattle.restarts.specs.CutOff.{IsCutOff}
 use Rattle.restarts.specs.Mended.{AreCutOff}
 use Rattle.restarts.specs.LeftIn.{WasLeft, AreLeftIn}
@@ -39,14 +39,14 @@ use Rattle.restarts.proofs.Steps.{Step, IsBegunBy, AreBegunBy, AreCut, after_ste
 abbrev step_by : Option Upload → Step
 step_by o = option_map (λ u. (index u, shares_of u)) o
 
-abbrev steps_of : Settings → List Item → List Step
+abbrev steps_of : GatewaySettings → List Item → List Step
 steps_of settings items = map (λ item. step_by (upload_by settings item)) items
 
 step_begun : (o : Option Upload) (old new : GridState) → IsBegunIn o old new → IsBegunBy (step_by o) old new
 step_begun None old new same = record { maps = same.maps; histories = same.histories }
 step_begun (Some u) old new begun = record { m = begun.m; stands = begun.put.stands; tells = begun.history; servers = begun.servers }
 
-steps_begun : (settings : Settings) (items : List Item) (old new : GridState) → AreBegun settings items old new → AreBegunBy (steps_of settings items) old new
+steps_begun : (settings : GatewaySettings) (items : List Item) (old new : GridState) → AreBegun settings items old new → AreBegunBy (steps_of settings items) old new
 steps_begun settings [] old new same = same
 steps_begun settings (x ∷ items) old new (middle, (begun, rest)) = (middle, (step_begun (upload_by settings x) old middle begun, steps_begun settings items middle new rest))
 
@@ -62,7 +62,7 @@ no_more xs n none = ap (λ k. take k xs) (add-one n) ∙ none_next xs n none
 
 -- ---- items that are cut off
 
-module _ (put : PutLaw) (settings : Settings) (id : ℕ) (secret : List ℕ) where
+module _ (put : PutLaw) (settings : GatewaySettings) (id : ℕ) (secret : List ℕ) where
   stands_after : (item : Item) (o : Option Upload) (w : World) → upload_by (under settings secret) item ≡ o → shown (after_stored settings.servers o w).marks ≡ after_step settings.servers (step_by o) (shown w.marks)
   stands_after item None w is = refl
   stands_after item (Some u) w is = ap (λ (b : Bool). shown (cond b (after_long u) w).marks) (long_by (under settings secret) item u is) ∙ put settings.servers u w.marks
@@ -87,7 +87,7 @@ module _ (put : PutLaw) (settings : Settings) (id : ℕ) (secret : List ℕ) whe
       items_cut items (stood old) d (cut_steps settings.servers (steps_of (under settings secret) items) old new d servers (steps_begun (under settings secret) items old new begun) left)
 
   -- where memory ran out, the item at which it did is the last of them
-  pub stopped_cut : (items : List Item) (old new : GridState) (d : Standing) (t u : Tally) (stopped : IsStopped settings secret items old new t u) → IsHonest old → length old.stores ≡ settings.servers → AreLeftIn old new d
+  pub stopped_cut : (items : List Item) (old new : GridState) (d : Standing) (t u : Tally) (stopped : IsStoppedByMemory settings secret items old new t u) → IsHonest old → length old.stores ≡ settings.servers → AreLeftIn old new d
       → AreCutOff settings (stood old) (entries_of_items id secret (take (stopped.done + 1) items)) d
   stopped_cut items old new d t u stopped honest servers left = by_next (slice_get items stopped.done) refl (stopped.begun honest)
     where
@@ -110,7 +110,7 @@ module _ (put : PutLaw) (settings : Settings) (id : ℕ) (secret : List ℕ) whe
 
 -- ---- one change of the operator
 
-one_cut : (settings : Settings) (x : Entry) (asked : Standing) (old new : GridState) (d : Standing) → ((w : World) → shown w.marks ≡ stood old → shown (after_entry settings x w).marks ≡ asked)
+one_cut : (settings : GatewaySettings) (x : Entry) (asked : Standing) (old new : GridState) (d : Standing) → ((w : World) → shown w.marks ≡ stood old → shown (after_entry settings x w).marks ≡ asked)
     → (stood new ≡ stood old) ⊎ (stood new ≡ asked) → TellsOfChange asked old new → AreLeftIn old new d → AreCutOff settings (stood old) (x ∷ []) d
 one_cut settings x asked old new d follows ends tells left = (d, (λ w is s q. by_left w is s q (left s), refl))
   where
@@ -131,26 +131,26 @@ one_cut settings x asked old new d follows ends tells left = (d, (λ w is s q. b
         by_change P (inl stays) = inl (has q ∙ stays ∙ ap (λ f. f s q) (sym is))
         by_change P (inr done) = inr (has q ∙ done ∙ ap (λ f. f s q) (sym (follows w is)))
 
-pub lost_cut : LostLaw → (settings : Settings) (server : ℕ) (key : ShareKey) (old new : GridState) (d : Standing) → (stood new ≡ stood old) ⊎ (stood new ≡ without server key (stood old))
+pub lost_cut : LostLaw → (settings : GatewaySettings) (server : ℕ) (key : ShareKey) (old new : GridState) (d : Standing) → (stood new ≡ stood old) ⊎ (stood new ≡ without server key (stood old))
     → TellsOfChange (without server key (stood old)) old new → AreLeftIn old new d
     → AreCutOff settings (stood old) (Lost server key ∷ []) d
 lost_cut law settings server key old new d = one_cut settings (Lost server key) (without server key (stood old)) old new d (λ w is. law server key w.marks ∙ ap (without server key) is)
 
-pub spoiled_cut : SpoiledLaw → (settings : Settings) (server : ℕ) (key : ShareKey) (place : ℕ) (old new : GridState) (d : Standing) → (stood new ≡ stood old) ⊎ (stood new ≡ spoiled server key place (stood old))
+pub spoiled_cut : SpoiledLaw → (settings : GatewaySettings) (server : ℕ) (key : ShareKey) (place : ℕ) (old new : GridState) (d : Standing) → (stood new ≡ stood old) ⊎ (stood new ≡ spoiled server key place (stood old))
     → TellsOfChange (spoiled server key place (stood old)) old new
     → AreLeftIn old new d → AreCutOff settings (stood old) (Spoiled server key place ∷ []) d
 spoiled_cut law settings server key place old new d = one_cut settings (Spoiled server key place) (spoiled server key place (stood old)) old new d (λ w is. law server key place w.marks ∙ ap (spoiled server key place) is)
 
 -- ---- what is uploaded are bytes
 
-one_proper : (settings : Settings) (id : ℕ) (secret : List ℕ) (item : Item) → IsSharing settings.k settings.n → BringsBytes (upload_by (under settings secret) item) → IsProper settings (Asked id secret item ∷ [])
+one_proper : (settings : GatewaySettings) (id : ℕ) (secret : List ℕ) (item : Item) → IsSharing settings.k settings.n → BringsBytes (upload_by (under settings secret) item) → IsProper settings (Asked id secret item ∷ [])
 one_proper settings id secret item sharing brings = record { sharing = sharing; bytes = by_upload (upload_by (under settings secret) item) brings }
   where
     by_upload : (o : Option Upload) → BringsBytes o → All (λ (u : Upload). AreBytes u.bytes) (option_to_list o ++ [])
     by_upload None brings = All-nil (λ (u : Upload). AreBytes u.bytes)
     by_upload (Some u) brings = All-cons (λ (v : Upload). AreBytes v.bytes) u [] brings (All-nil (λ (v : Upload). AreBytes v.bytes))
 
-pub all_proper : (settings : Settings) (id : ℕ) (secret : List ℕ) (items : List Item) → IsSharing settings.k settings.n → All (λ item. BringsBytes (upload_by (under settings secret) item)) items
+pub all_proper : (settings : GatewaySettings) (id : ℕ) (secret : List ℕ) (items : List Item) → IsSharing settings.k settings.n → All (λ item. BringsBytes (upload_by (under settings secret) item)) items
     → AllByRecursion (λ x. IsProper settings (x ∷ [])) (entries_of_items id secret items)
 all_proper settings id secret [] sharing brings = tt
 all_proper settings id secret (x ∷ items) sharing brings = (

@@ -17,8 +17,8 @@ use Rattle.share_store.specs.Shares.{Shares, ShareKey, key_cmp}
 use Rattle.share_store.specs.MapLaws.{key_cmp_total, key_cmp_exact}
 use Rattle.share_store.specs.Put.{put_once}
 use Rattle.share_store.specs.Toggle.{toggled, with_toggle, has_byte, bytes_at}
-use Rattle.share_shelf.specs.Left.{IsEither}
-use Rattle.kept_store.specs.Calls.{done, answered, MayBeLeft}
+use Rattle.share_shelf.specs.CrashStates.{IsEither}
+use Rattle.kept_store.specs.Calls.{done, after_call, MayBeLeft}
 use Rattle.kept_store.specs.declared.calls.Call.{Call}
 use Rattle.kept_store.specs.declared.calls.Call.TheVariants.{Put, Lose, Toggle}
 use Rattle.grid.specs.Standing.{Standing, standing}
@@ -34,7 +34,7 @@ use Rattle.web_request.specs.declared.request.Request.{Request}
 use Rattle.web_request.specs.declared.request.Request.TheVariants.{Put as PutRequest, Mkdir, Get, Check}
 use Rattle.web_ops.specs.Encoding.{Encoding, upload_of}
 use Rattle.web_ops.specs.Uploads.{if_long, directory_upload, made_upload, upload_in, after_stored}
-use Rattle.gate_core.specs.Settings.{Settings, under, encoding_in}
+use Rattle.gate_core.specs.Settings.{GatewaySettings, under, encoding_in}
 use Rattle.gate_core.specs.Requests.{Interpreted, asked_of}
 use Rattle.gate_core.specs.Items.{Entry, Asked, Lost, Spoiled}
 use Rattle.gate_core.specs.Runs.{upload_asked, upload_by, after_entry}
@@ -65,7 +65,7 @@ long_asked : (e : Encoding) (asked : Interpreted) (u : Upload) → upload_asked 
 long_asked e (Ok request) u is = long_in e request u is
 long_asked e (Err fault) u is = cc
 
-pub long_by : (settings : Settings) (item : Item) (u : Upload) → upload_by settings item ≡ Some u → nat_lt 55 (length u.bytes) ≡ true
+pub long_by : (settings : GatewaySettings) (item : Item) (u : Upload) → upload_by settings item ≡ Some u → nat_lt 55 (length u.bytes) ≡ true
 unfolding upload_by
 long_by settings (RequestItem head body close) u is = long_asked (encoding_in settings) (asked_of head body) u is
 long_by settings Continue u is = cc
@@ -119,7 +119,7 @@ module _ (servers s : ℕ) (u : Upload) where
   step (Lose si number) is m q = absurd is
   step (Toggle si number place) is m q = absurd is
 
-  answered_step : (call : Call) → IsPutOf servers s u call → (ok : Bool) (m : Shares) (q : ShareKey) → IsStep m (answered call ok m) q
+  answered_step : (call : Call) → IsPutOf servers s u call → (ok : Bool) (m : Shares) (q : ShareKey) → IsStep m (after_call call ok m) q
   answered_step call is true m q = step call is m q
   answered_step call is false m q = inl refl
 
@@ -139,7 +139,7 @@ module _ (servers s : ℕ) (u : Upload) where
   all_steps (call ∷ calls) [] m c all is q = either_step call all.0 m c is q
   all_steps (call ∷ calls) (ok ∷ oks) m c all (inl now) q = either_step call all.0 m c now q
   all_steps (call ∷ calls) (ok ∷ oks) m c all (inr later) q =
-      join m (answered call ok m) c q (answered_step call all.0 ok m q) (all_steps calls oks (answered call ok m) c all.1 later q)
+      join m (after_call call ok m) c q (answered_step call all.0 ok m q) (all_steps calls oks (after_call call ok m) c all.1 later q)
 
 -- at most one call
 once : (call : Call) (oks : List Bool) (m c : Shares) → MayBeLeft (call ∷ []) oks m c → IsEither m (done call m) c
@@ -219,10 +219,10 @@ module _ (servers s : ℕ) (u : Upload) (before : Standing) (q : ShareKey) where
       put b = cond b (Some (unwrap_or (before s q) (unwrap_or (slice_get (shares_of u) q.1) []))) (before s q)
 
 -- what stands is what stood, or what stands after the item
-abbrev IsOne : Settings → World → Entry → ℕ → ShareKey → Option (List ℕ) → Option (List ℕ) → Type 0
+abbrev IsOne : GatewaySettings → World → Entry → ℕ → ShareKey → Option (List ℕ) → Option (List ℕ) → Type 0
 IsOne settings w x s q a c = a ≡ shown w.marks s q → (c ≡ shown w.marks s q) ⊎ (c ≡ shown (after_entry settings x w).marks s q)
 
-module _ (put : PutLaw) (lost : LostLaw) (spoil : SpoiledLaw) (settings : Settings) (w : World) (s : ℕ) (q : ShareKey) where
+module _ (put : PutLaw) (lost : LostLaw) (spoil : SpoiledLaw) (settings : GatewaySettings) (w : World) (s : ℕ) (q : ShareKey) where
   none_called : (x : Entry) (calls : List Call) (oks : List Bool) (m c : Shares) → calls ≡ [] → MayBeLeft calls oks m c → IsOne settings w x s q (get m q) (get c q)
   none_called x calls oks m c none is was = inl (ap (λ n. get n q) (subst (λ l. MayBeLeft l oks m c) none is) ∙ was)
 
@@ -270,7 +270,7 @@ module _ (put : PutLaw) (lost : LostLaw) (spoil : SpoiledLaw) (settings : Settin
   by_item (Spoiled server key place) m c (calls, (oks, (inl none, is))) = none_called (Spoiled server key place) calls oks m c none is
   by_item (Spoiled server key place) m c (calls, (oks, (inr one, is))) = by_spoil server key place calls oks m c one.0 one.1 is
 
-pub cut_off_at : PutLaw → LostLaw → SpoiledLaw → (settings : Settings) (w : World) (x : Entry) (maps left : List Shares) → standing maps ≡ shown w.marks → AreLeft settings x maps left
+pub cut_off_at : PutLaw → LostLaw → SpoiledLaw → (settings : GatewaySettings) (w : World) (x : Entry) (maps left : List Shares) → standing maps ≡ shown w.marks → AreLeft settings x maps left
     → IsCutOff settings w x (standing left)
 cut_off_at put lost spoil settings w x maps left stand are s q =
     at_server maps left are.servers s q (IsOne settings w x s q) (λ was. inl was) (λ m c here there. by_item put lost spoil settings w s q x m c (are.each s m c here there))

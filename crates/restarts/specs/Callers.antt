@@ -2,7 +2,7 @@
 -- each of them.
 use Rattle.std.specs.Prelude.{ℕ, zero, suc, ◌+◌, ◌*◌, List, [], ◌∷◌, ◌++◌, map}
 use Rattle.chk_file.specs.World.{World}
-use Rattle.gate_core.specs.Settings.{Settings}
+use Rattle.gate_core.specs.Settings.{GatewaySettings}
 use Rattle.gate_core.specs.Events.{Event, handed}
 use Rattle.gate_core.specs.Items.{Entry, Asked, Lost, Spoiled, items}
 use Rattle.gate_core.specs.Runs.{world_after}
@@ -32,7 +32,7 @@ all_items lives events = items_from 0 lives events
 
 -- What a connection of the run with this number was handed, and what it didn't get: at the crash, or what waits for it now
 -- where the run is the last one.
-abbrev pub told_over : Settings → ℕ → ℕ → World → List CrashedRun → State → List Event → List ℕ
+abbrev pub told_over : GatewaySettings → ℕ → ℕ → World → List CrashedRun → State → List Event → List ℕ
 told_over settings zero id w [] g events = handed id events ++ waiting g id
 told_over settings (suc run) id w [] g events = []
 told_over settings zero id w (life ∷ lives) g events = handed id life.events ++ unheard settings id w life

@@ -8,7 +8,7 @@ use Rattle.kept_store.specs.declared.calls.Call.{Call}
 use Rattle.kept_store.specs.declared.calls.Call.TheVariants.{Put, Lose, Toggle}
 use Rattle.grid.specs.Placement.{server_of}
 use Rattle.chk_file.specs.Upload.{Upload, index, share_of}
-use Rattle.gate_core.specs.Settings.{Settings, under}
+use Rattle.gate_core.specs.Settings.{GatewaySettings, under}
 use Rattle.gate_core.specs.Items.{Entry, Asked, Lost, Spoiled}
 use Rattle.gate_core.specs.Runs.{upload_by}
 
@@ -24,17 +24,17 @@ ArePutsOf servers s None calls = calls ≡ []
 ArePutsOf servers s (Some u) calls = AllByRecursion (IsPutOf servers s u) calls
 
 -- what the store at server s is told of an item: the shares of its upload that go there, or the operator's change
-abbrev pub AreCallsOf : Settings → ℕ → Entry → List Call → Type 0
+abbrev pub AreCallsOf : GatewaySettings → ℕ → Entry → List Call → Type 0
 AreCallsOf settings s (Asked id secret item) calls = ArePutsOf settings.servers s (upload_by (under settings secret) item) calls
 AreCallsOf settings s (Lost server key) calls = (calls ≡ []) ⊎ ((s ≡ server) × (calls ≡ Lose key.0 key.1 ∷ []))
 AreCallsOf settings s (Spoiled server key place) calls = (calls ≡ []) ⊎ ((s ≡ server) × (calls ≡ Toggle key.0 key.1 place ∷ []))
 
 -- In a store that has m, told of an item, a crash leaves c: what stood after some of the calls, as they were answered, and
 -- the next one done or not.
-abbrev pub IsLeftAt : Settings → ℕ → Entry → Shares → Shares → Type 0
+abbrev pub IsLeftAt : GatewaySettings → ℕ → Entry → Shares → Shares → Type 0
 IsLeftAt settings s x m c = (calls : List Call) × ((answers : List Bool) × (AreCallsOf settings s x calls × MayBeLeft calls answers m c))
 
 -- the same at every server, each at a call of its own
-pub record AreLeft (settings : Settings) (x : Entry) (maps left : List Shares) : Type 0 where
+pub record AreLeft (settings : GatewaySettings) (x : Entry) (maps left : List Shares) : Type 0 where
   pub servers : length left ≡ length maps
   pub each : (s : ℕ) (m c : Shares) → slice_get maps s ≡ Some m → slice_get left s ≡ Some c → IsLeftAt settings s x m c

@@ -3,7 +3,7 @@ ghost use Rattle.std.specs.Prelude.{◌≡◌, ◌⊎◌, ◌+◌, ◌++◌, ◌
 ghost use Rattle.octets.specs.Sharing.{IsSharing};
 ghost use Rattle.std.specs.List.{AllByRecursion};
 ghost use Rattle.share_store.specs.Shares.{Shares, ShareKey};
-ghost use Rattle.kept_store.specs.Calls.{after, MayBeLeft, IsRun};
+ghost use Rattle.kept_store.specs.Calls.{after_calls, MayBeLeft, IsRun};
 ghost use Rattle.kept_store.specs.Step.{IsInStep};
 ghost use Rattle.kept_store.specs.declared.calls.Call.{Call};
 ghost use Rattle.std.specs.FinMap as map;
@@ -11,15 +11,15 @@ ghost use Rattle.grid.specs.Standing.{Standing, standing};
 ghost use Rattle.grid.specs.GridState.{GridState, stood, IsHonest};
 ghost use Rattle.grid.specs.Changes.{without, spoiled};
 ghost use Rattle.grid.specs.Histories.{TellsOfChange};
-ghost use Rattle.http_edge.specs.Left.{frame_from};
+ghost use Rattle.http_edge.specs.FramingState.{frame_from};
 ghost use Rattle.chk_file.specs.Marks.{shown};
 ghost use Rattle.chk_file.specs.World.{World};
 ghost use Rattle.chk_file.specs.Look.{Look, by_fit};
-ghost use Rattle.gate_core.specs.Settings.{Settings, under};
+ghost use Rattle.gate_core.specs.Settings.{GatewaySettings, under};
 ghost use Rattle.gate_core.specs.Events.{Event, handed};
 ghost use Rattle.gate_core.specs.Items.{Entry, Lost, Spoiled, items, entries_of_items};
 ghost use Rattle.gate_core.specs.Runs.{world_after, said_by, said};
-ghost use Rattle.gate_core.specs.Reach.{only, kept_by, kept};
+ghost use Rattle.gate_core.specs.Reach.{only_caller, kept_by, kept};
 ghost use Rattle.gate_core.specs.Apart.{Apart};
 ghost use Rattle.gate_core.specs.Uploaded.{IsProper, IsLeftBy};
 ghost use Rattle.gate_core.specs.ConnectionState.{ConnectionState, State, secret_at, waiting};
@@ -47,19 +47,19 @@ pub fn answered_calls_stay<H: Shelf>()
         IsTrue (H.honest mid) → IsInStep H.moment H.left_since H.honest false mid stood →
         IsRun H.moment H.left_since H.honest rest later false mid last stood after_all →
         H.left_since last (H.moment mid) left →
-        MayBeLeft rest later (after calls answers before) left }
+        MayBeLeft rest later (after_calls calls answers before) left }
     // and where no call was under way, just what stood
     ensures between { (calls : List Call) (answers : List Bool) (first mid : H)
         (before stood left : Shares) →
         IsRun H.moment H.left_since H.honest calls answers false first mid before stood →
         IsTrue (H.honest mid) → IsInStep H.moment H.left_since H.honest false mid stood →
-        H.left_since mid (H.moment mid) left → left ≡ after calls answers before }
+        H.left_since mid (H.moment mid) left → left ≡ after_calls calls answers before }
 {}
 
 /// Where each store was told of an item as a grid tells it, each may be left at a call of its own: at each place stands
 /// what stood before the item, or what stands after it.
 pub fn stores_are_cut_off()
-    ensures { (settings : Settings) (w : World) (x : Entry) (maps left : List Shares) →
+    ensures { (settings : GatewaySettings) (w : World) (x : Entry) (maps left : List Shares) →
         standing maps ≡ shown w.marks → AreLeft settings x maps left →
         IsCutOff settings w x (standing left) }
 {
@@ -69,7 +69,7 @@ pub fn stores_are_cut_off()
 /// What a crash left at an item, a run leaves that goes on with that item and with losses of shares that it brought, or
 /// without the item.
 pub fn crashes_are_losses()
-    ensures { (settings : Settings) (w : World) (x : Entry) (c : Standing) →
+    ensures { (settings : GatewaySettings) (w : World) (x : Entry) (c : Standing) →
         IsCutOff settings w x c → Resumed settings w x c }
 {
     chk_file::laws::marks_follow_the_grid();
@@ -77,7 +77,7 @@ pub fn crashes_are_losses()
 
 /// Runs go on over a crash: the opening world of the next one is left by a run, of the items of all runs before it.
 pub fn runs_go_on()
-    ensures { (settings : Settings) (past first : List Entry) (opening : World) (x : Entry)
+    ensures { (settings : GatewaySettings) (past first : List Entry) (opening : World) (x : Entry)
         (c : Standing) → IsLeftBy settings past opening → IsProper settings first →
         IsProper settings (x ∷ []) →
         IsCutOff settings (world_after settings opening first) x c →
@@ -90,7 +90,7 @@ pub fn runs_go_on()
 /// A restart mends a run in which stores failed, or memory ran out: items that were refused are items cut off, each an item
 /// and losses of shares that it brought, or not begun. So the next run has the opening that a run leaves.
 pub fn refused_items_are_mended()
-    ensures { (settings : Settings) (past : List Entry) (opening : World) (entries : List Entry)
+    ensures { (settings : GatewaySettings) (past : List Entry) (opening : World) (entries : List Entry)
         (d : Standing) → IsLeftBy settings past opening →
         AllByRecursion (λ x. IsProper settings (x ∷ [])) entries →
         AreCutOff settings (shown opening.marks) entries d →
@@ -123,11 +123,11 @@ pub fn calls_are_cut_off()
         AreCutOff old.settings (stood old.grid) (entries_of_items id (secret_at old.settings held)
         (take (short.stopped.done + 1) (frame_from held.conn piece))) d }
     // by `ok`, `err` and `history` of `Gateway::lose` and `Gateway::spoil`
-    ensures lost { (settings : Settings) (server : ℕ) (key : ShareKey) (old new : GridState)
+    ensures lost { (settings : GatewaySettings) (server : ℕ) (key : ShareKey) (old new : GridState)
         (d : Standing) → (stood new ≡ stood old) ⊎ (stood new ≡ without server key (stood old)) →
         TellsOfChange (without server key (stood old)) old new →
         AreLeftIn old new d → AreCutOff settings (stood old) (Lost server key ∷ []) d }
-    ensures spoiled { (settings : Settings) (server : ℕ) (key : ShareKey) (place : ℕ)
+    ensures spoiled { (settings : GatewaySettings) (server : ℕ) (key : ShareKey) (place : ℕ)
         (old new : GridState) (d : Standing) →
         (stood new ≡ stood old) ⊎ (stood new ≡ spoiled server key place (stood old)) →
         TellsOfChange (spoiled server key place (stood old)) old new →
@@ -139,16 +139,16 @@ pub fn calls_are_cut_off()
 /// Histories over restarts go on: with each call of a gateway that its own contract takes on, and with each crash.
 pub fn histories_go_on()
     // where a gateway starts from a world
-    ensures begins { (settings : Settings) (w : World) (g : State) →
+    ensures begins { (settings : GatewaySettings) (w : World) (g : State) →
         g.settings ≡ under settings g.settings.secret → IsHonest g.grid →
         Starts w g → IsHistory settings w [] g [] }
-    ensures called { (settings : Settings) (w : World) (lives : List CrashedRun) (old new : State)
+    ensures called { (settings : GatewaySettings) (w : World) (lives : List CrashedRun) (old new : State)
         (events : List Event) (e : Event) → IsHistory settings w lives old events →
         new.settings ≡ old.settings → GoesOn old new e →
         IsHistory settings w lives new (events ++ e ∷ []) }
     // The run that a crash ended is one more behind it, and a gateway over what the crash left begins the next: each item
     // of the call under way was done, cut off or not begun.
-    ensures crashed { (settings : Settings) (w : World) (lives : List CrashedRun) (g : State)
+    ensures crashed { (settings : GatewaySettings) (w : World) (lives : List CrashedRun) (g : State)
         (events : List Event) (asked : List Entry) (c : Standing) (h : State) →
         IsHistory settings w lives g events →
         AllByRecursion (λ x. IsProper settings (x ∷ [])) asked →
@@ -159,7 +159,7 @@ pub fn histories_go_on()
         IsHonest h.grid → stood h.grid ≡ c →
         Restarted settings w lives g events asked h }
     // So it is of a crash inside `Gateway::bytes`, at whatever moment of the call each server was left.
-    ensures crashed_in_bytes { (settings : Settings) (w : World) (lives : List CrashedRun)
+    ensures crashed_in_bytes { (settings : GatewaySettings) (w : World) (lives : List CrashedRun)
         (g new : State) (events : List Event) (id : ℕ) (held : ConnectionState) (piece : List ℕ)
         (c : Standing) (h : State) → IsSharing settings.k settings.n →
         IsHistory settings w lives g events → IsReceived g new id held piece →
@@ -183,39 +183,39 @@ pub fn callers_are_told_over_restarts()
     ensures callers { (run id other_run other_id : ℕ) →
         caller_number run id ≡ caller_number other_run other_id → (run ≡ other_run) × (id ≡ other_id) }
     // all runs together left what one run leaves, and so did each of them
-    ensures left { (settings : Settings) (past : List Entry) (w : World) (lives : List CrashedRun) →
+    ensures left { (settings : GatewaySettings) (past : List Entry) (w : World) (lives : List CrashedRun) →
         IsLeftBy settings past w → AreLived settings w lives →
         IsLeftBy settings (past ++ items_of lives) (world_after settings w (items_of lives)) }
     // by verification, with nothing dropped and no premise on hashes
-    ensures verified_whole { (settings : Settings) (w : World) (lives : List CrashedRun) (g : State)
+    ensures verified_whole { (settings : GatewaySettings) (w : World) (lives : List CrashedRun) (g : State)
         (events : List Event) (run id : ℕ) → IsHistory settings w lives g events →
         told_over settings run id w lives g events
         ≡ said_by by_fit settings (caller_number run id) w (all_items lives events) }
     // with the items of others dropped, save uploads under a storage index that the caller met
-    ensures verified { (settings : Settings) (w : World) (lives : List CrashedRun) (g : State)
+    ensures verified { (settings : GatewaySettings) (w : World) (lives : List CrashedRun) (g : State)
         (events : List Event) (run id : ℕ) → IsHistory settings w lives g events →
         told_over settings run id w lives g events
         ≡ said_by by_fit settings (caller_number run id) w
-        (kept_by by_fit settings (only (caller_number run id)) w (all_items lives events)) }
+        (kept_by by_fit settings (only_caller (caller_number run id)) w (all_items lives events)) }
     // by the written answers, where no two of this caller's strings collide
-    ensures apart { (settings : Settings) (past : List Entry) (w : World) (lives : List CrashedRun)
+    ensures apart { (settings : GatewaySettings) (past : List Entry) (w : World) (lives : List CrashedRun)
         (g : State) (events : List Event) (run id : ℕ) → IsHistory settings w lives g events →
         IsLeftBy settings past w →
-        Apart settings (only (caller_number run id)) past w (all_items lives events) →
+        Apart settings (only_caller (caller_number run id)) past w (all_items lives events) →
         told_over settings run id w lives g events
         ≡ said settings (caller_number run id) w
-        (kept settings (only (caller_number run id)) w (all_items lives events)) }
+        (kept settings (only_caller (caller_number run id)) w (all_items lives events)) }
     // the last run alone: the runs before it are a past like any other
-    ensures last { (settings : Settings) (past : List Entry) (w : World) (lives : List CrashedRun)
+    ensures last { (settings : GatewaySettings) (past : List Entry) (w : World) (lives : List CrashedRun)
         (g : State) (events : List Event) (caller : ℕ) → IsHistory settings w lives g events →
         IsLeftBy settings past w →
-        Apart settings (only caller) (past ++ items_of lives)
+        Apart settings (only_caller caller) (past ++ items_of lives)
         (world_after settings w (items_of lives)) (items events) →
         handed caller events ++ waiting g caller
         ≡ said settings caller (world_after settings w (items_of lives))
-        (kept settings (only caller) (world_after settings w (items_of lives)) (items events)) }
+        (kept settings (only_caller caller) (world_after settings w (items_of lives)) (items events)) }
     // what is said over runs joined is what is said in each, one after the other
-    ensures said { (look : World → Look) (settings : Settings) (caller : ℕ) (opening : World)
+    ensures said { (look : World → Look) (settings : GatewaySettings) (caller : ℕ) (opening : World)
         (past entries : List Entry) →
         said_by look settings caller opening (past ++ entries)
         ≡ said_by look settings caller opening past

@@ -7,7 +7,7 @@ use Rattle.octets.specs.Sharing.{IsSharing}
 use Rattle.share_codec.specs.Shares.{ueb_hash, ueb_of}
 use Rattle.share_codec.specs.Tags.{extension_tag}
 use Rattle.caps.specs.Fields.{ReadValue}
-use Rattle.caps.specs.CapTexts.{IsStored, IsCap, IsCapText, cap_text}
+use Rattle.caps.specs.CapTexts.{IsStoredCap, IsCap, IsCapText, cap_text}
 use Rattle.caps.specs.declared.cap.Cap.{Cap}
 use Rattle.caps.specs.declared.cap.Cap.TheVariants.{Chk, Lit, DirChk, DirLit, ChkVerify, DirChkVerify}
 use Rattle.chk_file.specs.Upload.{Upload, params, key_tag, key_of, crypttext_of, fields, upload_cap}
@@ -27,7 +27,7 @@ pub record TextLaws : Type 0 where
   pub alike : (text : List ℕ) (cap other : Cap) → IsCapText cap text → IsCapText other text → cap ≡ other
 
 module _ (hash : HashLaws) where
-  stored_fields : (u : Upload) → IsSharing u.k u.n → length u.bytes < 2 ^ 64 → let f = fields u in IsStored f.key f.ueb f.k f.n f.size
+  stored_fields : (u : Upload) → IsSharing u.k u.n → length u.bytes < 2 ^ 64 → let f = fields u in IsStoredCap f.key f.ueb f.k f.n f.size
   unfolding key_of ueb_hash
   stored_fields u sharing fits = record {
     name_bytes = hash.tagged16_bytes (key_tag (params u) u.secret) u.bytes;

@@ -11,15 +11,15 @@ use Rattle.dir_codec.specs.Children.{made}
 use Rattle.dir_codec.specs.DirectoryText.{directory_text}
 use Rattle.dir_codec.specs.declared.entry.Entry.{Entry as Child}
 use Rattle.chk_file.specs.Upload.{Upload, IsUpload, params, key_tag, key_of, fields, upload_cap}
-use Rattle.chk_file.specs.Held.{held}
+use Rattle.chk_file.specs.Held.{uploaded_bytes}
 use Rattle.chk_file.specs.Look.{by_held}
-use Rattle.chk_file.specs.Sound.{IsSound}
+use Rattle.chk_file.specs.Sound.{IsSoundWorld}
 use Rattle.chk_file.specs.World.{World, empty, after_upload}
 use Rattle.web_ops.specs.Encoding.{upload_of}
 use Rattle.web_ops.specs.Replies.{bytes_reply}
 use Rattle.web_ops.specs.Answers.{with_bytes, made_reply}
 use Rattle.web_ops.specs.Uploads.{as_directory, directory_upload, directory_cap, made_upload, upload_in, after_stored}
-use Rattle.gate_core.specs.Settings.{Settings, encoding_in}
+use Rattle.gate_core.specs.Settings.{GatewaySettings, encoding_in}
 use Rattle.cap_binding.specs.Binds.{Binds}
 use Rattle.client_wire.specs.Asks.{meant}
 use Rattle.client_wire.specs.declared.ask.Ask.{Ask}
@@ -35,9 +35,9 @@ use Rattle.round_trips.proofs.Caps.{HashLaws, TextLaws, file_is_cap, directory_i
 
 -- ---- one read
 
-module _ (own : OwnLaw) (settings : Settings) (w : World) (v : Upload) (f : ReadValue) (named : fields v ≡ f) (some : 0 < length v.bytes) (stands : IsStanding v w) where
-  found : held w f ≡ Some v.bytes
-  found = subst (λ (g : ReadValue). held w g ≡ Some v.bytes) named (held_while v w stands)
+module _ (own : OwnLaw) (settings : GatewaySettings) (w : World) (v : Upload) (f : ReadValue) (named : fields v ≡ f) (some : 0 < length v.bytes) (stands : IsStanding v w) where
+  found : uploaded_bytes w f ≡ Some v.bytes
+  found = subst (λ (g : ReadValue). uploaded_bytes w g ≡ Some v.bytes) named (held_while v w stands)
 
   bound : Binds f v.bytes
   bound = subst (λ (g : ReadValue). Binds g v.bytes) named (own v some)
@@ -60,7 +60,7 @@ none_refused f bytes (Err fault) h refused = tt
 
 -- ---- by the book
 
-pub first_trip : (settings : Settings) (bytes : List ℕ) → IsSetUp settings → IsBody bytes → 55 < length bytes
+pub first_trip : (settings : GatewaySettings) (bytes : List ℕ) → IsSetUp settings → IsBody bytes → 55 < length bytes
     → written_answer settings (Read (fields (upload_of (encoding_in settings) bytes))) [] (with_asked settings Put bytes empty) ≡ record { status = 200; body = bytes }
 first_trip settings bytes set body long =
     let u : Upload = upload_of (encoding_in settings) bytes in
@@ -82,7 +82,7 @@ key_bytes : KeyLaw → (u : Upload) → AreBytes (key_of u)
 unfolding key_of
 key_bytes law u = law (key_tag (params u) u.secret) u.bytes
 
-pub bound_back : OwnLaw → TwoLaw → KeyLaw → (settings : Settings) (w : World) (u : Upload) (bytes : List ℕ) (r : Result Answer LinkFault) → IsUpload u → AreBytes bytes → IsStanding u w
+pub bound_back : OwnLaw → TwoLaw → KeyLaw → (settings : GatewaySettings) (w : World) (u : Upload) (bytes : List ℕ) (r : Result Answer LinkFault) → IsUpload u → AreBytes bytes → IsStanding u w
     → Binds (fields u) bytes → IsWrittenAnswer settings (by_held w) (Read (fields u)) [] r → GivesAgain (fields u) bytes r
 bound_back own two key settings w u bytes r is are stands binds written = record {
   again = u.bytes;
@@ -92,14 +92,14 @@ bound_back own two key settings w u bytes r is are stands binds written = record
 
 -- ---- from a put to a read
 
-module _ {S : Type 0} (told : S → Ask → List ℕ → Result Answer LinkFault → S → Type 0) (settings : Settings) (world : S → World) (honest : IsHonestExchange settings world told) (set : IsSetUp settings) where
+module _ {S : Type 0} (told : S → Ask → List ℕ → Result Answer LinkFault → S → Type 0) (settings : GatewaySettings) (world : S → World) (honest : IsHonestExchange settings world told) (set : IsSetUp settings) where
   module _ (own : OwnLaw) (one : OneLaw) where
     known_at : (u : Upload) (w later : World) → LeadsOn settings w later → w.files (fields u) ≡ Some u → later.files (fields u) ≡ Some u
     known_at u w later on known = subst (λ (t : World). t.files (fields u) ≡ Some u) (sym on.1) (known_on settings u (fields u) w on.0 known)
 
     -- whatever asks for the upload
     pub come_back : (u : Upload) (ask : Ask) (body : List ℕ) → upload_in (encoding_in settings) (meant ask body) ≡ Some u → IsUpload u → 55 < length u.bytes
-        → (x y z v : S) (answer : Answer) (r : Result Answer LinkFault) → IsSound (world x) → IsUnspoiled u (world x) → told x ask body (Ok answer) y
+        → (x y z v : S) (answer : Answer) (r : Result Answer LinkFault) → IsSoundWorld (world x) → IsUnspoiled u (world x) → told x ask body (Ok answer) y
         → LeadsOn settings (world y) (world z) → HasEnough u (world z) → told z (Read (fields u)) [] r v → GivesAgain (fields u) u.bytes r
     come_back u ask body asks is long x y z v answer r sound unspoiled put later enough read =
         let now : IsStandingFor u (after_upload settings.servers u (world x)) = stands_now own one settings u (world x) set is sound unspoiled long in
@@ -134,13 +134,13 @@ module _ {S : Type 0} (told : S → Ask → List ℕ → Result Answer LinkFault
     module _ (own : OwnLaw) (one : OneLaw) where
       -- that it is put under these fields, by what asks for it
       by_fields : (u : Upload) (ask : Ask) (body : List ℕ) → upload_in (encoding_in settings) (meant ask body) ≡ Some u → IsUpload u → 55 < length u.bytes
-          → (x y z v : S) (answer : Answer) (f : ReadValue) (r : Result Answer LinkFault) → IsSound (world x) → IsUnspoiled u (world x) → told x ask body (Ok answer) y
+          → (x y z v : S) (answer : Answer) (f : ReadValue) (r : Result Answer LinkFault) → IsSoundWorld (world x) → IsUnspoiled u (world x) → told x ask body (Ok answer) y
           → LeadsOn settings (world y) (world z) → HasEnough u (world z) → f ≡ fields u → told z (Read f) [] r v → GivesAgain f u.bytes r
       by_fields u ask body asks is long x y z v answer f r sound unspoiled put later enough same read =
           subst (λ (g : ReadValue). GivesAgain g u.bytes r) (sym same)
           (come_back own one u ask body asks is long x y z v answer r sound unspoiled put later enough (subst (λ (g : ReadValue). told z (Read g) [] r v) same read))
 
-      pub file_back : (bytes : List ℕ) (x y z v : S) (answer : Answer) (f : ReadValue) (r : Result Answer LinkFault) → IsBody bytes → 55 < length bytes → IsSound (world x)
+      pub file_back : (bytes : List ℕ) (x y z v : S) (answer : Answer) (f : ReadValue) (r : Result Answer LinkFault) → IsBody bytes → 55 < length bytes → IsSoundWorld (world x)
           → IsUnspoiled (upload_of (encoding_in settings) bytes) (world x) → told x Put bytes (Ok answer) y → IsCapText (Chk f) answer.body
           → LeadsOn settings (world y) (world z) → HasEnough (upload_of (encoding_in settings) bytes) (world z) → told z (Read f) [] r v → GivesAgain f bytes r
       file_back bytes x y z v answer f r body long sound unspoiled put text later enough read =
@@ -150,7 +150,7 @@ module _ {S : Type 0} (told : S → Ask → List ℕ → Result Answer LinkFault
           by_fields u Put bytes (ap (λ b. cond b (Some u) None) (lt-ltb 55 (length bytes) long)) is long x y z v answer f r sound unspoiled put later enough same read
 
       pub directory_back : (entries : List Child) (json : List ℕ) (x y z v : S) (answer : Answer) (f : ReadValue) (r : Result Answer LinkFault) → IsBody (directory_text entries)
-          → made json ≡ Some entries → 55 < length (directory_text entries) → IsSound (world x)
+          → made json ≡ Some entries → 55 < length (directory_text entries) → IsSoundWorld (world x)
           → IsUnspoiled (directory_upload (encoding_in settings) entries) (world x) → told x Mkdir json (Ok answer) y → IsCapText (DirChk f) answer.body
           → LeadsOn settings (world y) (world z) → HasEnough (directory_upload (encoding_in settings) entries) (world z) → told z (Read f) [] r v → GivesAgain f (directory_text entries) r
       directory_back entries json x y z v answer f r body makes long sound unspoiled put text later enough read =

@@ -13,7 +13,7 @@ use Rattle.chk_file.specs.World.{World}
 use Rattle.web_ops.specs.declared.reply.Reply.{Reply}
 use Rattle.web_ops.specs.Answers.{request_reply}
 use Rattle.web_ops.specs.Uploads.{after_stored}
-use Rattle.gate_core.specs.Settings.{Settings, under, encoding_in}
+use Rattle.gate_core.specs.Settings.{GatewaySettings, under, encoding_in}
 use Rattle.gate_core.specs.Requests.{web_field, web_head, Interpreted, asked_of}
 use Rattle.gate_core.specs.Wire.{status_line, wire_reply}
 use Rattle.gate_core.specs.Browsers.{is_condition, sent_reply}
@@ -48,19 +48,19 @@ not_head host Mkdir body = refl
 not_head host (Read fields) body = refl
 not_head host (Check cap verify) body = refl
 
-answered : MeantLaw → (settings : Settings) (look : Look) (host : List ℕ) (ask : Ask) (body : List ℕ) → IsAsked host ask body → answer settings look (item_of host ask body) ≡ told_for settings look host ask body
+answered : MeantLaw → (settings : GatewaySettings) (look : Look) (host : List ℕ) (ask : Ask) (body : List ℕ) → IsAsked host ask body → answer settings look (item_of host ask body) ≡ told_for settings look host ask body
 unfolding answer
 answered law settings look host ask body is =
     ap (λ (asked : Interpreted). rendered (sent_reply settings.for_browsers (head_of host ask body) (asked_reply settings look (head_of host ask body) asked)) (is_head_request (head_of host ask body)) false) (is_asked law host ask body is)
     ∙ ap (λ b. rendered (sent_reply settings.for_browsers (head_of host ask body) (asked_reply settings look (head_of host ask body) (Ok (meant ask body)))) b false) (not_head host ask body)
 
-pub said_of : MeantLaw → (settings : Settings) (look : Look) (caller : ℕ) (secret host : List ℕ) (ask : Ask) (body : List ℕ) → IsAsked host ask body
+pub said_of : MeantLaw → (settings : GatewaySettings) (look : Look) (caller : ℕ) (secret host : List ℕ) (ask : Ask) (body : List ℕ) → IsAsked host ask body
     → told settings look caller (Asked caller secret (item_of host ask body)) ≡ told_for (under settings secret) look host ask body
 said_of law settings look caller secret host ask body is =
     ap (λ b. cond b (answer (under settings secret) look (item_of host ask body)) []) (eq-eqb caller caller refl)
     ∙ answered law (under settings secret) look host ask body is
 
-pub stored_of : MeantLaw → (settings : Settings) (w : World) (caller : ℕ) (secret host : List ℕ) (ask : Ask) (body : List ℕ) → IsAsked host ask body
+pub stored_of : MeantLaw → (settings : GatewaySettings) (w : World) (caller : ℕ) (secret host : List ℕ) (ask : Ask) (body : List ℕ) → IsAsked host ask body
     → after_entry settings (Asked caller secret (item_of host ask body)) w ≡ with_asked (under settings secret) ask body w
 unfolding upload_by
 stored_of law settings w caller secret host ask body is =
@@ -78,7 +78,7 @@ pub same_of : ((for_browsers : Bool) (head : Head) (reply : Reply) → list_any 
     → ((sent_reply for_browsers (head_asked host ask body) reply).status ≡ (wire_reply reply).status) × ((sent_reply for_browsers (head_asked host ask body) reply).body ≡ reply.body)
 same_of law for_browsers host ask body reply = law for_browsers (head_of host ask body) reply (no_condition host ask body)
 
-pub plain_of : (settings : Settings) (look : Look) (host : List ℕ) (ask : Ask) (body : List ℕ) → settings.for_browsers ≡ false
+pub plain_of : (settings : GatewaySettings) (look : Look) (host : List ℕ) (ask : Ask) (body : List ℕ) → settings.for_browsers ≡ false
     → told_for settings look host ask body ≡ sent_for settings look ask body
 plain_of settings look host ask body plain =
     ap (λ b. rendered (sent_reply b (head_of host ask body) (request_reply (encoding_in settings) look (meant ask body))) false false) plain

@@ -6,7 +6,7 @@ use Rattle.std.proofs.lemmas.List.{append_cancel_left}
 use Rattle.std.proofs.lemmas.Nat.{mod_below}
 use Rattle.std.proofs.lemmas.Fmt.{decimal_by_steps, decimal_injective}
 use Rattle.http_edge.specs.declared.field.Field.{Field as Line}
-use Rattle.http_edge.specs.Reply.{status_text, line_end, field_line, has_length, lines_with_length, lines_for, rendered_head, rendered}
+use Rattle.http_edge.specs.Reply.{status_text, crlf, field_line, has_length, lines_with_length, lines_for, rendered_head, rendered}
 use Rattle.web_ops.specs.declared.reply.Status.{Status}
 use Rattle.web_ops.specs.declared.reply.Status.TheVariants as status
 use Rattle.web_ops.specs.declared.reply.MediaType.{MediaType}
@@ -24,7 +24,7 @@ use Rattle.web_request.specs.declared.request.Request.TheVariants as request
 use Rattle.web_ops.specs.Encoding.{Encoding}
 use Rattle.web_ops.specs.Replies.{bytes_reply}
 use Rattle.web_ops.specs.Answers.{with_bytes, made_reply, checked_reply, request_reply}
-use Rattle.gate_core.specs.Settings.{Settings, encoding_in}
+use Rattle.gate_core.specs.Settings.{GatewaySettings, encoding_in}
 use Rattle.gate_core.specs.Wire.{status_line, media_type, further_lines, wire_reply}
 use Rattle.client_wire.specs.Asks.{meant}
 use Rattle.client_wire.specs.declared.ask.Ask.{Ask}
@@ -88,13 +88,13 @@ decimal_digits n h =
 -- ---- the parts of a reply
 
 abbrev after_length : List ℕ → List ℕ → List ℕ
-after_length further rest = line_end ++ (further ++ (line_end ++ rest))
+after_length further rest = crlf ++ (further ++ (crlf ++ rest))
 
 abbrev after_type : ℕ → List ℕ → List ℕ → List ℕ
-after_type n further rest = line_end ++ (codes "Content-Length" ++ (codes ": " ++ (decimal n ++ after_length further rest)))
+after_type n further rest = crlf ++ (codes "Content-Length" ++ (codes ": " ++ (decimal n ++ after_length further rest)))
 
 abbrev after_status : MediaType → ℕ → List ℕ → List ℕ → List ℕ
-after_status m n further rest = line_end ++ (codes "Content-Type" ++ (codes ": " ++ (media_type m ++ after_type n further rest)))
+after_status m n further rest = crlf ++ (codes "Content-Type" ++ (codes ": " ++ (media_type m ++ after_type n further rest)))
 
 abbrev in_parts : Status → MediaType → ℕ → List ℕ → List ℕ → List ℕ
 in_parts s m n further rest = codes "HTTP/1.1 " ++ (status_text (status_line s) ++ after_status m n further rest)
@@ -119,14 +119,14 @@ parts_are : (r : Reply) (more : List ℕ) → has_length (status_line r.status) 
     → rendered (wire_reply r) false false ++ more ≡ in_parts r.status r.fields.content_type (length r.body) (further_of r.fields.more) (r.body ++ more)
 unfolding rendered rendered_head
 parts_are r more long =
-    ap (λ (lines : List ℕ). (codes "HTTP/1.1 " ++ status_text (status_line r.status) ++ line_end ++ lines ++ [] ++ line_end ++ r.body) ++ more)
+    ap (λ (lines : List ℕ). (codes "HTTP/1.1 " ++ status_text (status_line r.status) ++ crlf ++ lines ++ [] ++ crlf ++ r.body) ++ more)
     (long_lines (has_length (status_line r.status)) (lines_with_length (length r.body) (lines_in r)) (flat_map field_line (lines_in r)) long)
-    ∙ in_order (codes "HTTP/1.1 ") (status_text (status_line r.status)) line_end (codes "Content-Type") (codes ": ") (media_type r.fields.content_type)
+    ∙ in_order (codes "HTTP/1.1 ") (status_text (status_line r.status)) crlf (codes "Content-Type") (codes ": ") (media_type r.fields.content_type)
     (codes "Content-Length") (decimal (length r.body)) (further_of r.fields.more) r.body more
 
 -- what stands behind the status, whatever it is
 behind_status : Reply → List ℕ → List ℕ
-behind_status r more = line_end ++ (lines_for (status_line r.status) (length r.body) (lines_in r) ++ (line_end ++ (r.body ++ more)))
+behind_status r more = crlf ++ (lines_for (status_line r.status) (length r.body) (lines_in r) ++ (crlf ++ (r.body ++ more)))
 
 in_front : (a s l f b more : List ℕ) → (a ++ s ++ l ++ f ++ [] ++ l ++ b) ++ more ≡ a ++ (s ++ (l ++ (f ++ (l ++ (b ++ more)))))
 in_front a s l f b more = simp append_assoc refl
@@ -134,7 +134,7 @@ in_front a s l f b more = simp append_assoc refl
 front_of : (r : Reply) (more : List ℕ) → rendered (wire_reply r) false false ++ more ≡ codes "HTTP/1.1 " ++ (status_text (status_line r.status) ++ behind_status r more)
 unfolding rendered rendered_head behind_status
 front_of r more =
-    in_front (codes "HTTP/1.1 ") (status_text (status_line r.status)) line_end (lines_for (status_line r.status) (length r.body) (lines_in r)) r.body more
+    in_front (codes "HTTP/1.1 ") (status_text (status_line r.status)) crlf (lines_for (status_line r.status) (length r.body) (lines_in r)) r.body more
 
 -- ---- what they say
 
@@ -178,9 +178,9 @@ media_read Svg rest = refl
 media_read Png rest = refl
 
 -- a field doesn't begin as the end of a head does
-no_further : (o : Option Field) (one other : List ℕ) → further_of o ++ (line_end ++ one) ≡ line_end ++ other → one ≡ other
+no_further : (o : Option Field) (one other : List ℕ) → further_of o ++ (crlf ++ one) ≡ crlf ++ other → one ≡ other
 unfolding nth
-no_further None one other e = append_cancel_left line_end one other e
+no_further None one other e = append_cancel_left crlf one other e
 no_further (Some (ContentRange from to size)) one other e = absurd (let h : 67 ≡ 13 = ap (nth 0) e in omega arith)
 no_further (Some (UnsatisfiedRange size)) one other e = absurd (let h : 67 ≡ 13 = ap (nth 0) e in omega arith)
 no_further (Some (Allow resource)) one other e = absurd (let h : 65 ≡ 13 = ap (nth 0) e in omega arith)
@@ -229,7 +229,7 @@ module _ (one other : Reply) (x y : List ℕ) (fits : length one.body < 2 ^ 64) 
       let to : List ℕ = media_type om ++ after_type on other_further (other.body ++ y) in
       append_cancel_left (codes ": ") from to
       (append_cancel_left (codes "Content-Type") (codes ": " ++ from) (codes ": " ++ to)
-      (append_cancel_left line_end (codes "Content-Type" ++ (codes ": " ++ from)) (codes "Content-Type" ++ (codes ": " ++ to)) past_status))
+      (append_cancel_left crlf (codes "Content-Type" ++ (codes ": " ++ from)) (codes "Content-Type" ++ (codes ": " ++ to)) past_status))
 
   same_type : m ≡ om
   same_type = sym (media_read m (after_type n further (one.body ++ x))) ∙ ap media_at at_type ∙ media_read om (after_type on other_further (other.body ++ y))
@@ -246,12 +246,12 @@ module _ (one other : Reply) (x y : List ℕ) (fits : length one.body < 2 ^ 64) 
       let to : List ℕ = decimal on ++ after_length other_further (other.body ++ y) in
       append_cancel_left (codes ": ") from to
       (append_cancel_left (codes "Content-Length") (codes ": " ++ from) (codes ": " ++ to)
-      (append_cancel_left line_end (codes "Content-Length" ++ (codes ": " ++ from)) (codes "Content-Length" ++ (codes ": " ++ to)) past_type))
+      (append_cancel_left crlf (codes "Content-Length" ++ (codes ": " ++ from)) (codes "Content-Length" ++ (codes ": " ++ to)) past_type))
 
   same_digits : decimal n ≡ decimal on
   same_digits =
-      sym (front_is (decimal n) (10 ∷ (further ++ (line_end ++ (one.body ++ x)))) (decimal_digits n fits)) ∙ ap digits_of_front at_length
-      ∙ front_is (decimal on) (10 ∷ (other_further ++ (line_end ++ (other.body ++ y)))) (decimal_digits on other_fits)
+      sym (front_is (decimal n) (10 ∷ (further ++ (crlf ++ (one.body ++ x)))) (decimal_digits n fits)) ∙ ap digits_of_front at_length
+      ∙ front_is (decimal on) (10 ∷ (other_further ++ (crlf ++ (other.body ++ y)))) (decimal_digits on other_fits)
 
   past_length : after_length further (one.body ++ x) ≡ after_length other_further (other.body ++ y)
   past_length =
@@ -262,8 +262,8 @@ module _ (one other : Reply) (x y : List ℕ) (fits : length one.body < 2 ^ 64) 
   past_head : one.body ++ x ≡ other.body ++ y
   past_head =
       no_further one.fields.more (one.body ++ x) (other.body ++ y)
-      (subst (λ (o : Option Field). further ++ (line_end ++ (one.body ++ x)) ≡ further_of o ++ (line_end ++ (other.body ++ y))) bare
-      (append_cancel_left line_end (further ++ (line_end ++ (one.body ++ x))) (other_further ++ (line_end ++ (other.body ++ y))) past_length))
+      (subst (λ (o : Option Field). further ++ (crlf ++ (one.body ++ x)) ≡ further_of o ++ (crlf ++ (other.body ++ y))) bare
+      (append_cancel_left crlf (further ++ (crlf ++ (one.body ++ x))) (other_further ++ (crlf ++ (other.body ++ y))) past_length))
 
   -- they are one answer, and the same follows
   pub one_answer : (as_answer one ≡ as_answer other) × (x ≡ y)
@@ -306,7 +306,7 @@ long_reply law e look Mkdir body = long_made e (made body)
 long_reply law e look (Read f) body = long_bytes (Some (verify_fields f)) (look.gives f)
 long_reply law e look (Check cap verify) body = ap (λ (r : Reply). has_length (status_line r.status)) (law e look cap verify)
 
-pub read_off : CheckLaw → (settings : Settings) (look : Look) (ask : Ask) (body more after : List ℕ) (reply : Reply) → length reply.body < 2 ^ 64
+pub read_off : CheckLaw → (settings : GatewaySettings) (look : Look) (ask : Ask) (body more after : List ℕ) (reply : Reply) → length reply.body < 2 ^ 64
     → length (request_reply (encoding_in settings) look (meant ask body)).body < 2 ^ 64 → sent_for settings look ask body ++ more ≡ rendered (wire_reply reply) false false ++ after
     → IsWrittenAnswer settings look ask body (Ok (as_answer reply)) × (more ≡ after)
 read_off law settings look ask body more after reply fits written_fits same =

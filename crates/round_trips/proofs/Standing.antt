@@ -17,11 +17,11 @@ use Rattle.caps.specs.StorageIndex.{index_of}
 use Rattle.chk_file.specs.Upload.{Upload, IsUpload, fields, index}
 use Rattle.chk_file.specs.Row.{most_servers}
 use Rattle.chk_file.specs.Marks.{Mark, MarkRow, untouched, marks_of, put_marks}
-use Rattle.chk_file.specs.Held.{has_none, is_untouched, stands_untouched, untouched_numbers, held_in, held}
+use Rattle.chk_file.specs.Held.{has_none, is_untouched, stands_untouched, untouched_numbers, held_in, uploaded_bytes}
 use Rattle.chk_file.specs.World.{World, empty, same_fields, with_file, after_upload, after_lose, after_spoil}
-use Rattle.chk_file.specs.Sound.{IsFileAt, IsSound}
+use Rattle.chk_file.specs.Sound.{IsFileAt, IsSoundWorld}
 use Rattle.web_ops.specs.Uploads.{after_stored}
-use Rattle.gate_core.specs.Settings.{Settings, under}
+use Rattle.gate_core.specs.Settings.{GatewaySettings, under}
 use Rattle.gate_core.specs.Items.{Entry, Asked, Lost, Spoiled}
 use Rattle.gate_core.specs.Runs.{upload_by, after_entry, world_after}
 use Rattle.cap_binding.specs.Binds.{Binds}
@@ -72,7 +72,7 @@ SpoilLaw = (server : ℕ) (key : ShareKey) (place : ℕ) (w : World) (si : List 
 abbrev enough_in : Upload → MarkRow → Type 0
 enough_in u m = u.k ≤ length (untouched_numbers u.n m)
 
-module _ (lose : LoseLaw) (spoil : SpoilLaw) (settings : Settings) (u : Upload) where
+module _ (lose : LoseLaw) (spoil : SpoilLaw) (settings : GatewaySettings) (u : Upload) where
   enough_after : (x : Entry) (w : World) → Spares (index u) x → HasEnough u w → HasEnough u (after_entry settings x w)
   enough_after (Asked id secret item) w spares h = enough_stored settings.servers (upload_by (under settings secret) item) u w h
   enough_after (Lost server key) w spares h = subst (enough_in u) (sym (lose server key w (index u) spares)) h
@@ -96,7 +96,7 @@ known_stored : (servers : ℕ) (o : Option Upload) (u : Upload) (w : World) (f :
 known_stored servers None u w f e = e
 known_stored servers (Some v) u w f e = known_put servers v u w f (nat_lt 55 (length v.bytes)) e
 
-module _ (settings : Settings) (u : Upload) (f : ReadValue) where
+module _ (settings : GatewaySettings) (u : Upload) (f : ReadValue) where
   known_after : (x : Entry) (w : World) → w.files f ≡ Some u → (after_entry settings x w).files f ≡ Some u
   known_after (Asked id secret item) w e = known_stored settings.servers (upload_by (under settings secret) item) u w f e
   known_after (Lost server key) w e = e
@@ -108,7 +108,7 @@ module _ (settings : Settings) (u : Upload) (f : ReadValue) where
 
 -- ---- what is held
 
-pub held_while : (u : Upload) (w : World) → IsStanding u w → held w (fields u) ≡ Some u.bytes
+pub held_while : (u : Upload) (w : World) → IsStanding u w → uploaded_bytes w (fields u) ≡ Some u.bytes
 held_while u w h =
     ap (λ (o : Option Upload). held_in o (marks_of w.marks (index u)) (fields u)) h.known
     ∙ ap (λ b. cond b (Some u.bytes) None) (le-leb u.k (length (untouched_numbers u.n (marks_of w.marks (index u)))) h.enough)
@@ -127,7 +127,7 @@ new_there : (o : Option Mark) (u : Upload) → ((mark : Mark) → o ≡ Some mar
 new_there None u h = refl
 new_there (Some mark) u h = h mark refl
 
-module _ (settings : Settings) (u : Upload) (w : World) (set : IsSetUp settings) (is : IsUpload u) (unspoiled : IsUnspoiled u w) where
+module _ (settings : GatewaySettings) (u : Upload) (w : World) (set : IsSetUp settings) (is : IsUpload u) (unspoiled : IsUnspoiled u w) where
   abbrev here : ℕ → ℕ
   here number = server_of settings.servers (index u) number
 
@@ -184,7 +184,7 @@ OwnLaw = (u : Upload) → 0 < length u.bytes → Binds (fields u) u.bytes
 abbrev pub OneLaw : Type 0
 OneLaw = (u : Upload) (bytes : List ℕ) → IsUpload u → AreBytes bytes → Binds (fields u) bytes → (bytes ≡ u.bytes) ⊎ HasCollision (bound_uses (fields u) bytes ++ bound_uses (fields u) u.bytes)
 
-module _ (own : OwnLaw) (one : OneLaw) (settings : Settings) (u : Upload) (w : World) (set : IsSetUp settings) (is : IsUpload u) (sound : IsSound w) (unspoiled : IsUnspoiled u w) where
+module _ (own : OwnLaw) (one : OneLaw) (settings : GatewaySettings) (u : Upload) (w : World) (set : IsSetUp settings) (is : IsUpload u) (sound : IsSoundWorld w) (unspoiled : IsUnspoiled u w) where
   stands_by : (o : Option Upload) → w.files (fields u) ≡ o → IsStandingFor u (long_upload settings.servers u w)
   stands_by None none = record { upload = u; named = refl; standing = stands_new settings u w set is unspoiled none; same = inl refl }
   stands_by (Some v) found =
@@ -204,7 +204,7 @@ module _ (own : OwnLaw) (one : OneLaw) (settings : Settings) (u : Upload) (w : W
   stands_now long =
       subst (λ b. IsStandingFor u (cond b (long_upload settings.servers u w) w)) (sym (lt-ltb 55 (length u.bytes) long)) (stands_by (w.files (fields u)) refl)
 
-pub stands_first : (settings : Settings) (u : Upload) → IsSetUp settings → IsUpload u → 55 < length u.bytes → IsStanding u (after_upload settings.servers u empty)
+pub stands_first : (settings : GatewaySettings) (u : Upload) → IsSetUp settings → IsUpload u → 55 < length u.bytes → IsStanding u (after_upload settings.servers u empty)
 stands_first settings u set is long =
     let unspoiled : IsUnspoiled u empty = λ server number mark e. cc in
     subst (λ b. IsStanding u (cond b (long_upload settings.servers u empty) empty)) (sym (lt-ltb 55 (length u.bytes) long)) (stands_new settings u empty set is unspoiled refl)

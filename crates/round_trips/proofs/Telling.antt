@@ -10,15 +10,15 @@ use Rattle.dir_codec.specs.Children.{made}
 use Rattle.dir_codec.specs.DirectoryText.{directory_text}
 use Rattle.dir_codec.specs.declared.entry.Entry.{Entry as Child}
 use Rattle.chk_file.specs.Upload.{Upload, IsUpload, fields, upload_cap}
-use Rattle.chk_file.specs.Held.{held}
+use Rattle.chk_file.specs.Held.{uploaded_bytes}
 use Rattle.chk_file.specs.Look.{by_held}
-use Rattle.chk_file.specs.Sound.{IsSound}
+use Rattle.chk_file.specs.Sound.{IsSoundWorld}
 use Rattle.chk_file.specs.World.{World, after_upload}
 use Rattle.web_ops.specs.Replies.{bytes_reply, cap_reply}
 use Rattle.web_ops.specs.Encoding.{Encoding}
 use Rattle.web_ops.specs.Answers.{with_bytes, made_reply}
 use Rattle.web_ops.specs.Uploads.{as_directory, directory_upload, directory_cap, made_upload, upload_in, after_stored}
-use Rattle.gate_core.specs.Settings.{Settings, under, encoding_in}
+use Rattle.gate_core.specs.Settings.{GatewaySettings, under, encoding_in}
 use Rattle.gate_core.specs.Secrets.{upload_under}
 use Rattle.gate_core.specs.Items.{Entry}
 use Rattle.gate_core.specs.Browsers.{sent_reply}
@@ -37,11 +37,11 @@ use Rattle.round_trips.proofs.Caps.{HashLaws, TextLaws, file_is_cap, directory_i
 
 -- ---- a run in two parts
 
-after_both : (settings : Settings) (w : World) (xs ys : List Entry) → world_after settings w (xs ++ ys) ≡ world_after settings (world_after settings w xs) ys
+after_both : (settings : GatewaySettings) (w : World) (xs ys : List Entry) → world_after settings w (xs ++ ys) ≡ world_after settings (world_after settings w xs) ys
 after_both settings w [] ys = refl
 after_both settings w (x ∷ xs) ys = after_both settings (after_entry settings x w) xs ys
 
-said_both : (settings : Settings) (caller : ℕ) (w : World) (xs ys : List Entry)
+said_both : (settings : GatewaySettings) (caller : ℕ) (w : World) (xs ys : List Entry)
     → said settings caller w (xs ++ ys) ≡ said settings caller w xs ++ said settings caller (world_after settings w xs) ys
 said_both settings caller w [] ys = refl
 said_both settings caller w (x ∷ xs) ys =
@@ -50,7 +50,7 @@ said_both settings caller w (x ∷ xs) ys =
     ap (λ (t : List ℕ). now ++ t) (said_both settings caller v xs ys)
     ∙ sym (append_assoc now (said settings caller v xs) (said settings caller (world_after settings v xs) ys))
 
-module _ (law : MeantLaw) (settings : Settings) (w : World) where
+module _ (law : MeantLaw) (settings : GatewaySettings) (w : World) where
   -- what a client asks for is told in a run as it is written
   told_at : (before after : List Entry) (caller : ℕ) (secret host : List ℕ) (ask : Ask) (body : List ℕ) → IsAsked host ask body
       → said settings caller w (before ++ entry_asked caller secret host ask body ∷ after)
@@ -102,14 +102,14 @@ module _ (law : MeantLaw) (settings : Settings) (w : World) where
             enough = enough_for u kept there now.named enough;
           }
 
-      got_again : (later : List Entry) (reader : ℕ) (other its : List ℕ) (f : ReadValue) → IsAsked its (Read f) [] → IsSound here → IsUnspoiled u here
+      got_again : (later : List Entry) (reader : ℕ) (other its : List ℕ) (f : ReadValue) → IsAsked its (Read f) [] → IsSoundWorld here → IsUnspoiled u here
           → f ≡ fields u → HasEnough u there → IsToldAgain settings reader w (before ++ put ∷ between) (head_asked its (Read f) []) (entry_asked reader other its (Read f) []) later f u.bytes
       got_again later reader other its f get sound unspoiled same enough =
           let now : IsStandingFor u (after_upload settings.servers u here) = stands_now own one settings u here set is sound unspoiled long in
           let kept : Upload = now.upload in
           let stands : IsStanding kept there = stands_there now enough in
           let named : fields kept ≡ f = now.named ∙ sym same in
-          let found : held there f ≡ Some kept.bytes = subst (λ (g : ReadValue). held there g ≡ Some kept.bytes) named (held_while kept there stands) in
+          let found : uploaded_bytes there f ≡ Some kept.bytes = subst (λ (g : ReadValue). uploaded_bytes there g ≡ Some kept.bytes) named (held_while kept there stands) in
           let size : length kept.bytes ≡ length u.bytes = ap (λ (g : ReadValue). g.size) now.named in
           let x : Entry = entry_asked reader other its (Read f) [] in
           let after : List ℕ = said settings reader (after_entry settings x there) later in
@@ -123,7 +123,7 @@ module _ (law : MeantLaw) (settings : Settings) (w : World) where
 
     module _ (hash : HashLaws) (texts : TextLaws) (before between after : List Entry) (putter reader : ℕ) (secret other host its : List ℕ) where
       pub file_told_again : (bytes : List ℕ) (f : ReadValue) → let u = upload_under settings secret bytes in let x = entry_asked putter secret host Put bytes in
-          IsBody bytes → 55 < length bytes → IsAsked host Put bytes → IsAsked its (Read f) [] → IsSound (world_after settings w before)
+          IsBody bytes → 55 < length bytes → IsAsked host Put bytes → IsAsked its (Read f) [] → IsSoundWorld (world_after settings w before)
           → IsUnspoiled u (world_after settings w before) → IsCapText (Chk f) (cap_text (upload_cap u)) → HasEnough u (world_after settings w (before ++ x ∷ between))
           → IsToldAgain settings reader w (before ++ x ∷ between) (head_asked its (Read f) []) (entry_asked reader other its (Read f) []) after f bytes
       file_told_again bytes f body long asked get sound unspoiled text enough =
@@ -136,7 +136,7 @@ module _ (law : MeantLaw) (settings : Settings) (w : World) where
       pub directory_told_again : (entries : List Child) (json : List ℕ) (f : ReadValue) → let e = encoding_in (under settings secret) in let u = directory_upload e entries in
           let x = entry_asked putter secret host Mkdir json in
           IsBody (directory_text entries) → made json ≡ Some entries → 55 < length (directory_text entries) → IsAsked host Mkdir json → IsAsked its (Read f) []
-          → IsSound (world_after settings w before) → IsUnspoiled u (world_after settings w before) → IsCapText (DirChk f) (cap_text (directory_cap e entries))
+          → IsSoundWorld (world_after settings w before) → IsUnspoiled u (world_after settings w before) → IsCapText (DirChk f) (cap_text (directory_cap e entries))
           → HasEnough u (world_after settings w (before ++ x ∷ between))
           → IsToldAgain settings reader w (before ++ x ∷ between) (head_asked its (Read f) []) (entry_asked reader other its (Read f) []) after f (directory_text entries)
       directory_told_again entries json f body makes long asked get sound unspoiled text enough =

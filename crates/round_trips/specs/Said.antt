@@ -7,7 +7,7 @@ use Rattle.http_edge.specs.declared.item.Item.{Item}
 use Rattle.http_edge.specs.declared.item.Item.TheVariants.{Request as RequestItem}
 use Rattle.chk_file.specs.Look.{Look}
 use Rattle.web_ops.specs.Answers.{request_reply}
-use Rattle.gate_core.specs.Settings.{Settings, encoding_in}
+use Rattle.gate_core.specs.Settings.{GatewaySettings, encoding_in}
 use Rattle.gate_core.specs.Wire.{wire_reply}
 use Rattle.gate_core.specs.Browsers.{sent_reply}
 use Rattle.client_wire.specs.Asks.{asked_head, meant}
@@ -22,10 +22,10 @@ abbrev pub item_of : List ℕ → Ask → List ℕ → Item
 item_of host ask body = RequestItem (head_asked host ask body) body false
 
 -- the reply that is written for it, as it is sent where nothing is made for browsers
-abbrev pub sent_for : Settings → Look → Ask → List ℕ → List ℕ
+abbrev pub sent_for : GatewaySettings → Look → Ask → List ℕ → List ℕ
 sent_for settings look ask body = rendered (wire_reply (request_reply (encoding_in settings) look (meant ask body))) false false
 
 -- as these settings have it sent
-abbrev pub told_for : Settings → Look → List ℕ → Ask → List ℕ → List ℕ
+abbrev pub told_for : GatewaySettings → Look → List ℕ → Ask → List ℕ → List ℕ
 told_for settings look host ask body =
     rendered (sent_reply settings.for_browsers (head_asked host ask body) (request_reply (encoding_in settings) look (meant ask body))) false false

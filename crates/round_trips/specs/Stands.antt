@@ -6,12 +6,12 @@ use Rattle.chk_file.specs.Upload.{Upload, fields, index}
 use Rattle.chk_file.specs.Marks.{Mark, marks_of}
 use Rattle.chk_file.specs.Held.{has_none, untouched_numbers}
 use Rattle.chk_file.specs.World.{World}
-use Rattle.gate_core.specs.Settings.{Settings}
+use Rattle.gate_core.specs.Settings.{GatewaySettings}
 use Rattle.gate_core.specs.Items.{Entry, Asked, Lost, Spoiled}
 use Rattle.cap_binding.specs.Found.{HasCollision, bound_uses}
 
 -- any k of n shares are enough, and there are servers, 256 at most
-pub record IsSetUp (settings : Settings) : Type 0 where
+pub record IsSetUp (settings : GatewaySettings) : Type 0 where
   pub sharing : IsSharing settings.k settings.n
   pub some : 1 ≤ settings.servers
   pub limit : settings.servers ≤ 256

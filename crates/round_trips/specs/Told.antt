@@ -7,7 +7,7 @@ use Rattle.caps.specs.Weakening.{verify_fields}
 use Rattle.chk_file.specs.World.{World}
 use Rattle.web_ops.specs.declared.reply.Reply.{Reply}
 use Rattle.web_ops.specs.Replies.{file_reply}
-use Rattle.gate_core.specs.Settings.{Settings}
+use Rattle.gate_core.specs.Settings.{GatewaySettings}
 use Rattle.gate_core.specs.Items.{Entry, Asked}
 use Rattle.gate_core.specs.Browsers.{sent_reply}
 use Rattle.gate_core.specs.Runs.{after_entry, world_after, said}
@@ -22,7 +22,7 @@ entry_asked caller secret host ask body = Asked caller secret (item_of host ask 
 
 -- In a run a caller is told this reply, whole, for an entry with this head: behind what the caller is told of those before it, and in
 -- front of what the caller is told of those after it.
-abbrev pub IsToldWith : Settings → ℕ → World → List Entry → Head → Entry → List Entry → Reply → Type 0
+abbrev pub IsToldWith : GatewaySettings → ℕ → World → List Entry → Head → Entry → List Entry → Reply → Type 0
 IsToldWith settings caller w before head x after reply =
     said settings caller w (before ++ x ∷ after)
     ≡ said settings caller w before
@@ -30,7 +30,7 @@ IsToldWith settings caller w before head x after reply =
 
 -- In a run a caller is told bytes for an entry, 200 and all of them, which a cap binds, so that a client takes them; and
 -- they are these, or others that collide with them.
-pub record IsToldAgain (settings : Settings) (caller : ℕ) (w : World) (before : List Entry) (head : Head) (x : Entry) (after : List Entry) (f : ReadValue) (bytes : List ℕ) : Type 0 where
+pub record IsToldAgain (settings : GatewaySettings) (caller : ℕ) (w : World) (before : List Entry) (head : Head) (x : Entry) (after : List Entry) (f : ReadValue) (bytes : List ℕ) : Type 0 where
   pub again : List ℕ
   pub told : IsToldWith settings caller w before head x after (file_reply (Some (verify_fields f)) again)
   pub bound : Binds f again

@@ -12,7 +12,7 @@ use Rattle.erasure.specs.Given.{numbered_of, numbers_of, blocks_of, AreDistinct,
 use Rattle.share_codec.specs.Params.{ParamsValue}
 use Rattle.share_codec.specs.Segments.{segment_size, segment_count, segment_length, block_length, segments, primary_blocks}
 use Rattle.share_codec.specs.Shares.{blocks}
-use Rattle.share_codec.specs.GoodShare.{GoodShare, IsCut}
+use Rattle.share_codec.specs.GoodShare.{GoodShare, IsCutInBlocks}
 use Rattle.share_repair.specs.Decoded.{AreGoodOf, numbered_blocks}
 
 -- what the laws of the code and of segments say
@@ -53,7 +53,7 @@ pub never_repeats : (numbers : List ℕ) → AreDistinct numbers → Repeats num
 never_repeats numbers apart (i, j, lt, below, e) = apart i j 0 lt below e
 
 -- the blocks of a segment have its length
-block_long : (p : ParamsValue) (shares : List GoodShare) (at : ℕ) → at < segment_count p → All (IsCut p) shares → (i : ℕ) → i < length shares → length (get_or (blocks_of (numbered_blocks shares at)) i []) ≡ block_length p at
+block_long : (p : ParamsValue) (shares : List GoodShare) (at : ℕ) → at < segment_count p → All (IsCutInBlocks p) shares → (i : ℕ) → i < length shares → length (get_or (blocks_of (numbered_blocks shares at)) i []) ≡ block_length p at
 block_long p shares at inside cut i below =
     let block : GoodShare → List ℕ = λ share. get_or share.blocks at [] in
     ap (λ bs. length (get_or bs i [])) (contents-numbered shares at)
@@ -61,7 +61,7 @@ block_long p shares at inside cut i below =
     ∙ (cut i any_share below).lengths at inside
 
 -- so none is of another
-pub one_length : (p : ParamsValue) (shares : List GoodShare) (at : ℕ) → at < segment_count p → All (IsCut p) shares → HasAnotherLength (blocks_of (numbered_blocks shares at)) → ⊥
+pub one_length : (p : ParamsValue) (shares : List GoodShare) (at : ℕ) → at < segment_count p → All (IsCutInBlocks p) shares → HasAnotherLength (blocks_of (numbered_blocks shares at)) → ⊥
 one_length p shares at inside cut (i, below, e) =
     let long : length (blocks_of (numbered_blocks shares at)) ≡ length shares =
     ap length (contents-numbered shares at) ∙ length-map shares (λ (share : GoodShare). get_or share.blocks at []) in
@@ -72,12 +72,12 @@ one_length p shares at inside cut (i, below, e) =
 from_images : {X Y : Type 0} (P : Y → Type 0) (f : X → Y) (xs : List X) → All P (map f xs) → All (λ x. P (f x)) xs
 from_images P f xs all k d below = subst P (get_or-map f xs k d (f d) below) (all k (f d) (let h = length-map xs f in omega arith))
 
-below_at : (p : ParamsValue) (shares : List GoodShare) (at : ℕ) → All (IsCut p) shares → All (λ (g : ℕ × List ℕ). g.0 < p.n) (numbered_blocks shares at)
+below_at : (p : ParamsValue) (shares : List GoodShare) (at : ℕ) → All (IsCutInBlocks p) shares → All (λ (g : ℕ × List ℕ). g.0 < p.n) (numbered_blocks shares at)
 below_at p shares at cut =
     All-map (λ (g : ℕ × List ℕ). g.0 < p.n) (λ (share : GoodShare). (share.number, get_or share.blocks at [])) shares (λ k d below. (cut k d below).below)
 
 -- numbers of blocks are below n
-pub all_below : (p : ParamsValue) (k n : ℕ) (given : List (ℕ × Bor (List ℕ))) (shares : List GoodShare) (at : ℕ) → n ≡ p.n → All (IsCut p) shares → numbered_of given ≡ numbered_blocks shares at
+pub all_below : (p : ParamsValue) (k n : ℕ) (given : List (ℕ × Bor (List ℕ))) (shares : List GoodShare) (at : ℕ) → n ≡ p.n → All (IsCutInBlocks p) shares → numbered_of given ≡ numbered_blocks shares at
     → All (λ (b : ℕ × Bor (List ℕ)). b.0 < n) (take k given)
 all_below p k n given shares at same cut e =
     let all : All (λ (g : ℕ × List ℕ). g.0 < p.n) (numbered_of given) = subst (All (λ (g : ℕ × List ℕ). g.0 < p.n)) (sym e) (below_at p shares at cut) in

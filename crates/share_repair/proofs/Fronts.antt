@@ -12,7 +12,7 @@ use Rattle.tag_hash.specs.Decimal.{decimal_text}
 use Rattle.tag_hash.specs.Netstring.{netstring}
 use Rattle.share_codec.specs.Params.{ParamsValue}
 use Rattle.share_codec.specs.Segments.{segment_size, segment_count}
-use Rattle.share_codec.specs.Texts.{Texts, share_text}
+use Rattle.share_codec.specs.Texts.{ShareTexts, share_text}
 use Rattle.share_codec.specs.Ueb.{entry, ueb_text}
 use Rattle.share_codec.specs.declared.ueb.Ueb.{Ueb}
 
@@ -80,6 +80,6 @@ pub params_as : (p : ParamsValue) (k n size : ℕ) (found : Option ParamsValue) 
 params_as p k n size found e f g is = is ∙ (λ i. Some (record { k = e i; n = f i; size = g i }))
 
 -- the third of six texts
-pub share_text-is : (t : Texts) → share_text t ≡ netstring t.version ++ (netstring t.number ++ (netstring t.extension ++ (netstring t.hashes ++ (netstring t.siblings ++ netstring t.blocks))))
+pub share_text-is : (t : ShareTexts) → share_text t ≡ netstring t.version ++ (netstring t.number ++ (netstring t.extension ++ (netstring t.hashes ++ (netstring t.siblings ++ netstring t.blocks))))
 unfolding share_text
 share_text-is t = refl

@@ -16,11 +16,11 @@ use Rattle.grid.specs.Standing.{Standing, standing}
 use Rattle.grid.specs.GridState.{GridState, maps_of, stood, IsHonest}
 use Rattle.grid.specs.Leaves.{IsUnchanged}
 use Rattle.grid.specs.Changes.{without}
-use Rattle.grid.specs.Changed.{ArePut, StopsAt}
+use Rattle.grid.specs.Changed.{ArePut, PutStopsAt}
 use Rattle.grid.specs.Placement.{server_of, placed}
 use Rattle.share_repair.specs.Files.{Verifies}
 use Rattle.share_repair.specs.declared.judging.Judged.{Judged}
-use Rattle.grid.specs.Found.{seen}
+use Rattle.grid.specs.Found.{found_bytes}
 use Rattle.std.proofs.lemmas.List.{get_or-map, length-map, map-append, take_more}
 use Rattle.share_repair.specs.Judged.{found_of}
 use Rattle.share_repair.specs.Kept.{KeepsGood, IsStandingShare, LosesAtMost}
@@ -97,26 +97,26 @@ pub keeps_unchanged : (index : List ℕ) (old new : GridState) → IsUnchanged o
 keeps_unchanged index old new same = record { kept = λ server key s here good. ap (λ maps. standing maps server key) same.maps ∙ here }
 
 -- whatever a put answers
-pub keeps_put : {T : Type 0} (result : Result T GridFault) (index : List ℕ) (shares : List (List ℕ)) (old new : GridState) → OnOk result (ArePut index shares old new) → IfErr result (StopsAt index shares old new) → IsHonest old → KeepsGood index old new
+pub keeps_put : {T : Type 0} (result : Result T GridFault) (index : List ℕ) (shares : List (List ℕ)) (old new : GridState) → OnOk result (ArePut index shares old new) → IfErr result (PutStopsAt index shares old new) → IsHonest old → KeepsGood index old new
 keeps_put (Ok x) index shares old new ok err honest = put_keeps index shares old new ok
 keeps_put (Err fault) index shares old new ok err honest = put_keeps index (take err.n shares) old new (err.put honest)
 
 -- one more of them, as they were found
 pub same_more : {A : Type 0} (bytes : A → List ℕ) (found : List (ℕ × ℕ × A)) (i : ℕ) (f : ℕ × ℕ × A) (judged new : List Judged) (x : Judged) → i < length found → f ≡ get_or found i f
-    → found_of x ≡ seen bytes f → map found_of judged ≡ map (seen bytes) (take i found) → new ≡ judged ++ x ∷ [] → map found_of new ≡ map (seen bytes) (take (i + 1) found)
+    → found_of x ≡ found_bytes bytes f → map found_of judged ≡ map (found_bytes bytes) (take i found) → new ≡ judged ++ x ∷ [] → map found_of new ≡ map (found_bytes bytes) (take (i + 1) found)
 same_more {A} bytes found i f judged new x below is here so_far e =
     ap (map found_of) e ∙ map-append found_of judged (x ∷ [])
-    ∙ (λ j. so_far j ++ (here ∙ ap (seen bytes) is) j ∷ [])
-    ∙ sym (map-append (seen bytes) (take i found) (get_or found i f ∷ []))
-    ∙ sym (ap (map (seen bytes)) (take_more found i f below))
+    ∙ (λ j. so_far j ++ (here ∙ ap (found_bytes bytes) is) j ∷ [])
+    ∙ sym (map-append (found_bytes bytes) (take i found) (get_or found i f ∷ []))
+    ∙ sym (ap (map (found_bytes bytes)) (take_more found i f below))
 
 from_images : {X Y : Type 0} (P : Y → Type 0) (f : X → Y) (xs : List X) → All P (map f xs) → All (λ x. P (f x)) xs
 from_images P f xs all k d below = subst P (get_or-map f xs k d (f d) below) (all k (f d) (let h = length-map xs f in omega arith))
 
 -- what was found stands still where nothing was changed
-pub standing_still : {A : Type 0} (bytes : A → List ℕ) (index : List ℕ) (found : List (ℕ × ℕ × A)) (judged : List Judged) (old new : GridState) → map found_of judged ≡ map (seen bytes) found
-    → All (λ (f : ℕ × ℕ × List ℕ). stood old f.0 (index, f.1) ≡ Some f.2) (map (seen bytes) found) → IsUnchanged old new → All (IsStandingShare new index) judged
+pub standing_still : {A : Type 0} (bytes : A → List ℕ) (index : List ℕ) (found : List (ℕ × ℕ × A)) (judged : List Judged) (old new : GridState) → map found_of judged ≡ map (found_bytes bytes) found
+    → All (λ (f : ℕ × ℕ × List ℕ). stood old f.0 (index, f.1) ≡ Some f.2) (map (found_bytes bytes) found) → IsUnchanged old new → All (IsStandingShare new index) judged
 standing_still bytes index found judged old new same stands unchanged =
     from_images (λ (f : ℕ × ℕ × List ℕ). stood new f.0 (index, f.1) ≡ Some f.2) found_of judged
     (subst (All (λ (f : ℕ × ℕ × List ℕ). stood new f.0 (index, f.1) ≡ Some f.2)) (sym same)
-    (λ k d below. ap (λ maps. standing maps (get_or (map (seen bytes) found) k d).0 (index, (get_or (map (seen bytes) found) k d).1)) unchanged.maps ∙ stands k d below))
+    (λ k d below. ap (λ maps. standing maps (get_or (map (found_bytes bytes) found) k d).0 (index, (get_or (map (found_bytes bytes) found) k d).1)) unchanged.maps ∙ stands k d below))

@@ -19,7 +19,7 @@ use Rattle.grid.specs.declared.fault.GridFault.{GridFault}
 use Rattle.grid.specs.Standing.{Standing, standing}
 use Rattle.grid.specs.GridState.{GridState, stood, IsHonest}
 use Rattle.grid.specs.Leaves.{Leaves, IsUnchanged}
-use Rattle.grid.specs.Changed.{ArePut, StopsAt}
+use Rattle.grid.specs.Changed.{ArePut, PutStopsAt}
 use Rattle.grid.specs.Placement.{server_of, placed}
 use Rattle.share_codec.specs.Shares.{share}
 use Rattle.octets.specs.Sharing.{IsSharing}
@@ -87,7 +87,7 @@ put_puts_some n index shares old new some = record { put = λ server key s here.
     by_case server key s (inr at) = inr (at.0, at.1, taken_is n shares key.1 s at.2)
 
 -- whatever a put answers
-pub puts_put : {T : Type 0} (result : Result T GridFault) (index : List ℕ) (shares : List (List ℕ)) (old new : GridState) → OnOk result (ArePut index shares old new) → IfErr result (StopsAt index shares old new) → IsHonest old → PutsOnly index shares old new
+pub puts_put : {T : Type 0} (result : Result T GridFault) (index : List ℕ) (shares : List (List ℕ)) (old new : GridState) → OnOk result (ArePut index shares old new) → IfErr result (PutStopsAt index shares old new) → IsHonest old → PutsOnly index shares old new
 puts_put (Ok x) index shares old new ok err honest = put_puts index shares old new ok
 puts_put (Err fault) index shares old new ok err honest = put_puts_some err.n index shares old new (put_puts index (take err.n shares) old new (err.put honest))
 

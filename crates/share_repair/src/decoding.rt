@@ -4,7 +4,7 @@ ghost use Rattle.std.specs.Option.{option_map};
 ghost use Rattle.std.specs.List.{concat};
 ghost use Rattle.erasure.specs.Given.{numbered_of, AreDistinct};
 ghost use Rattle.share_codec.specs.Segments.{segments, segment_count, primary_blocks};
-ghost use Rattle.share_codec.specs.GoodShare.{IsCut};
+ghost use Rattle.share_codec.specs.GoodShare.{IsCutInBlocks};
 ghost use Rattle.share_repair.specs.Decoded.{AreGoodOf, numbered_blocks};
 
 use erasure::{Code, CodeFault};
@@ -20,7 +20,7 @@ pub(crate) fn decoded(
 ) -> Result<Option<Vec<u8>>, AllocError>
     requires some { 0 < params.now.size }
     requires many { length shares.now ≡ params.now.k }
-    requires cut { All (IsCut params.now) shares.now }
+    requires cut { All (IsCutInBlocks params.now) shares.now }
     ensures given { (crypttext : List ℕ) → AreGoodOf params.now crypttext shares.now
         → IfOk result (λ found. option_map (λ v. v.items) found ≡ Some crypttext) }
     ensures apart { IfOk result (λ found. IfSome found (λ bytes.
@@ -58,7 +58,7 @@ fn add_segment(
     requires code { (code.now.k ≡ params.now.k) × (code.now.n ≡ params.now.n) }
     requires some { 0 < params.now.size }
     requires many { length shares.now ≡ params.now.k }
-    requires cut { All (IsCut params.now) shares.now }
+    requires cut { All (IsCutInBlocks params.now) shares.now }
     requires inside { at < segment_count params.now }
     ensures yes { (crypttext : List ℕ) → AreGoodOf params.now crypttext shares.now
         → IfOk result (λ given. IsTrue given) }
@@ -88,7 +88,7 @@ fn push_decoded(
 ) -> Result<bool, AllocError>
     requires code { (code.now.k ≡ params.now.k) × (code.now.n ≡ params.now.n) }
     requires many { length shares.now ≡ params.now.k }
-    requires cut { All (IsCut params.now) shares.now }
+    requires cut { All (IsCutInBlocks params.now) shares.now }
     requires inside { at < segment_count params.now }
     ensures yes { (crypttext : List ℕ) → AreGoodOf params.now crypttext shares.now
         → IfOk result (λ given. IsTrue given) }

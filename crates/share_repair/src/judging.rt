@@ -1,7 +1,7 @@
 //! What stands under a storage index, judged.
 ghost use Rattle.std.specs.Prelude.{◌≡◌, All, IfOk, IsTrue, map};
 ghost use Rattle.std.specs.Rc.{rc_slice_items};
-ghost use Rattle.grid.specs.Found.{seen};
+ghost use Rattle.grid.specs.Found.{found_bytes};
 ghost use Rattle.share_repair.specs.Files.{Verifies};
 ghost use Rattle.share_repair.specs.Judged.{IsJudged, found_of};
 
@@ -58,7 +58,7 @@ pub(crate) fn judge_each(
     found: &[(usize, u16, RcSlice<u8>)],
 ) -> Result<Vec<Judged>, AllocError>
     ensures same { IfOk result (λ judged.
-        map found_of judged.items ≡ map (seen rc_slice_items) found.now) }
+        map found_of judged.items ≡ map (found_bytes rc_slice_items) found.now) }
     ensures told { IfOk result (λ judged. All IsJudged judged.items) }
 {
     let mut judged = Vec::with_capacity(alloc, found.len())?;

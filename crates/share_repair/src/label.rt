@@ -2,7 +2,7 @@
 ghost use Rattle.std.specs.Prelude.{◌≡◌, ◌↔◌, ◌<◌, ◌^◌, ℕ, List, Some, IfOk, IfSome, IfNone, IsSomeAnd, IsTrue, IsFalse};
 ghost use Rattle.std.specs.Rc.{rc_slice_items};
 ghost use Rattle.share_codec.specs.Params.{ParamsValue};
-ghost use Rattle.share_codec.specs.Texts.{Texts, share_text};
+ghost use Rattle.share_codec.specs.Texts.{ShareTexts, share_text};
 ghost use Rattle.share_codec.specs.Meets.{Meets};
 ghost use Rattle.share_repair.specs.Files.{FileLabel, IsShareOf};
 
@@ -106,7 +106,7 @@ fn label_in(bytes: &[u8]) -> Option<Label>
 
 /// The URI extension block of a string that is six texts.
 fn extension_in(bytes: &[u8]) -> Option<&[u8]>
-    ensures { (t : Texts) → bytes.now ≡ share_text t
+    ensures { (t : ShareTexts) → bytes.now ≡ share_text t
         → IsSomeAnd result (λ extension. extension.now ≡ t.extension) }
 {
     let (_, rest) = split_netstring(bytes)?;

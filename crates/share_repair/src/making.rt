@@ -2,7 +2,7 @@
 ghost use Rattle.std.specs.Prelude.{◌≡◌, ◌≢◌, ◌↔◌, ◌<◌, ℕ, List, Some, length, map, All, IfOk, IfErr, IsTrue, IsFalse};
 ghost use Rattle.std.specs.Rc.{rc_slice_items};
 ghost use Rattle.erasure.specs.Given.{AreDistinct};
-ghost use Rattle.share_codec.specs.GoodShare.{IsCut, good_share};
+ghost use Rattle.share_codec.specs.GoodShare.{IsCutInBlocks, good_share};
 ghost use Rattle.share_codec.specs.Meets.{Meets};
 ghost use Rattle.share_repair.specs.Files.{FileLabel, AreGivenOf, IsShareOf};
 ghost use Rattle.share_repair.specs.Repaired.{AreRepaired, IsOne, strings_of};
@@ -52,7 +52,7 @@ fn remade(
 ) -> Result<Vec<Vec<u8>>, RepairFault>
     requires read { let label : FileLabel = record { params = params.now; ueb = ueb.now } in
         AreRead label (strings_of rc_slice_items given.now) shares.now }
-    requires cut { All (IsCut params.now) shares.now }
+    requires cut { All (IsCutInBlocks params.now) shares.now }
     ensures made { let label : FileLabel = record { params = params.now; ueb = ueb.now } in
         IfOk result (λ made. AreRepaired label (strings_of rc_slice_items given.now)
         (map (λ share. share.items) made.items)) }
@@ -87,7 +87,7 @@ fn read_each(
     ensures read { let label : FileLabel = record { params = params.now; ueb = ueb.now } in
         IfOk result (λ shares.
         AreRead label (strings_of rc_slice_items given.now) shares.items) }
-    ensures cut { IfOk result (λ shares. All (IsCut params.now) shares.items) }
+    ensures cut { IfOk result (λ shares. All (IsCutInBlocks params.now) shares.items) }
     ensures unlike { let label : FileLabel = record { params = params.now; ueb = ueb.now } in
         IfErr result (λ fault. fault ≢ RepairFault.NoMemory →
         All (λ g. IsShareOf label g.0 g.1) (strings_of rc_slice_items given.now) → ⊥) }
@@ -113,7 +113,7 @@ fn read_one(
 ) -> Result<Share, RepairFault>
     ensures good { let good = good_share (rc_slice_items bytes.now) number params.now ueb.now in
         IfOk result (λ share. good ≡ Some share) }
-    ensures cut { IfOk result (IsCut params.now) }
+    ensures cut { IfOk result (IsCutInBlocks params.now) }
     ensures unlike { IfErr result (λ fault. fault ≢ RepairFault.NoMemory →
         ¬ (Meets (rc_slice_items bytes.now) number params.now ueb.now)) }
 {

@@ -5,7 +5,7 @@ use Rattle.std.specs.FinMap.{empty}
 use Rattle.share_store.specs.Shares.{Shares}
 use Rattle.share_store.specs.History.{History, GoesOnBy}
 use Rattle.share_shelf.specs.Kept.{told_of, states_from, HadBeen}
-use Rattle.share_shelf.specs.Left.{Keeps, LeavesOnly, IsChanged, MayBeChanged}
+use Rattle.share_shelf.specs.CrashStates.{Keeps, LeavesOnly, IsChanged, MayBeChanged}
 use Rattle.share_shelf.specs.declared.mem_shelf.MemShelf.{MemShelf}
 
 abbrev pub moment_of : MemShelf → ℕ

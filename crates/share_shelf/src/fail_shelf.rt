@@ -2,7 +2,7 @@
 ghost use Rattle.std.specs.Prelude.{◌≡◌, ◌+◌, ◌-◌, ◌^◌, ◌==◌, ◌&&◌, not, if◌then◌else◌};
 ghost use Rattle.share_store.specs.Shares.{Shares};
 ghost use Rattle.share_shelf.specs.Kept.{told_of, narrowed, kept_is};
-ghost use Rattle.share_shelf.specs.Left.{Keeps};
+ghost use Rattle.share_shelf.specs.CrashStates.{Keeps};
 
 use crate::{MemShelf, Shelf, ShelfFault};
 use std::alloc::Global;

@@ -4,8 +4,8 @@ ghost use Rattle.std.specs.FinMap.{empty};
 ghost use Rattle.std.specs.Rc.{rc_slice_items};
 ghost use Rattle.share_store.specs.Shares.{Shares};
 ghost use Rattle.share_store.specs.Stored.{shares_in};
-ghost use Rattle.share_shelf.specs.Kept.{told_by, told_of, after, stood_after, states_from, HadBeen, narrowed, kept_is};
-ghost use Rattle.share_shelf.specs.Left.{Keeps, shares-set};
+ghost use Rattle.share_shelf.specs.Kept.{told_by, told_of, after_changes, stood_after, states_from, HadBeen, narrowed, kept_is};
+ghost use Rattle.share_shelf.specs.CrashStates.{Keeps, shares-set};
 
 use crate::{Shelf, ShelfFault};
 use share_store::ShareMap;
@@ -27,8 +27,8 @@ pub struct MemShelf {
     map: ShareMap<RcSlice<u8>>,
     changes: Vec<Change>,
     ghost told: { shares_in rc_slice_items map.indexes
-        ≡ after (told_of changes.items) empty } by { shares-set
-            (shares_in rc_slice_items map.indexes) (after (told_of changes.items) empty) },
+        ≡ after_changes (told_of changes.items) empty } by { shares-set
+            (shares_in rc_slice_items map.indexes) (after_changes (told_of changes.items) empty) },
 }
 
 impl MemShelf {
@@ -160,7 +160,7 @@ impl Shelf for MemShelf {
 
     ghost history = { λ shelf. Some (states_from empty (told_of shelf.changes.items)) };
 
-    ghost shares = { λ shelf. after (told_of shelf.changes.items) empty };
+    ghost shares = { λ shelf. after_changes (told_of shelf.changes.items) empty };
 
     ghost failures = { λ shelf. 0 };
 

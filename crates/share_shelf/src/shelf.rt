@@ -5,7 +5,7 @@ ghost use Rattle.std.specs.FinMap as map;
 ghost use Rattle.std.specs.Rc.{rc_slice_items};
 ghost use Rattle.share_store.specs.Shares.{Shares};
 ghost use Rattle.share_store.specs.History.{History, GoesOnBy};
-ghost use Rattle.share_shelf.specs.Left.{Keeps, IsEither, LeavesOnly, IsQuiet, IsChanged, MayBeChanged};
+ghost use Rattle.share_shelf.specs.CrashStates.{Keeps, IsEither, LeavesOnly, IsQuiet, IsChanged, MayBeChanged};
 
 use crate::ShelfFault;
 use std::alloc::Global;

@@ -17,8 +17,8 @@ use Rattle.std.proofs.lemmas.Map.Lookups.{exact_bytes, exact_unsigned}
 use Rattle.std.proofs.lemmas.Map.Views.{tells_apart}
 use Rattle.std.specs.FinMap.{find, get, entries, empty, get-empty, insert, remove, from_sorted, is_sorted, get-insert, get-remove, get-from_sorted, same_map}
 use Rattle.std.specs.FinMap.Entries.{below_all}
-use Rattle.share_store.specs.Shares.{ShareKey, Entry, key_cmp}
-use Rattle.share_store.specs.Numbers.{of_index, numbers_of}
+use Rattle.share_store.specs.Shares.{ShareKey, ShareEntry, key_cmp}
+use Rattle.share_store.specs.Numbers.{of_index, numbers_for}
 use Rattle.share_store.specs.Stored.{Numbers, Indexes, entries_at, entries_under, shares_in, IsKept}
 use Rattle.share_store.specs.MapLaws.{key_cmp_total, key_cmp_exact, is_T, entries_kept}
 use Rattle.share_store.proofs.Sorted.{both, equal, find_below}
@@ -41,13 +41,13 @@ get_in indexes key = at_number key.1 (tree.get by_bytes indexes key.0)
 module _ {B : Type 0} (bytes_in : B → List ℕ) where
   -- ---- the entries rise
 
-  below_here : (index : List ℕ) (number : ℕ) (ns : List (ℕ × B)) (rest : List Entry) → AllByRecursion (λ y. nat_cmp number y ≡ Less) (keys_of ns) → below_all key_cmp (index, number) rest ≡ true
+  below_here : (index : List ℕ) (number : ℕ) (ns : List (ℕ × B)) (rest : List ShareEntry) → AllByRecursion (λ y. nat_cmp number y ≡ Less) (keys_of ns) → below_all key_cmp (index, number) rest ≡ true
       → below_all key_cmp (index, number) (entries_at bytes_in index ns ++ rest) ≡ true
   below_here index number [] rest rise h = h
   below_here index number (n ∷ ns) rest rise h =
       both _ _ (ap is_lt (ap (λ o. ordering_then o (nat_cmp number n.0)) (same_bytes index) ∙ rise.0)) (below_here index number ns rest rise.1 h)
 
-  below_there : (index other : List ℕ) (number : ℕ) (ns : List (ℕ × B)) (rest : List Entry) → by_bytes index other ≡ Less → below_all key_cmp (index, number) rest ≡ true
+  below_there : (index other : List ℕ) (number : ℕ) (ns : List (ℕ × B)) (rest : List ShareEntry) → by_bytes index other ≡ Less → below_all key_cmp (index, number) rest ≡ true
       → below_all key_cmp (index, number) (entries_at bytes_in other ns ++ rest) ≡ true
   below_there index other number [] rest less h = h
   below_there index other number (n ∷ ns) rest less h =
@@ -57,7 +57,7 @@ module _ {B : Type 0} (bytes_in : B → List ℕ) where
   below_rest index number [] rise = refl
   below_rest index number (e ∷ es) rise = below_there index e.0 number e.1.entries (entries_under bytes_in es) rise.0 (below_rest index number es rise.1)
 
-  sorted_here : (index : List ℕ) (ns : List (ℕ × B)) (rest : List Entry) → IsStrictlySortedBy nat_cmp (keys_of ns) → is_sorted key_cmp rest ≡ true → ((number : ℕ) → below_all key_cmp (index, number) rest ≡ true)
+  sorted_here : (index : List ℕ) (ns : List (ℕ × B)) (rest : List ShareEntry) → IsStrictlySortedBy nat_cmp (keys_of ns) → is_sorted key_cmp rest ≡ true → ((number : ℕ) → below_all key_cmp (index, number) rest ≡ true)
       → is_sorted key_cmp (entries_at bytes_in index ns ++ rest) ≡ true
   sorted_here index [] rest rise h below = h
   sorted_here index (n ∷ ns) rest rise h below =
@@ -78,7 +78,7 @@ module _ {B : Type 0} (bytes_in : B → List ℕ) where
 
   -- ---- what is found
 
-  find_there : (key : ShareKey) (other : List ℕ) (ns : List (ℕ × B)) (rest : List Entry) → is_eq (by_bytes key.0 other) ≡ false → find key_cmp key (entries_at bytes_in other ns ++ rest) ≡ find key_cmp key rest
+  find_there : (key : ShareKey) (other : List ℕ) (ns : List (ℕ × B)) (rest : List ShareEntry) → is_eq (by_bytes key.0 other) ≡ false → find key_cmp key (entries_at bytes_in other ns ++ rest) ≡ find key_cmp key rest
   find_there key other [] rest apart = refl
   find_there key other (n ∷ ns) rest apart =
       ap (λ b. cond b (Some (bytes_in n.1)) (find key_cmp key (entries_at bytes_in other ns ++ rest))) (other_key (by_bytes key.0 other) (nat_cmp key.1 n.0) apart)
@@ -89,7 +89,7 @@ module _ {B : Type 0} (bytes_in : B → List ℕ) where
       other_key Equal p h = cc
       other_key Greater p h = refl
 
-  find_here : (index : List ℕ) (number : ℕ) (ns : List (ℕ × B)) (rest : List Entry) → find key_cmp (index, number) rest ≡ None
+  find_here : (index : List ℕ) (number : ℕ) (ns : List (ℕ × B)) (rest : List ShareEntry) → find key_cmp (index, number) rest ≡ None
       → find key_cmp (index, number) (entries_at bytes_in index ns ++ rest) ≡ option_map bytes_in (lookup (is_at (nat_cmp number)) ns)
   find_here index number [] rest none = none
   find_here index number (n ∷ ns) rest none =
@@ -201,21 +201,21 @@ module _ {B : Type 0} (bytes_in : B → List ℕ) where
   numbers_at None = []
   numbers_at (Some numbers) = tree.keys numbers
 
-  numbers_in : List ℕ → List Entry → List ℕ
-  numbers_in index es = map (λ (e : Entry). e.0.1) (of_index index es)
+  numbers_in : List ℕ → List ShareEntry → List ℕ
+  numbers_in index es = map (λ (e : ShareEntry). e.0.1) (of_index index es)
 
-  numbers_here : (index : List ℕ) (ns : List (ℕ × B)) (rest : List Entry) → numbers_in index rest ≡ [] → numbers_in index (entries_at bytes_in index ns ++ rest) ≡ keys_of ns
+  numbers_here : (index : List ℕ) (ns : List (ℕ × B)) (rest : List ShareEntry) → numbers_in index rest ≡ [] → numbers_in index (entries_at bytes_in index ns ++ rest) ≡ keys_of ns
   unfolding numbers_in
   numbers_here index [] rest none = none
   numbers_here index (n ∷ ns) rest none =
-      ap (λ b. map (λ (e : Entry). e.0.1) (cond b (((index, n.0), bytes_in n.1) ∷ of_index index (entries_at bytes_in index ns ++ rest)) (of_index index (entries_at bytes_in index ns ++ rest)))) (bytes_tie index index ∙ ap is_eq (same_bytes index))
+      ap (λ b. map (λ (e : ShareEntry). e.0.1) (cond b (((index, n.0), bytes_in n.1) ∷ of_index index (entries_at bytes_in index ns ++ rest)) (of_index index (entries_at bytes_in index ns ++ rest)))) (bytes_tie index index ∙ ap is_eq (same_bytes index))
       ∙ ap (λ l. n.0 ∷ l) (numbers_here index ns rest none)
 
-  numbers_there : (index other : List ℕ) (ns : List (ℕ × B)) (rest : List Entry) → is_eq (by_bytes index other) ≡ false → numbers_in index (entries_at bytes_in other ns ++ rest) ≡ numbers_in index rest
+  numbers_there : (index other : List ℕ) (ns : List (ℕ × B)) (rest : List ShareEntry) → is_eq (by_bytes index other) ≡ false → numbers_in index (entries_at bytes_in other ns ++ rest) ≡ numbers_in index rest
   unfolding numbers_in
   numbers_there index other [] rest apart = refl
   numbers_there index other (n ∷ ns) rest apart =
-      ap (λ b. map (λ (e : Entry). e.0.1) (cond b (((other, n.0), bytes_in n.1) ∷ of_index index (entries_at bytes_in other ns ++ rest)) (of_index index (entries_at bytes_in other ns ++ rest)))) (bytes_tie index other ∙ apart)
+      ap (λ b. map (λ (e : ShareEntry). e.0.1) (cond b (((other, n.0), bytes_in n.1) ∷ of_index index (entries_at bytes_in other ns ++ rest)) (of_index index (entries_at bytes_in other ns ++ rest)))) (bytes_tie index other ∙ apart)
       ∙ numbers_there index other ns rest apart
 
   numbers_none : (index : List ℕ) (es : List (List ℕ × Numbers B)) → AllByRecursion (λ y. by_bytes index y ≡ Less) (keys_of es) → numbers_in index (entries_under bytes_in es) ≡ []
@@ -235,9 +235,9 @@ module _ {B : Type 0} (bytes_in : B → List ℕ) where
           ∙ numbers_here e.0 e.1.entries (entries_under bytes_in es) (numbers_none e.0 es (sorted_head by_bytes e.0 (keys_of es) rise))
       by_case false apart later = numbers_there index e.0 e.1.entries (entries_under bytes_in es) apart ∙ later
 
-  pub numbers_are : (indexes : Indexes B) → IsKept indexes → (index : List ℕ) → numbers_of (shares_in bytes_in indexes) index ≡ numbers_at (tree.get by_bytes indexes index)
+  pub numbers_are : (indexes : Indexes B) → IsKept indexes → (index : List ℕ) → numbers_for (shares_in bytes_in indexes) index ≡ numbers_at (tree.get by_bytes indexes index)
   unfolding numbers_in
-  numbers_are indexes kept index = ap (λ es. map (λ (e : Entry). e.0.1) (of_index index es)) (entries_in bytes_in indexes kept) ∙ numbers_under index indexes.entries kept.ordered
+  numbers_are indexes kept index = ap (λ es. map (λ (e : ShareEntry). e.0.1) (of_index index es)) (entries_in bytes_in indexes kept) ∙ numbers_under index indexes.entries kept.ordered
 
   pub empty_in : (indexes : Indexes B) → indexes.entries ≡ [] → shares_in bytes_in indexes ≡ empty
   empty_in indexes none = ap (λ es. from_sorted {R = key_cmp} (entries_under bytes_in es)) none

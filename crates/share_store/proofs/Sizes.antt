@@ -8,17 +8,17 @@ use Rattle.std.specs.declared.cmp.Ordering.{Ordering}
 use Rattle.std.specs.declared.cmp.Ordering.TheVariants.{Less, Equal, Greater}
 use Rattle.std.specs.FinMap.{empty, len-entries, len-empty, find, get, entries, insert, remove, get-entries, entries-insert, get-insert, get-remove, same_map}
 use Rattle.std.specs.FinMap.Entries.{put, by_order}
-use Rattle.share_store.specs.Shares.{Shares, ShareKey, Entry, bytes_in, bytes_of, key_cmp}
+use Rattle.share_store.specs.Shares.{Shares, ShareKey, ShareEntry, bytes_in, bytes_of, key_cmp}
 use Rattle.share_store.specs.Put.{put_once}
 use Rattle.share_store.specs.Toggle.{toggled, bytes_at, has_byte, with_toggle}
 use Rattle.share_store.specs.MapLaws.{key_cmp_total, key_cmp_exact}
 use Rattle.share_store.proofs.Toggling.{length-toggled}
 
-cons : (e : Entry) (es : List Entry) → bytes_in (e ∷ es) ≡ length e.1 + bytes_in es
-cons e es = sum_by-cons (λ (f : Entry). length f.1) e es
+cons : (e : ShareEntry) (es : List ShareEntry) → bytes_in (e ∷ es) ≡ length e.1 + bytes_in es
+cons e es = sum_by-cons (λ (f : ShareEntry). length f.1) e es
 
 -- an entry of a new key adds its bytes
-new_entry : (key : ShareKey) (bytes : List ℕ) (es : List Entry) → find key_cmp key es ≡ None → bytes_in (put key_cmp key bytes es) ≡ bytes_in es + length bytes
+new_entry : (key : ShareKey) (bytes : List ℕ) (es : List ShareEntry) → find key_cmp key es ≡ None → bytes_in (put key_cmp key bytes es) ≡ bytes_in es + length bytes
 new_entry key bytes [] none = omega (arith, cons (key, bytes) [])
 new_entry key bytes (e ∷ es) none = by_case (key_cmp key e.0) none (new_entry key bytes es)
   where
@@ -90,7 +90,7 @@ module _ (m : Shares) (key : ShareKey) where
 pub bytes-empty : bytes_of empty ≡ 0
 bytes-empty = ap bytes_in (nothing (entries {R = key_cmp} empty) (sym (len-entries empty) ∙ len-empty key_cmp (List ℕ)))
   where
-    nothing : (es : List Entry) → length es ≡ 0 → es ≡ []
+    nothing : (es : List ShareEntry) → length es ≡ 0 → es ≡ []
     nothing [] e = refl
     nothing (x ∷ es) e = absurd (omega arith)
 

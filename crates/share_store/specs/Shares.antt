@@ -17,11 +17,11 @@ abbrev pub Shares : Type 0
 Shares = FinMap key_cmp (List ℕ)
 
 -- a key and its bytes
-abbrev pub Entry : Type 0
-Entry = ShareKey × List ℕ
+abbrev pub ShareEntry : Type 0
+ShareEntry = ShareKey × List ℕ
 
 -- how many bytes these shares have together
-abbrev pub bytes_in : List Entry → ℕ
+abbrev pub bytes_in : List ShareEntry → ℕ
 bytes_in es = sum_by (λ e. length e.1) es
 
 abbrev pub bytes_of : Shares → ℕ

@@ -10,10 +10,10 @@ use Rattle.std.specs.declared.ops.Bound.{Bound}
 use Rattle.std.specs.List.Sorted.{IsStrictlySortedBy-prop}
 use Rattle.std.proofs.Props.{props}
 use Rattle.share_store.specs.declared.share.Share.{Share}
-use Rattle.share_store.specs.Shares.{Shares, Entry}
+use Rattle.share_store.specs.Shares.{Shares, ShareEntry}
 
 -- a share as an entry of the map
-abbrev pub entry_of : Share → Entry
+abbrev pub entry_of : Share → ShareEntry
 entry_of share = ((share.index, share.number), rc_slice_items share.bytes)
 
 -- so many bytes, each 0: what stands where only the length of a share is known
@@ -30,11 +30,11 @@ Indexes B = BTreeMap (List ℕ) (Numbers B)
 
 module _ {B : Type 0} (bytes_in : B → List ℕ) where
   -- the shares under one index
-  abbrev pub entries_at : List ℕ → List (ℕ × B) → List Entry
+  abbrev pub entries_at : List ℕ → List (ℕ × B) → List ShareEntry
   entries_at index numbers = map (λ n. ((index, n.0), bytes_in n.1)) numbers
 
   -- the shares under all of them
-  abbrev pub entries_under : List (List ℕ × Numbers B) → List Entry
+  abbrev pub entries_under : List (List ℕ × Numbers B) → List ShareEntry
   entries_under [] = []
   entries_under (e ∷ es) = entries_at e.0 e.1.entries ++ entries_under es
 

@@ -4,7 +4,7 @@ ghost use Rattle.std.specs.Option.{option_map};
 ghost use Rattle.std.specs.FinMap as map;
 ghost use Rattle.std.specs.Rc.{rc_slice_items};
 ghost use Rattle.share_store.specs.Looked.{Looked};
-ghost use Rattle.share_store.specs.Numbers.{numbers_of};
+ghost use Rattle.share_store.specs.Numbers.{numbers_for};
 ghost use Rattle.share_store.specs.Put.{put_once};
 ghost use Rattle.share_store.specs.Stored.{entry_of};
 ghost use Rattle.share_store.specs.Toggle.{has_byte, with_toggle};
@@ -101,7 +101,7 @@ impl Store for FailAt {
             IsOkAnd result (λ numbers. numbers.items ≡ []) }
         ensures found { failed_calls self.new ≡ failed_calls self.old →
             IfOk result (λ numbers. numbers.items
-            ≡ numbers_of (⟦<FailAt as Store>⟧.shares self.old) index) }
+            ≡ numbers_for (⟦<FailAt as Store>⟧.shares self.old) index) }
         ensures called { IsCalledOnce self.old self.new }
     {
         if self.fails() {

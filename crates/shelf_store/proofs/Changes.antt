@@ -4,7 +4,7 @@ use Rattle.std.specs.Prelude.{IsTrue, OnOk}
 use Rattle.std.specs.FinMap.{get}
 use Rattle.share_store.specs.Shares.{Shares, ShareKey}
 use Rattle.share_store.specs.declared.fault.StoreFault.{StoreFault}
-use Rattle.share_shelf.specs.Left.{Keeps, IsEither, LeavesOnly, IsQuiet, IsChanged, MayBeChanged}
+use Rattle.share_shelf.specs.CrashStates.{Keeps, IsEither, LeavesOnly, IsQuiet, IsChanged, MayBeChanged}
 use Rattle.share_shelf.specs.declared.shelf.Shelf.{Ghosts}
 use Rattle.shelf_store.specs.Changed.{PutsBack, CarriesOut}
 use Rattle.shelf_store.specs.Doubt.{InDoubt, in_doubt, as_before}
@@ -117,7 +117,7 @@ module _ {X : Type 0} {g : Ghosts X} where
     earlier : IsTrue (g.honest new) → IsHonest self
     earlier h = subst IsTrue (told.same_honest ∙ told.settled.same_honest) h
 
-    as_known : IsHonest self → sizes_of (known mid.index) ≡ sizes_of (standing self)
+    as_known : IsHonest self → sizes_of (known mid.sizes) ≡ sizes_of (standing self)
     as_known h = mid.in_step.sizes (later h) ∙ ap sizes_of (told.settled.same h)
 
     kept : IsHonest self → Keeps g.moment g.left_since mid.shelf (standing self)
@@ -146,7 +146,7 @@ module _ {X : Type 0} {g : Ghosts X} where
     pub failed_stands : IsHonest self → as_before (Some (key, before)) (g.shares new) ≡ standing self
     failed_stands h = back h (g.shares new) (told.stands (later h))
 
-    pub failed_step : {index : Shares} → index ≡ known mid.index → IsInStep g.moment g.left_since g.honest g.shares (Some (key, before)) new index
+    pub failed_step : {index : Shares} → index ≡ known mid.sizes → IsInStep g.moment g.left_since g.honest g.shares (Some (key, before)) new index
     failed_step same = record {
       sizes = λ h. ap sizes_of same ∙ as_known (earlier h) ∙ ap sizes_of (sym (failed_stands (earlier h)));
       left = λ h c left. back (earlier h) c left ∙ sym (failed_stands (earlier h));
@@ -165,7 +165,7 @@ module _ {X : Type 0} {g : Ghosts X} where
 
     -- it was done
     module _ (done : IsHonest mid → (m : Shares) → Keeps g.moment g.left_since mid.shelf m → Keeps g.moment g.left_since new (change m)) where
-      pub done_step : {index : Shares} → ((m : Shares) → get m key ≡ before → sizes_of (known mid.index) ≡ sizes_of m → sizes_of index ≡ sizes_of (change m)) → IsInStep g.moment g.left_since g.honest g.shares (in_doubt mid.doubt) new index
+      pub done_step : {index : Shares} → ((m : Shares) → get m key ≡ before → sizes_of (known mid.sizes) ≡ sizes_of m → sizes_of index ≡ sizes_of (change m)) → IsInStep g.moment g.left_since g.honest g.shares (in_doubt mid.doubt) new index
       done_step sizes = now_step (change (standing self)) (λ h. done (later h) (standing self) (kept h)) (λ h. sizes (standing self) (told.found h) (as_known h))
 
       pub done_stands : IsHonest self → as_before (in_doubt mid.doubt) (g.shares new) ≡ after
@@ -176,7 +176,7 @@ module _ {X : Type 0} {g : Ghosts X} where
       still_kept : IsHonest self → Keeps g.moment g.left_since new (standing self)
       still_kept h = quiet_keeps g.moment g.left_since mid.shelf new (standing self) quiet (kept h)
 
-      pub quiet_step : {index : Shares} → index ≡ known mid.index → IsInStep g.moment g.left_since g.honest g.shares (in_doubt mid.doubt) new index
+      pub quiet_step : {index : Shares} → index ≡ known mid.sizes → IsInStep g.moment g.left_since g.honest g.shares (in_doubt mid.doubt) new index
       quiet_step same = now_step (standing self) still_kept (λ h. ap sizes_of same ∙ as_known h)
 
       pub quiet_stands : IsHonest self → as_before (in_doubt mid.doubt) (g.shares new) ≡ standing self
@@ -217,7 +217,7 @@ module _ {X : Type 0} {g : Ghosts X} where
     pub back_stands : IsHonest self → as_before (in_doubt self.doubt) (g.shares new) ≡ standing self
     back_stands h = still_known h (g.shares new) (told.stands h)
 
-    pub back_step : IsInStep g.moment g.left_since g.honest g.shares (in_doubt self.doubt) new (known self.index)
+    pub back_step : IsInStep g.moment g.left_since g.honest g.shares (in_doubt self.doubt) new (known self.sizes)
     back_step = record {
       sizes = λ h. let was : IsHonest self = subst IsTrue told.same_honest h in self.in_step.sizes was ∙ ap sizes_of (sym (back_stands was));
       left = λ h c left. let was : IsHonest self = subst IsTrue told.same_honest h in still_known was c left ∙ sym (back_stands was);
@@ -227,7 +227,7 @@ module _ {X : Type 0} {g : Ghosts X} where
     back_keeps h done c left = let each : IsChanged g.moment g.left_since self.shelf change c = done c left in each.2 ∙ told.back each.0 ∙ self.in_step.left h each.0 each.1
 
   -- so it was put back, or tried
-  pub told_back : {self new : ShelfStore X g} {change : Shares → Shares} → IsToldBack self new.shelf change → new.doubt ≡ self.doubt → new.index ≡ self.index
+  pub told_back : {self new : ShelfStore X g} {change : Shares → Shares} → IsToldBack self new.shelf change → new.doubt ≡ self.doubt → new.sizes ≡ self.sizes
       → g.failures self.shelf ≤ g.failures new.shelf → is_some (in_doubt self.doubt) ≡ true → PutsBack self new
   told_back {self} {new} told doubt index rises some = record {
     crash = back_leaves told;
@@ -235,5 +235,5 @@ module _ {X : Type 0} {g : Ghosts X} where
     honest = told.same_honest;
     rises_below = rises;
     failed_in_doubt = λ more. ap (λ (d : Option Doubt). is_some (in_doubt d)) doubt ∙ some;
-    index = index;
+    sizes = index;
   }

@@ -8,7 +8,7 @@ use Rattle.share_shelf.specs.declared.shelf.Shelf.{Ghosts}
 use Rattle.shelf_store.specs.Known.{known, IsAsRoomy}
 use Rattle.shelf_store.specs.Looks.{Lent, CountsOnly, CountsNone, Forgets}
 use Rattle.shelf_store.specs.Standing.{IsHonest}
-use Rattle.shelf_store.specs.declared.index.Index.{Index}
+use Rattle.shelf_store.specs.declared.share_sizes.ShareSizes.{ShareSizes}
 use Rattle.shelf_store.specs.declared.shelf_store.ShelfStore.{ShelfStore}
 use Rattle.shelf_store.proofs.Steps.{at_doubt}
 
@@ -34,24 +34,24 @@ module _ {X : Type 0} {g : Ghosts X} where
 
   -- and then the share is no longer in the index, and nothing is given
   pub forgotten : {self mid new : ShelfStore X g} {key : ShareKey} (r : Result Lent AllocError) → CountsOnly mid new → (IsHonest self → ⊥) → (g.failures self.shelf < g.failures mid.shelf → ⊥) → IfOk r (λ given. given ≡ None)
-      → mid.index ≡ self.index → known new.index ≡ remove (known mid.index) key → IsAsRoomy mid.index new.index → Forgets key r self new
+      → mid.sizes ≡ self.sizes → known new.sizes ≡ remove (known mid.sizes) key → IsAsRoomy mid.sizes new.sizes → Forgets key r self new
   forgotten {self} {mid} {new} {key} r counts not_honest calm none same gone room =
-      let left : known new.index ≡ remove (known self.index) key = gone ∙ ap (λ (i : Index). remove (known i) key) same in
+      let left : known new.sizes ≡ remove (known self.sizes) key = gone ∙ ap (λ (i : ShareSizes). remove (known i) key) same in
       record {
-        forgets = λ calmly. by_case r none (ap (λ (m : Shares). get m key) left ∙ at_doubt key None (known self.index));
+        forgets = λ calmly. by_case r none (ap (λ (m : Shares). get m key) left ∙ at_doubt key None (known self.sizes));
         forgets_only = inr left;
         kept_honest = λ h. absurd (not_honest h);
         kept_failed = λ more. absurd (calm (subst (λ (s : X). g.failures self.shelf < g.failures s) counts.shelf more));
         kept_given = not_given r none;
-        room = room ∙ ap (λ (i : Index). i.room + i.held) same;
+        room = room ∙ ap (λ (i : ShareSizes). i.room + i.held) same;
       }
     where
-      by_case : (q : Result Lent AllocError) → IfOk q (λ given. given ≡ None) → get (known new.index) key ≡ None → IfOk q (λ bytes. IfNone bytes (get (known new.index) key ≡ None))
+      by_case : (q : Result Lent AllocError) → IfOk q (λ given. given ≡ None) → get (known new.sizes) key ≡ None → IfOk q (λ bytes. IfNone bytes (get (known new.sizes) key ≡ None))
       by_case (Ok None) is holds = holds
       by_case (Ok (Some b)) is holds = tt
       by_case (Err e) is holds = tt
 
-      not_given : (q : Result Lent AllocError) → IfOk q (λ given. given ≡ None) → IfOk q (λ bytes. IfSome bytes (λ b. new.index ≡ self.index))
+      not_given : (q : Result Lent AllocError) → IfOk q (λ given. given ≡ None) → IfOk q (λ bytes. IfSome bytes (λ b. new.sizes ≡ self.sizes))
       not_given (Ok None) is = tt
       not_given (Ok (Some b)) is = cc
       not_given (Err e) is = tt

@@ -6,8 +6,8 @@ use Rattle.std.specs.Ordering.{eq_by_cmp}
 use Rattle.std.specs.Cmp.Lexicographic.{pointwise}
 use Rattle.std.specs.FinMap.{get, contains_key, entries, insert, remove, get-insert, get-remove}
 use Rattle.std.proofs.lemmas.Map.Views.{tells_apart}
-use Rattle.share_store.specs.Shares.{Shares, ShareKey, Entry, key_cmp}
-use Rattle.share_store.specs.Numbers.{of_index, numbers_of}
+use Rattle.share_store.specs.Shares.{Shares, ShareKey, ShareEntry, key_cmp}
+use Rattle.share_store.specs.Numbers.{of_index, numbers_for}
 use Rattle.share_store.specs.MapLaws.{key_cmp_total, key_cmp_exact}
 use Rattle.shelf_store.specs.Sizes.{sizes_in, sizes_of}
 use Rattle.shelf_store.specs.SizeLaws.{Size, as_long, sizes_as}
@@ -31,26 +31,26 @@ none_as a b is q none = by_case (get b q) (sym (as_long a b is q) ∙ ap (option
 numbers_sized : List ℕ → List Size → List ℕ
 numbers_sized index ss = map (λ (s : Size). s.0.1) (filter (λ (s : Size). pointwise nat_eq s.0.0 index) ss)
 
-numbers-sizes : (index : List ℕ) (es : List Entry) → map (λ (e : Entry). e.0.1) (of_index index es) ≡ numbers_sized index (sizes_in es)
+numbers-sizes : (index : List ℕ) (es : List ShareEntry) → map (λ (e : ShareEntry). e.0.1) (of_index index es) ≡ numbers_sized index (sizes_in es)
 unfolding numbers_sized
 numbers-sizes index [] = refl
 numbers-sizes index (e ∷ es) = by_case (pointwise nat_eq e.0.0 index) (numbers-sizes index es)
   where
-    by_case : (b : Bool) → map (λ (f : Entry). f.0.1) (of_index index es) ≡ numbers_sized index (sizes_in es)
-        → map (λ (f : Entry). f.0.1) (cond b (e ∷ of_index index es) (of_index index es))
+    by_case : (b : Bool) → map (λ (f : ShareEntry). f.0.1) (of_index index es) ≡ numbers_sized index (sizes_in es)
+        → map (λ (f : ShareEntry). f.0.1) (cond b (e ∷ of_index index es) (of_index index es))
         ≡ map (λ (s : Size). s.0.1) (cond b ((e.0, length e.1) ∷ filter (λ (s : Size). pointwise nat_eq s.0.0 index) (sizes_in es)) (filter (λ (s : Size). pointwise nat_eq s.0.0 index) (sizes_in es)))
     by_case true rest = ap (λ l. e.0.1 ∷ l) rest
     by_case false rest = rest
 
-pub numbers_as : (a b : Shares) → sizes_of a ≡ sizes_of b → (index : List ℕ) → numbers_of a index ≡ numbers_of b index
+pub numbers_as : (a b : Shares) → sizes_of a ≡ sizes_of b → (index : List ℕ) → numbers_for a index ≡ numbers_for b index
 numbers_as a b is index = numbers-sizes index (entries a) ∙ ap (numbers_sized index) is ∙ sym (numbers-sizes index (entries b))
 
-name-sizes : (es : List Entry) (at : ℕ) → option_map (λ (e : Entry). e.0) (slice_get es at) ≡ option_map (λ (s : Size). s.0) (slice_get (sizes_in es) at)
+name-sizes : (es : List ShareEntry) (at : ℕ) → option_map (λ (e : ShareEntry). e.0) (slice_get es at) ≡ option_map (λ (s : Size). s.0) (slice_get (sizes_in es) at)
 name-sizes [] at = refl
 name-sizes (e ∷ es) zero = refl
 name-sizes (e ∷ es) (suc at) = name-sizes es at
 
-pub names_as : (a b : Shares) → sizes_of a ≡ sizes_of b → (at : ℕ) → option_map (λ (e : Entry). e.0) (slice_get (entries a) at) ≡ option_map (λ (e : Entry). e.0) (slice_get (entries b) at)
+pub names_as : (a b : Shares) → sizes_of a ≡ sizes_of b → (at : ℕ) → option_map (λ (e : ShareEntry). e.0) (slice_get (entries a) at) ≡ option_map (λ (e : ShareEntry). e.0) (slice_get (entries b) at)
 names_as a b is at = name-sizes (entries a) at ∙ ap (λ (l : List Size). option_map (λ (s : Size). s.0) (slice_get l at)) is ∙ sym (name-sizes (entries b) at)
 
 -- ---- after a change

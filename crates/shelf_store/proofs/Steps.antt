@@ -12,7 +12,7 @@ use Rattle.share_store.specs.Shares.{Shares, ShareKey, key_cmp}
 use Rattle.share_store.specs.MapLaws.{key_cmp_total, key_cmp_exact}
 use Rattle.share_store.specs.Put.{put_once}
 use Rattle.share_store.specs.Toggle.{toggled, bytes_at, has_byte, with_toggle}
-use Rattle.share_shelf.specs.Left.{Keeps, LeavesOnly, IsQuiet}
+use Rattle.share_shelf.specs.CrashStates.{Keeps, LeavesOnly, IsQuiet}
 use Rattle.shelf_store.specs.Doubt.{InDoubt, as_before}
 use Rattle.share_store.specs.Stored.{blank}
 use Rattle.shelf_store.specs.Sizes.{sizes_of}

@@ -3,7 +3,7 @@ use Rattle.std.specs.Prelude.{◌≡◌, ◌<◌, ◌≤◌, ◌↔◌, Bool, tr
 use Rattle.share_store.specs.Shares.{Shares}
 use Rattle.share_store.specs.declared.fault.StoreFault.{StoreFault}
 use Rattle.share_store.specs.declared.fault.StoreFault.TheVariants.{Down, NoMemory}
-use Rattle.share_shelf.specs.Left.{LeavesOnly}
+use Rattle.share_shelf.specs.CrashStates.{LeavesOnly}
 use Rattle.share_shelf.specs.declared.shelf.Shelf.{Ghosts}
 use Rattle.shelf_store.specs.Doubt.{in_doubt}
 use Rattle.shelf_store.specs.Known.{known, IsAsRoomy}
@@ -20,7 +20,7 @@ module _ {X : Type 0} {g : Ghosts X} where
     pub honest : g.honest new.shelf ≡ g.honest old.shelf
     pub rises_below : g.failures old.shelf ≤ g.failures new.shelf
     pub failed_in_doubt : g.failures old.shelf < g.failures new.shelf → is_some (in_doubt new.doubt) ≡ true
-    pub index : new.index ≡ old.index
+    pub sizes : new.sizes ≡ old.sizes
 
   -- Refused as down exactly where a failure was counted, and not answered where the shelf failed, which is counted.
   pub record TellsCause {A : Type 0} (result : Result A StoreFault) (old new : ShelfStore X g) : Type 0 where
@@ -37,7 +37,7 @@ module _ {X : Type 0} {g : Ghosts X} where
 
   -- What it leaves of the index and of a change in doubt. Where the index says that nothing is asked, all stays as it was.
   pub record Settles (asked : Shares → Bool) (result : Result Bool StoreFault) (old new : ShelfStore X g) : Type 0 where
-    pub room : IsAsRoomy old.index new.index
-    pub comes_up : asked (known old.index) ≡ true → g.failures new.shelf ≡ g.failures old.shelf → (IsErrOf result NoMemory → ⊥) → in_doubt new.doubt ≡ None
+    pub room : IsAsRoomy old.sizes new.sizes
+    pub comes_up : asked (known old.sizes) ≡ true → g.failures new.shelf ≡ g.failures old.shelf → (IsErrOf result NoMemory → ⊥) → in_doubt new.doubt ≡ None
     pub stays_in_doubt : g.failures new.shelf ≡ g.failures old.shelf → is_some (in_doubt new.doubt) ≡ true → new.doubt ≡ old.doubt
-    pub unasked : asked (known old.index) ≡ false → (result ≡ Ok false) × (new ≡ old)
+    pub unasked : asked (known old.sizes) ≡ false → (result ≡ Ok false) × (new ≡ old)

@@ -8,7 +8,7 @@ use Rattle.std.specs.declared.alloc.AllocError.{AllocError}
 use Rattle.std.specs.declared.alloc.Global.{Global}
 use Rattle.share_store.specs.Shares.{ShareKey}
 use Rattle.share_store.specs.Stored.{blank}
-use Rattle.share_shelf.specs.Left.{IsQuiet}
+use Rattle.share_shelf.specs.CrashStates.{IsQuiet}
 use Rattle.share_shelf.specs.declared.shelf.Shelf.{Ghosts}
 use Rattle.shelf_store.specs.Known.{known, IsAsRoomy, ForgetsOnly}
 use Rattle.shelf_store.specs.Standing.{standing, IsHonest}
@@ -51,12 +51,12 @@ module _ {X : Type 0} {g : Ghosts X} where
 
   -- What the shelf gave not, though it didn't fail, leaves the index, and nothing else does.
   pub record Forgets (key : ShareKey) (result : Result Lent AllocError) (old new : ShelfStore X g) : Type 0 where
-    pub forgets : g.failures new.shelf ≡ g.failures old.shelf → IfOk result (λ bytes. IfNone bytes (get (known new.index) key ≡ None))
-    pub forgets_only : ForgetsOnly key old.index new.index
-    pub kept_honest : IsHonest old → new.index ≡ old.index
-    pub kept_failed : g.failures old.shelf < g.failures new.shelf → new.index ≡ old.index
-    pub kept_given : IfOk result (λ bytes. IfSome bytes (λ b. new.index ≡ old.index))
-    pub room : IsAsRoomy old.index new.index
+    pub forgets : g.failures new.shelf ≡ g.failures old.shelf → IfOk result (λ bytes. IfNone bytes (get (known new.sizes) key ≡ None))
+    pub forgets_only : ForgetsOnly key old.sizes new.sizes
+    pub kept_honest : IsHonest old → new.sizes ≡ old.sizes
+    pub kept_failed : g.failures old.shelf < g.failures new.shelf → new.sizes ≡ old.sizes
+    pub kept_given : IfOk result (λ bytes. IfSome bytes (λ b. new.sizes ≡ old.sizes))
+    pub room : IsAsRoomy old.sizes new.sizes
 
   -- the bytes of a share, as they stand
   abbrev pub GivesStored : ShareKey → Result Lent AllocError → ShelfStore X g → Type 0
@@ -64,8 +64,8 @@ module _ {X : Type 0} {g : Ghosts X} where
 
   -- A look at a share, beside what each store says of one.
   pub record LooksAt (key : ShareKey) (result : Result Lent AllocError) (old new : ShelfStore X g) : Type 0 where
-    pub sized : IfOk result (λ bytes. IfSome bytes (λ b. get (known old.index) key ≡ Some (blank (length (rc_slice_items b)))))
-    pub absent : get (known old.index) key ≡ None → (result ≡ Ok None) × (new ≡ old)
+    pub sized : IfOk result (λ bytes. IfSome bytes (λ b. get (known old.sizes) key ≡ Some (blank (length (rc_slice_items b)))))
+    pub absent : get (known old.sizes) key ≡ None → (result ≡ Ok None) × (new ≡ old)
     pub failing : CountsNone result old new
     pub reads : ReadsOnly old new
     pub index : Forgets key result old new

@@ -3,7 +3,7 @@ use Rattle.std.specs.Prelude.{◌≡◌, ◌<◌, ◌↔◌, ℕ, ◌+◌, [], S
 use Rattle.std.specs.FinMap.{get}
 use Rattle.share_store.specs.Shares.{Shares, ShareKey, bytes_of}
 use Rattle.share_store.specs.declared.fault.StoreFault.TheVariants.{Full, Down}
-use Rattle.share_shelf.specs.Left.{Keeps}
+use Rattle.share_shelf.specs.CrashStates.{Keeps}
 use Rattle.share_shelf.specs.declared.fault.ShelfFault.TheVariants.{Failed}
 use Rattle.share_shelf.specs.declared.open_fault.OpenFault.{OpenFault}
 use Rattle.share_shelf.specs.declared.open_fault.OpenFault.TheVariants.{Empty, Shelf as ShelfRefused, Store as StoreRefused}
@@ -28,7 +28,7 @@ module _ {X : Type 0} (g : Ghosts X) where
   pub record IsShelfOpened (bytes : ℕ) (shelf : X) (store : ShelfStore X g) : Type 0 where
     pub up : in_doubt store.doubt ≡ None
     pub none_failed : store.failures ≡ 0
-    pub room : store.index.room + store.index.held ≡ bytes
+    pub room : store.sizes.room + store.sizes.held ≡ bytes
     pub read : IsOnlyRead g shelf store.shelf
     pub shares : OfKept shelf (λ m. standing store ≡ m)
 

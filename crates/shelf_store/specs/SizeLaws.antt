@@ -5,7 +5,7 @@ use Rattle.std.specs.Option.{option_map}
 use Rattle.std.specs.Ordering.{eq_by_cmp, is_lt}
 use Rattle.std.specs.FinMap.{find, get, entries, entries_sorted, from_sorted, entries-from_sorted, get-from_sorted, is_sorted, get-entries, same_map}
 use Rattle.std.specs.FinMap.Entries.{below_all}
-use Rattle.share_store.specs.Shares.{Shares, ShareKey, Entry, bytes_of, key_cmp}
+use Rattle.share_store.specs.Shares.{Shares, ShareKey, ShareEntry, bytes_of, key_cmp}
 use Rattle.share_store.specs.MapLaws.{key_cmp_total, key_cmp_exact}
 use Rattle.share_store.proofs.Stands.{NoneEmpty, all_from_found, found_from_all}
 use Rattle.shelf_store.specs.Sizes.{sizes_in, sizes_of}
@@ -16,7 +16,7 @@ Size = ShareKey × ℕ
 
 -- ---- what is found
 
-find-sizes : (q : ShareKey) (es : List Entry) → find key_cmp q (sizes_in es) ≡ option_map length (find key_cmp q es)
+find-sizes : (q : ShareKey) (es : List ShareEntry) → find key_cmp q (sizes_in es) ≡ option_map length (find key_cmp q es)
 find-sizes q [] = refl
 find-sizes q (e ∷ es) = by_case (eq_by_cmp key_cmp q e.0) (find-sizes q es)
   where
@@ -24,11 +24,11 @@ find-sizes q (e ∷ es) = by_case (eq_by_cmp key_cmp q e.0) (find-sizes q es)
     by_case true rest = refl
     by_case false rest = rest
 
-below-sizes : (x : ShareKey) (es : List Entry) → below_all key_cmp x (sizes_in es) ≡ below_all key_cmp x es
+below-sizes : (x : ShareKey) (es : List ShareEntry) → below_all key_cmp x (sizes_in es) ≡ below_all key_cmp x es
 below-sizes x [] = refl
 below-sizes x (e ∷ es) = ap (λ b. is_lt (key_cmp x e.0) && b) (below-sizes x es)
 
-sorted-sizes : (es : List Entry) → is_sorted key_cmp (sizes_in es) ≡ is_sorted key_cmp es
+sorted-sizes : (es : List ShareEntry) → is_sorted key_cmp (sizes_in es) ≡ is_sorted key_cmp es
 sorted-sizes [] = refl
 sorted-sizes (e ∷ es) = ap (λ b. b && is_sorted key_cmp (sizes_in es)) (below-sizes e.0 es) ∙ ap (λ b. below_all key_cmp e.0 es && b) (sorted-sizes es)
 
@@ -53,7 +53,7 @@ sizes_as a b long =
 
 -- ---- how many bytes they have
 
-sum-sizes : (z : ℕ) (es : List Entry) → fold (λ a (e : Entry). a + length e.1) z es ≡ fold (λ a (s : Size). a + s.1) z (sizes_in es)
+sum-sizes : (z : ℕ) (es : List ShareEntry) → fold (λ a (e : ShareEntry). a + length e.1) z es ≡ fold (λ a (s : Size). a + s.1) z (sizes_in es)
 sum-sizes z [] = refl
 sum-sizes z (e ∷ es) = sum-sizes (z + length e.1) es
 

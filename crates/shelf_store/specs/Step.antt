@@ -3,7 +3,7 @@ use Rattle.std.specs.Prelude.{◌≡◌, ◌⊎◌, ℕ, Bool, List, IsTrue}
 use Rattle.std.specs.Coded.{Coded-set, coded×, coded_ℕ, coded_list}
 use Rattle.std.proofs.Props.{props}
 use Rattle.share_store.specs.Shares.{Shares, ShareKey}
-use Rattle.share_shelf.specs.Left.{IsEither, LeavesOnly, shares-set}
+use Rattle.share_shelf.specs.CrashStates.{IsEither, LeavesOnly, shares-set}
 use Rattle.shelf_store.specs.Sizes.{sizes_of}
 use Rattle.shelf_store.specs.Doubt.{InDoubt, as_before}
 

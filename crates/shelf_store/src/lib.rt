@@ -5,7 +5,7 @@
 #![tactic(auto)]
 
 // Which shares stand, how long each is, and how much room is left.
-mod index;
+mod share_sizes;
 // A change that a shelf may have done or not.
 mod doubt;
 // The store.

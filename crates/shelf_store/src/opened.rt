@@ -6,7 +6,7 @@ ghost use Rattle.std.specs.Rc.{rc_slice_items};
 ghost use Rattle.share_store.specs.Put.{put_once};
 ghost use Rattle.share_store.specs.Shares.{Shares, ShareKey, bytes_of};
 ghost use Rattle.share_store.specs.Stored.{blank};
-ghost use Rattle.share_shelf.specs.Left.{Keeps};
+ghost use Rattle.share_shelf.specs.CrashStates.{Keeps};
 ghost use Rattle.share_shelf.specs.declared.open_fault.OpenFault.TheVariants.{Shelf as ShelfRefused, Store as StoreRefused};
 ghost use Rattle.share_shelf.specs.declared.fault.ShelfFault.{ShelfFault};
 ghost use Rattle.shelf_store.specs.Known.{known, IsAsRoomy};
@@ -14,7 +14,7 @@ ghost use Rattle.shelf_store.specs.Opened.{OfKept, ReadsFor, IsShelfOpened, IsOp
 ghost use Rattle.shelf_store.specs.Sizes.{sizes_of};
 
 use crate::ShelfStore;
-use crate::index::Index;
+use crate::share_sizes::ShareSizes;
 use share_shelf::{OpenFault, Shelf, ShelfFault};
 use share_store::{Store, StoreFault};
 use std::alloc::Global;
@@ -23,7 +23,7 @@ use std::rc::RcSlice;
 /// Takes into the index what a shelf gave of a share that it lists, by its length: nothing where it gave nothing, and
 /// nothing more where the share is there already.
 fn take_given(
-    taken: &mut Index,
+    taken: &mut ShareSizes,
     index: [u8; 16],
     number: u16,
     given: &Option<RcSlice<u8>>,
@@ -57,7 +57,7 @@ fn take_given(
 /// what it lists twice is taken once.
 fn take_in<H: Shelf>(
     shelf: &mut H,
-    taken: &mut Index,
+    taken: &mut ShareSizes,
     index: [u8; 16],
     number: u16,
 ) -> Result<(), OpenFault>
@@ -77,7 +77,7 @@ fn take_in<H: Shelf>(
 }
 
 /// The lengths of all shares of a shelf that it lists and gives, with room for so many bytes, these among them.
-fn take_all<H: Shelf>(alloc: Global, shelf: &mut H, room: u64) -> Result<Index, OpenFault>
+fn take_all<H: Shelf>(alloc: Global, shelf: &mut H, room: u64) -> Result<ShareSizes, OpenFault>
     ensures read { ReadsFor H.Shelf result shelf.old shelf.new }
     ensures room { IfOk result (λ taken. taken.room + taken.held ≡ room) }
     ensures sizes { OfKept H.Shelf shelf.old (λ m.
@@ -87,7 +87,7 @@ fn take_all<H: Shelf>(alloc: Global, shelf: &mut H, room: u64) -> Result<Index, 
     ensures full { IsErrOf result (StoreRefused StoreFault.Full) →
         OfKept H.Shelf shelf.old (λ m. room < bytes_of m) }
 {
-    let mut taken = Index::new(alloc, room);
+    let mut taken = ShareSizes::new(alloc, room);
     let names = shelf.list(alloc)?;
     for name in &names {
         take_in(shelf, &mut taken, name.0, name.1)?;
@@ -112,9 +112,9 @@ impl<H: Shelf + Drop> ShelfStore<H> {
     {
         let mut shelf = shelf;
         match take_all(alloc, &mut shelf, room) {
-            Ok(index) => Ok(ShelfStore {
+            Ok(sizes) => Ok(ShelfStore {
                 alloc,
-                index,
+                sizes,
                 shelf,
                 doubt: None,
                 failures: 0,

@@ -5,18 +5,18 @@ ghost use Rattle.std.specs.FinMap as map;
 ghost use Rattle.std.specs.Rc.{rc_slice_items};
 ghost use Rattle.share_store.specs.MapLaws.{held_fits};
 ghost use Rattle.share_store.specs.Looked.{Looked};
-ghost use Rattle.share_store.specs.Numbers.{numbers_of};
+ghost use Rattle.share_store.specs.Numbers.{numbers_for};
 ghost use Rattle.share_store.specs.Put.{put_once};
 ghost use Rattle.share_store.specs.Stored.{blank, entry_of};
 ghost use Rattle.share_store.specs.Toggle.{has_byte, with_toggle};
-ghost use Rattle.share_shelf.specs.Left.{Keeps};
+ghost use Rattle.share_shelf.specs.CrashStates.{Keeps};
 ghost use Rattle.shelf_store.specs.Doubt.{in_doubt, as_before};
 ghost use Rattle.shelf_store.specs.Known.{known, held_as, IsAsRoomy};
 ghost use Rattle.shelf_store.specs.SizeLaws.{some_as};
 ghost use Rattle.shelf_store.specs.Step.{IsInStep, IsInStep-prop};
 
 use crate::doubt::Doubt;
-use crate::index::Index;
+use crate::share_sizes::ShareSizes;
 use share_shelf::{Shelf, ShelfFault};
 use share_store::laws::toggle_laws;
 use share_store::{Share, Store, StoreFault, with_bit_changed};
@@ -32,13 +32,13 @@ use std::rc::RcSlice;
 #[derive(Drop)]
 pub struct ShelfStore<H: Shelf> {
     pub(crate) alloc: Global,
-    pub(crate) index: Index,
+    pub(crate) sizes: ShareSizes,
     pub(crate) shelf: H,
     pub(crate) doubt: Option<Doubt>,
     pub(crate) failures: u64,
     ghost in_step: { IsInStep H.moment H.left_since H.honest H.shares (in_doubt doubt) shelf
-        (known index) } by { IsInStep-prop H.moment H.left_since H.honest H.shares
-            (in_doubt doubt) shelf (known index) },
+        (known sizes) } by { IsInStep-prop H.moment H.left_since H.honest H.shares
+            (in_doubt doubt) shelf (known sizes) },
 }
 
 impl<H: Shelf> ShelfStore<H> {
@@ -51,7 +51,7 @@ impl<H: Shelf> ShelfStore<H> {
     pub fn shelf(&self) -> &H
         ensures shelf { result.now ≡ self.now.shelf }
         ensures in_step { IsInStep H.moment H.left_since H.honest H.shares
-            (in_doubt self.now.doubt) result.now (known self.now.index) }
+            (in_doubt self.now.doubt) result.now (known self.now.sizes) }
     {
         &self.shelf
     }
@@ -62,7 +62,7 @@ impl<H: Shelf> ShelfStore<H> {
         ensures counted { OnOk result (self.new.failures ≡ self.old.failures + 1) }
         ensures same { OnErr result (self.new.failures ≡ self.old.failures) }
         ensures counts { CountsOnly self.old self.new }
-        ensures index { self.new.index ≡ self.old.index }
+        ensures sizes { self.new.sizes ≡ self.old.sizes }
     {
         if self.failures == u64::MAX {
             return Err(AllocError);
@@ -76,7 +76,7 @@ impl<H: Shelf> ShelfStore<H> {
         ensures down { (result ≡ StoreFault.Down) ↔ (self.old.failures < self.new.failures) }
         ensures not_full { result ≡ StoreFault.Full → ⊥ }
         ensures counts { CountsOnly self.old self.new }
-        ensures index { self.new.index ≡ self.old.index }
+        ensures sizes { self.new.sizes ≡ self.old.sizes }
     {
         match self.count() {
             Ok(()) => StoreFault::Down,
@@ -94,7 +94,7 @@ impl<H: Shelf> ShelfStore<H> {
         ensures failed { IsErrOf result ShelfFault.Failed ↔
             (H.failures self.old.shelf < H.failures self.new.shelf) }
         ensures reads { ReadsOnly self.old self.new }
-        ensures index { self.new.index ≡ self.old.index }
+        ensures sizes { self.new.sizes ≡ self.old.sizes }
         ensures failures { self.new.failures ≡ self.old.failures }
     {
         if let Some(doubt) = &self.doubt {
@@ -115,14 +115,14 @@ impl<H: Shelf> ShelfStore<H> {
     /// failure. An honest shelf gives each.
     fn forget(&mut self, index: &[u8; 16], number: u16) -> Result<(), AllocError>
         requires { IsHonest self.old → ⊥ }
-        ensures gone { known self.new.index
-            ≡ map.remove (known self.old.index) (index.now, number) }
-        ensures room { IsAsRoomy self.old.index self.new.index }
+        ensures gone { known self.new.sizes
+            ≡ map.remove (known self.old.sizes) (index.now, number) }
+        ensures room { IsAsRoomy self.old.sizes self.new.sizes }
         ensures counted { OnOk result (self.new.failures ≡ self.old.failures + 1) }
         ensures same { OnErr result (self.new.failures ≡ self.old.failures) }
         ensures counts { CountsOnly self.old self.new }
     {
-        self.index.remove(index, number);
+        self.sizes.remove(index, number);
         self.count()
     }
 
@@ -134,7 +134,7 @@ impl<H: Shelf> ShelfStore<H> {
         number: u16,
         size: u64,
     ) -> Result<Option<RcSlice<u8>>, AllocError>
-        requires { map.get (known self.old.index) (index, number) ≡ Some (blank size) }
+        requires { map.get (known self.old.sizes) (index, number) ≡ Some (blank size) }
         ensures given { IsHonest self.old → self.new.failures ≡ self.old.failures →
             GivesStored (index, number) result self.old }
         ensures sized { IfOk result (λ bytes.
@@ -178,7 +178,7 @@ impl<H: Shelf> ShelfStore<H> {
             GivesStored (index, number) result self.old }
         ensures looks { LooksAt (index, number) result self.old self.new }
     {
-        match self.index.get(&index, number) {
+        match self.sizes.get(&index, number) {
             None => Ok(None),
             Some(size) => self.whole(index, number, size),
         }
@@ -234,7 +234,7 @@ impl<H: Shelf> ShelfStore<H> {
     ///
     /// Refused with `Full` where it is longer than the room, with `Down` where the shelf failed, after which a change is
     /// in doubt, and with `NoMemory` where there was no memory or a failure could not be counted.
-    pub fn keep(
+    pub fn put_share(
         &mut self,
         index: [u8; 16],
         number: u16,
@@ -242,8 +242,8 @@ impl<H: Shelf> ShelfStore<H> {
     ) -> Result<bool, StoreFault>
         requires { 0 < length (rc_slice_items bytes) }
         ensures full { IsErrOf result StoreFault.Full →
-            (self.old.index.room < length (rc_slice_items bytes))
-            × (self.new.index.room ≡ self.old.index.room) }
+            (self.old.sizes.room < length (rc_slice_items bytes))
+            × (self.new.sizes.room ≡ self.old.sizes.room) }
         ensures full_only { IsErrOf result StoreFault.Full → IsHonest self.old →
             map.get (standing self.old) (index, number) ≡ None }
         ensures done { CarriesOut (λ m. not (map.contains_key m (index, number)))
@@ -256,20 +256,20 @@ impl<H: Shelf> ShelfStore<H> {
         ensures down_only { H.failures self.new.shelf ≡ H.failures self.old.shelf →
             IsErrOf result StoreFault.Down → ⊥ }
     {
-        if self.index.get(&index, number).is_some() {
+        if self.sizes.get(&index, number).is_some() {
             return Ok(false);
         }
         self.settle()?;
         let size = bytes.len() as u64;
-        self.index.put(index, number, size)?;
+        self.sizes.put(index, number, size)?;
         match self.shelf.put(index, number, bytes) {
             Ok(()) => Ok(true),
             Err(ShelfFault::NoMemory) => {
-                self.index.remove(&index, number);
+                self.sizes.remove(&index, number);
                 Err(StoreFault::NoMemory)
             }
             Err(ShelfFault::Failed) => {
-                self.index.remove(&index, number);
+                self.sizes.remove(&index, number);
                 self.doubt = Some(Doubt {
                     index,
                     number,
@@ -286,7 +286,7 @@ impl<H: Shelf> ShelfStore<H> {
     ///
     /// Refused with `Down` where the shelf failed, after which a change is in doubt unless it failed in the read, and with
     /// `NoMemory` where there was no memory or a failure could not be counted.
-    pub fn give_up(&mut self, index: [u8; 16], number: u16) -> Result<bool, StoreFault>
+    pub fn lose_share(&mut self, index: [u8; 16], number: u16) -> Result<bool, StoreFault>
         ensures not_full { IsErrOf result StoreFault.Full → ⊥ }
         ensures done { CarriesOut (λ m. map.contains_key m (index, number))
             (λ m. map.remove m (index, number)) result self.old self.new }
@@ -296,7 +296,7 @@ impl<H: Shelf> ShelfStore<H> {
         ensures down_only { H.failures self.new.shelf ≡ H.failures self.old.shelf →
             IsErrOf result StoreFault.Down → ⊥ }
     {
-        if self.index.get(&index, number).is_none() {
+        if self.sizes.get(&index, number).is_none() {
             return Ok(false);
         }
         self.settle()?;
@@ -307,7 +307,7 @@ impl<H: Shelf> ShelfStore<H> {
         };
         match self.shelf.remove(index, number) {
             Ok(()) => {
-                self.index.remove(&index, number);
+                self.sizes.remove(&index, number);
                 Ok(true)
             }
             Err(ShelfFault::NoMemory) => Err(StoreFault::NoMemory),
@@ -327,7 +327,7 @@ impl<H: Shelf> ShelfStore<H> {
     /// then the shelf isn't asked. Else a change in doubt is settled first.
     ///
     /// Refused as a loss is, and with `Down` also where the shelf gave not as many bytes as the index has.
-    pub fn alter(&mut self, index: [u8; 16], number: u16, place: u64) -> Result<bool, StoreFault>
+    pub fn flip_bit(&mut self, index: [u8; 16], number: u16, place: u64) -> Result<bool, StoreFault>
         ensures not_full { IsErrOf result StoreFault.Full → ⊥ }
         ensures done { CarriesOut (λ m. has_byte m (index, number) place)
             (λ m. with_toggle m (index, number) place) result self.old self.new }
@@ -339,7 +339,7 @@ impl<H: Shelf> ShelfStore<H> {
             IsErrOf result StoreFault.Down → ⊥ }
     {
         toggle_laws();
-        let Some(size) = self.index.get(&index, number) else {
+        let Some(size) = self.sizes.get(&index, number) else {
             return Ok(false);
         };
         if place >= size {
@@ -372,9 +372,9 @@ impl<H: Shelf> Store for ShelfStore<H> {
 
     ghost shares = { λ store. as_before (in_doubt store.doubt) (H.shares store.shelf) };
 
-    ghost room = { λ store. store.index.room };
+    ghost room = { λ store. store.sizes.room };
 
-    ghost held = { λ store. store.index.held };
+    ghost held = { λ store. store.sizes.held };
 
     ghost failures = { λ store. store.failures };
 
@@ -387,10 +387,10 @@ impl<H: Shelf> Store for ShelfStore<H> {
             IfOk result (λ found. found
             ≡ map.contains_key (⟦<ShelfStore<H> as Store>⟧.shares self.old) (index, number)) }
         ensures known { result
-            ≡ Ok (map.contains_key (known self.old.index) (index, number)) }
+            ≡ Ok (map.contains_key (known self.old.sizes) (index, number)) }
         ensures same { self.new ≡ self.old }
     {
-        Ok(self.index.get(&index, number).is_some())
+        Ok(self.sizes.get(&index, number).is_some())
     }
 
     /// The numbers that the index has.
@@ -401,12 +401,12 @@ impl<H: Shelf> Store for ShelfStore<H> {
             IsOkAnd result (λ numbers. numbers.items ≡ []) }
         ensures found { IsTrue (H.honest self.old.shelf) → self.new.failures ≡ self.old.failures →
             IfOk result (λ numbers. numbers.items
-            ≡ numbers_of (⟦<ShelfStore<H> as Store>⟧.shares self.old) index) }
+            ≡ numbers_for (⟦<ShelfStore<H> as Store>⟧.shares self.old) index) }
         ensures known { IfOk result (λ numbers. numbers.items
-            ≡ numbers_of (known self.old.index) index) }
+            ≡ numbers_for (known self.old.sizes) index) }
         ensures same { self.new ≡ self.old }
     {
-        self.index.lengths.numbers(&index)
+        self.sizes.lengths.numbers(&index)
     }
 
     /// As [`ShelfStore::look`] says.
@@ -431,11 +431,11 @@ impl<H: Shelf> Store for ShelfStore<H> {
             IfOk result (λ share. option_map entry_of share
             ≡ slice_get (map.entries (⟦<ShelfStore<H> as Store>⟧.shares self.old)) at) }
         ensures known { IfOk result (λ share. IfSome share (λ s.
-            option_map (λ e. e.0) (slice_get (map.entries (known self.old.index)) at)
+            option_map (λ e. e.0) (slice_get (map.entries (known self.old.sizes)) at)
             ≡ Some (s.index, s.number))) }
         ensures failing { CountsNone result self.old self.new }
     {
-        let Some(name) = self.index.lengths.nth(at) else {
+        let Some(name) = self.sizes.lengths.nth(at) else {
             return Ok(None);
         };
         let index = name.0;
@@ -456,35 +456,35 @@ impl<H: Shelf> Store for ShelfStore<H> {
         number: u16,
         bytes: RcSlice<u8>,
     ) -> Result<bool, StoreFault> {
-        self.keep(index, number, bytes)
+        self.put_share(index, number, bytes)
     }
 
     fn lose(&mut self, index: [u8; 16], number: u16) -> Result<bool, StoreFault> {
-        self.give_up(index, number)
+        self.lose_share(index, number)
     }
 
     fn toggle(&mut self, index: [u8; 16], number: u16, place: u64) -> Result<bool, StoreFault> {
-        self.alter(index, number, place)
+        self.flip_bit(index, number, place)
     }
 
     fn room(&self) -> u64 {
-        self.index.room
+        self.sizes.room
     }
 
     fn held(&self) -> u64 {
-        self.index.held
+        self.sizes.held
     }
 
     fn failures(&self) -> u64 {
         self.failures
     }
 
-    ghost held_is = { λ store honest. held_as store.index
+    ghost held_is = { λ store honest. held_as store.sizes
         (as_before (in_doubt store.doubt) (H.shares store.shelf)) (store.in_step.sizes honest) };
 
-    ghost fits = { λ store honest. held_fits store.index.room store.index.held store.index.fits };
+    ghost fits = { λ store honest. held_fits store.sizes.room store.sizes.held store.sizes.fits };
 
-    ghost none_empty = { λ store honest. some_as (known store.index)
+    ghost none_empty = { λ store honest. some_as (known store.sizes)
         (as_before (in_doubt store.doubt) (H.shares store.shelf)) (store.in_step.sizes honest)
-        store.index.some };
+        store.sizes.some };
 }

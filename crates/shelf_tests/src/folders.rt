@@ -3,7 +3,8 @@ use crate::shelf_calls::calls;
 use case_lines::{Case, NoAnswer, debug, done, fixed};
 use failures::{opens, puts};
 use folder_shelf::{
-    FileShelf, FolderShelf, Settings, name_of, read_name, read_settings, seal_of, settings_text,
+    FileShelf, FolderShelf, StoreSettings, name_of, read_name, read_settings, seal_of,
+    settings_text,
 };
 use mem_files::MemFiles;
 use std::alloc::Global;
@@ -32,13 +33,13 @@ fn index_from(first: u8) -> [u8; 16] {
 }
 
 /// The settings that stand from a place on: the server's place, three numbers of the grid, and the secret.
-fn settings_at(alloc: Global, case: &Case<'_>, at: usize) -> Result<Settings, NoAnswer> {
+fn settings_at(alloc: Global, case: &Case<'_>, at: usize) -> Result<StoreSettings, NoAnswer> {
     let place = case.small(at)?;
     let servers = case.small(at.saturating_add(1))?;
     let needed = case.small(at.saturating_add(2))?;
     let made = case.small(at.saturating_add(3))?;
     let secret = case.bytes(alloc, at.saturating_add(4))?;
-    Ok(Settings::new(place, servers, needed, made, &secret))
+    Ok(StoreSettings::new(place, servers, needed, made, &secret))
 }
 
 /// The answer to a case of a folder, or of what stands in one.

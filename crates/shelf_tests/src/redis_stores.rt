@@ -2,7 +2,7 @@
 use crate::store_calls::call;
 use crate::texts::add;
 use case_lines::{Case, NoAnswer, debug, done, fixed};
-use folder_shelf::Settings;
+use folder_shelf::StoreSettings;
 use octets::Bytes;
 use redis_store::{RedisStore, Server, check_grid, grid_text, read_grid};
 use std::alloc::{AllocError, Global};
@@ -22,20 +22,20 @@ fn server(alloc: Global, password: Vec<u8>) -> Result<Server, AllocError> {
     };
     Ok(Server {
         grid: Bytes::from_slice(alloc, b"g:")?,
-        settings: Settings::new(1, 2, 2, 3, b"secret"),
+        settings: StoreSettings::new(1, 2, 2, 3, b"secret"),
         password,
         longest: 6,
     })
 }
 
 /// The settings that stand from a place on: the server's place, three numbers of the grid, and the secret.
-fn settings_at(alloc: Global, case: &Case<'_>, at: usize) -> Result<Settings, NoAnswer> {
+fn settings_at(alloc: Global, case: &Case<'_>, at: usize) -> Result<StoreSettings, NoAnswer> {
     let place = case.small(at)?;
     let servers = case.small(at.saturating_add(1))?;
     let needed = case.small(at.saturating_add(2))?;
     let made = case.small(at.saturating_add(3))?;
     let secret = case.bytes(alloc, at.saturating_add(4))?;
-    Ok(Settings::new(place, servers, needed, made, &secret))
+    Ok(StoreSettings::new(place, servers, needed, made, &secret))
 }
 
 /// A store on a server of a case: how many bytes it gives at once and the password stand at places 2 and 3, and its

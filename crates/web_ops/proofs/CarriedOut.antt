@@ -13,7 +13,7 @@ use Rattle.grid.specs.GridState.{GridState, stood, maps_of, room_at, failures_at
 use Rattle.grid.specs.Leaves.{Leaves, IsUnchanged}
 use Rattle.grid.specs.NewBytes.{HasRoom}
 use Rattle.grid.specs.declared.fault.GridFault.TheVariants.{Full, Down}
-use Rattle.grid.specs.Changed.{ArePut, StopsAt}
+use Rattle.grid.specs.Changed.{ArePut, PutStopsAt}
 use Rattle.chk_file.specs.AllStand.{AllStand}
 use Rattle.chk_file.specs.Look.{Look}
 use Rattle.chk_file.specs.Marks.{shown}
@@ -30,9 +30,9 @@ use Rattle.web_ops.specs.Encoding.{Encoding, upload_of}
 use Rattle.web_ops.specs.Uploads.{if_long, as_directory, made_upload, upload_in}
 use Rattle.web_ops.specs.Replies.{cap_reply, bad_children, store_full, store_down}
 use Rattle.web_ops.specs.Answers.{made_reply}
-use Rattle.web_ops.specs.Replied.{IsStored, IsMade}
-use Rattle.web_ops.specs.Changes.{TellsOfUpload, IsBegun, IsBegunIn, TellsOf}
-use Rattle.web_ops.specs.Calls.{IsFound, IsCarriedOut, IsRequest, IsPerformed}
+use Rattle.web_ops.specs.Replied.{IsPutReply, IsMade}
+use Rattle.web_ops.specs.Changes.{TellsOfUpload, IsUploadBegun, IsBegunIn, TellsOf}
+use Rattle.web_ops.specs.Calls.{IsFound, IsCarriedOut, IsRequestCall, IsPerformed}
 use Rattle.grid.proofs.Histories.{tells_none}
 use Rattle.grid.proofs.Standing.{placed_none}
 use Rattle.grid.proofs.Turns.{leaves_none, unchanged_none}
@@ -93,14 +93,14 @@ cap_tells u cap x old new is all = record {
   down = λ e. absurd (cap_is_no_fault cap x is (ap (λ r. r.status) e));
 }
 
-pub full_tells : (u : Upload) (server : ℕ) (x : Reply) (old new : GridState) → x ≡ store_full → StopsAt (index u) (shares_of u) old new (Full server) → TellsOf u x old new
+pub full_tells : (u : Upload) (server : ℕ) (x : Reply) (old new : GridState) → x ≡ store_full → PutStopsAt (index u) (shares_of u) old new (Full server) → TellsOf u x old new
 full_tells u server x old new is stops = record {
   all_stand = λ honest ok. absurd (fault_is_no_cap x (ap (λ r. r.status) is) ok);
   full = λ e. (server, stops);
   down = λ e. absurd (full_is_not_down (sym is ∙ e));
 }
 
-pub down_tells : (u : Upload) (server : ℕ) (x : Reply) (old new : GridState) → x ≡ store_down → StopsAt (index u) (shares_of u) old new (Down server)
+pub down_tells : (u : Upload) (server : ℕ) (x : Reply) (old new : GridState) → x ≡ store_down → PutStopsAt (index u) (shares_of u) old new (Down server)
     → failures_at old server < failures_at new server → TellsOf u x old new
 down_tells u server x old new is stops failed = record {
   all_stand = λ honest ok. absurd (fault_is_no_cap x (ap (λ r. r.status) is) ok);
@@ -114,7 +114,7 @@ module _ (u : Upload) (cap : Cap) (r : Result Reply AllocError) (old new : GridS
       → (55 < length u.bytes → IsHonest old → ArePut (index u) (shares_of u) old new)
       → (55 < length u.bytes → IsHonest old → AllStand u old new)
       → (IsHonest old → (w : World) → stood old ≡ shown w.marks → stood new ≡ shown (after_upload (length old.stores) u w).marks)
-      → IsCarriedOut ⊤ (cond b (Some u) None) (IsStored cap) (λ look. cap_reply cap) r old new
+      → IsCarriedOut ⊤ (cond b (Some u) None) (IsPutReply cap) (λ look. cap_reply cap) r old new
   stored_by true many few is tells put all stand = record {
     leaves = leaves;
     fits = IfOk-weaker r _ _ (λ x e. inl e) is;
@@ -147,14 +147,14 @@ module _ (u : Upload) (cap : Cap) (r : Result Reply AllocError) (old new : GridS
       → (55 < length u.bytes → IsHonest old → ArePut (index u) (shares_of u) old new)
       → (55 < length u.bytes → IsHonest old → AllStand u old new)
       → (IsHonest old → (w : World) → stood old ≡ shown w.marks → stood new ≡ shown (after_upload (length old.stores) u w).marks)
-      → IsCarriedOut ⊤ (if_long u) (IsStored cap) (λ look. cap_reply cap) r old new
+      → IsCarriedOut ⊤ (if_long u) (IsPutReply cap) (λ look. cap_reply cap) r old new
   stored is tells put all stand = stored_by (nat_lt 55 (length u.bytes)) (long (length u.bytes)) (short (length u.bytes)) is tells put all stand
 
-  stopped_by : (b : Bool) → (b ≡ true → 55 < length u.bytes) → (b ≡ false → length u.bytes ≤ 55) → IfOk r (IsStored cap)
+  stopped_by : (b : Bool) → (b ≡ true → 55 < length u.bytes) → (b ≡ false → length u.bytes ≤ 55) → IfOk r (IsPutReply cap)
       → IfOk r (λ x. TellsOf u x old new)
-      → (IsHonest old → IsBegun u old new)
+      → (IsHonest old → IsUploadBegun u old new)
       → (IsHonest old → HasRoom old (index u) (shares_of u) → NoneFailed old new → OnOk r ⊥) → (length u.bytes ≤ 55 → OnOk r ⊥)
-      → IsCarriedOut ⊤ (cond b (Some u) None) (IsStored cap) (λ look. cap_reply cap) r old new
+      → IsCarriedOut ⊤ (cond b (Some u) None) (IsPutReply cap) (λ look. cap_reply cap) r old new
   stopped_by true many few fits tells begun never_long never_short = record {
     leaves = leaves;
     fits = fits;
@@ -177,11 +177,11 @@ module _ (u : Upload) (cap : Cap) (r : Result Reply AllocError) (old new : GridS
   }
 
   -- the upload was stopped: not where there is room and no store fails, nor where it is short
-  pub stopped : IfOk r (IsStored cap)
+  pub stopped : IfOk r (IsPutReply cap)
       → IfOk r (λ x. TellsOf u x old new)
-      → (IsHonest old → IsBegun u old new)
+      → (IsHonest old → IsUploadBegun u old new)
       → (IsHonest old → HasRoom old (index u) (shares_of u) → NoneFailed old new → OnOk r ⊥) → (length u.bytes ≤ 55 → OnOk r ⊥)
-      → IsCarriedOut ⊤ (if_long u) (IsStored cap) (λ look. cap_reply cap) r old new
+      → IsCarriedOut ⊤ (if_long u) (IsPutReply cap) (λ look. cap_reply cap) r old new
   stopped fits tells begun never_long never_short = stopped_by (nat_lt 55 (length u.bytes)) (long (length u.bytes)) (short (length u.bytes)) fits tells begun never_long never_short
 
 -- numbers of eight bits are bytes
@@ -204,8 +204,8 @@ none_of (Some x) r fault iff is = let that = (iff x).0 refl in cc
 -- ---- requests
 
 pub same_request : (Fresh : Type 0) (e : Encoding) (request asked : Request) (r : Result Reply AllocError) (old new : GridState) → asked ≡ request
-    → IsRequest Fresh e request r old new → IsRequest Fresh e asked r old new
-same_request Fresh e request asked r old new is done = subst (λ q. IsRequest Fresh e q r old new) (sym is) done
+    → IsRequestCall Fresh e request r old new → IsRequestCall Fresh e asked r old new
+same_request Fresh e request asked r old new is done = subst (λ q. IsRequestCall Fresh e q r old new) (sym is) done
 
 plus_none : (n : ℕ) → n + 0 ≡ n
 plus_none n = omega arith
@@ -239,11 +239,11 @@ refused_before P e request (Err fault) g refused = not_begun e request fault g
 -- ---- directories
 
 pub directory_stored : (e : Encoding) (json items : List ℕ) (entries : List Entry) (r : Result Reply AllocError) (old new : GridState) → made json ≡ Some entries → items ≡ directory_text entries
-    → IsCarriedOut ⊤ (if_long (upload_of e items)) (IsStored (as_directory (upload_cap (upload_of e items)))) (λ look. cap_reply (as_directory (upload_cap (upload_of e items)))) r old new
+    → IsCarriedOut ⊤ (if_long (upload_of e items)) (IsPutReply (as_directory (upload_cap (upload_of e items)))) (λ look. cap_reply (as_directory (upload_cap (upload_of e items)))) r old new
     → IsPerformed e (Mkdir json) r old new
 directory_stored e json items entries r old new some text done =
     subst (λ o. IsCarriedOut ⊤ (made_upload e o) (IsMade e o) (λ look. made_reply e o) r old new) (sym some)
-    (subst (λ t. IsCarriedOut ⊤ (if_long (upload_of e t)) (IsStored (as_directory (upload_cap (upload_of e t)))) (λ look. cap_reply (as_directory (upload_cap (upload_of e t)))) r old new) text done)
+    (subst (λ t. IsCarriedOut ⊤ (if_long (upload_of e t)) (IsPutReply (as_directory (upload_cap (upload_of e t)))) (λ look. cap_reply (as_directory (upload_cap (upload_of e t)))) r old new) text done)
 
 pub no_directory : (e : Encoding) (json : List ℕ) (r : Result Reply AllocError) (g : GridState) → made json ≡ None → IfOk r (λ x. x ≡ bad_children)
     → IsPerformed e (Mkdir json) r g g

@@ -14,9 +14,9 @@ use Rattle.chk_file.specs.Bound.{Bound}
 use Rattle.chk_file.specs.Check.{HealthValue, check}
 use Rattle.chk_file.specs.Fit.{fit}
 use Rattle.chk_file.specs.Look.{Look, look_in}
-use Rattle.chk_file.specs.Row.{row_of}
+use Rattle.chk_file.specs.Row.{table_of}
 use Rattle.path_walk.specs.Walk.{walked}
-use Rattle.path_walk.specs.Way.{Leads, Stops}
+use Rattle.path_walk.specs.Way.{NamesLeadTo, WalkStops}
 use Rattle.path_walk.specs.declared.fault.WalkFault.{WalkFault}
 use Rattle.path_walk.specs.declared.fault.WalkFault.TheVariants.{NoMemory}
 use Rattle.web_ops.specs.declared.reply.Reply.{Reply}
@@ -46,7 +46,7 @@ refused Fresh Fits says e old new leaves same = record { leaves = leaves; unchan
 
 pub read_found : (Fresh : Type 0) (f : List ℕ → Reply) (fields : ReadValue) (bytes : List ℕ) (r : Result Reply AllocError) (old new : GridState)
     → IfOk r (λ x. x ≡ f bytes) → Leaves old new → (IsHonest old → IsUnchanged old new) → Bound fields bytes
-    → (Fresh → IsHonest old → NoneFailed old new → fit (row_of (stood old) (index_of fields.key)) fields ≡ Some bytes)
+    → (Fresh → IsHonest old → NoneFailed old new → fit (table_of (stood old) (index_of fields.key)) fields ≡ Some bytes)
     → IsFound Fresh (MayGive f fields) (λ look. with_bytes f (look.gives fields)) r old new
 read_found Fresh f fields bytes r old new is leaves same bound found = record {
   leaves = leaves;
@@ -57,7 +57,7 @@ read_found Fresh f fields bytes r old new is leaves same bound found = record {
 
 pub read_missing : (Fresh : Type 0) (f : List ℕ → Reply) (fields : ReadValue) (r : Result Reply AllocError) (old new : GridState)
     → IfOk r (λ x. x ≡ not_enough_shares) → Leaves old new → (IsHonest old → IsUnchanged old new)
-    → (IsHonest old → NoneFailed old new → fit (row_of (stood old) (index_of fields.key)) fields ≡ None)
+    → (IsHonest old → NoneFailed old new → fit (table_of (stood old) (index_of fields.key)) fields ≡ None)
     → IsFound Fresh (MayGive f fields) (λ look. with_bytes f (look.gives fields)) r old new
 read_missing Fresh f fields r old new is leaves same found = record {
   leaves = leaves;
@@ -69,7 +69,7 @@ read_missing Fresh f fields r old new is leaves same found = record {
 -- ---- walks
 
 pub walked_to : (Fresh Still : Type 0) (Is : Cap → Reply → Type 0) (says : Look → Cap → Reply) (cap : Cap) (names : List (List ℕ)) (end : Cap) (r : Result Reply AllocError) (old mid new : GridState)
-    → Leaves old mid → (IsHonest old → IsUnchanged old mid) → (Fresh → Still) → Leads cap names end
+    → Leaves old mid → (IsHonest old → IsUnchanged old mid) → (Fresh → Still) → NamesLeadTo cap names end
     → (Fresh → IsHonest old → NoneFailed old mid → walked (look_in (stood old)).gives cap names ≡ Ok end)
     → IsFound Still (Is end) (λ look. says look end) r mid new
     → IsFound Fresh (IsAtEnd Is cap names) (λ look. at_end (says look) (walked look.gives cap names)) r old new
@@ -84,7 +84,7 @@ walked_to Fresh Still Is says cap names end r old mid new leaves same stays lead
 }
 
 pub walk_stopped : (Fresh : Type 0) (Is : Cap → Reply → Type 0) (says : Look → Cap → Reply) (cap : Cap) (names : List (List ℕ)) (fault : WalkFault) (r : Result Reply AllocError) (old new : GridState)
-    → Leaves old new → (IsHonest old → IsUnchanged old new) → (fault ≢ NoMemory → Stops cap names fault)
+    → Leaves old new → (IsHonest old → IsUnchanged old new) → (fault ≢ NoMemory → WalkStops cap names fault)
     → (Fresh → IsHonest old → NoneFailed old new → fault ≢ NoMemory → walked (look_in (stood old)).gives cap names ≡ Err fault)
     → IfOk r (λ x. (fault ≢ NoMemory) × (x ≡ walk_reply fault))
     → IsFound Fresh (IsAtEnd Is cap names) (λ look. at_end (says look) (walked look.gives cap names)) r old new
@@ -114,7 +114,7 @@ from_somewhere Fresh false Is says cap names r old new e found = found
 pub checked : (Fresh : Type 0) (mapped : Bool) (o : Option VerifyCap) (v : VerifyCap) (verify : Bool) (health : HealthValue) (r : Result Reply AllocError) (old new : GridState)
     → o ≡ Some v → IfOk r (λ x. x ≡ json_reply (health_text mapped v.fields.si health)) → Leaves old new → (IsHonest old → IsUnchanged old new)
     → (health.needed ≡ v.fields.k) × (health.expected ≡ v.fields.n)
-    → (IsHonest old → NoneFailed old new → health ≡ check v.fields verify (row_of (stood old) v.fields.si))
+    → (IsHonest old → NoneFailed old new → health ≡ check v.fields verify (table_of (stood old) v.fields.si))
     → IsFound Fresh (IsHealth mapped o) (λ look. checked_reply mapped look verify o) r old new
 checked Fresh mapped o v verify health r old new some is leaves same numbers found =
     subst (λ p. IsFound Fresh (IsHealth mapped p) (λ look. checked_reply mapped look verify p) r old new) (sym some) (record {

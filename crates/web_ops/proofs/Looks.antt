@@ -9,8 +9,8 @@ use Rattle.caps.specs.Weakening.{verify_fields}
 use Rattle.chk_file.specs.Row.{ShareTable}
 use Rattle.chk_file.specs.Check.{check}
 use Rattle.chk_file.specs.Look.{Look}
-use Rattle.path_walk.specs.Walk.{Gives, walked, met as met_on_walk}
-use Rattle.path_walk.specs.Agree.{AgreesAt as GivesAgreeAt, AgreeOn as GivesAgreeOn}
+use Rattle.path_walk.specs.Walk.{FileLookup, walked, met as met_on_walk}
+use Rattle.path_walk.specs.Agree.{GivesSameAt as GivesAgreeAt, GiveSameOn as GivesAgreeOn}
 use Rattle.path_walk.specs.declared.fault.WalkFault.{WalkFault}
 use Rattle.web_request.specs.declared.request.Request.{Request}
 use Rattle.web_request.specs.declared.request.Request.TheVariants.{Put, Mkdir, Get, Check}
@@ -76,9 +76,9 @@ same_end f g (Err fault) same = refl
 
 -- ---- requests
 
-module _ (walks : (gives other : Gives) (cap : Cap) (names : List (List ℕ)) → GivesAgreeOn gives other (met_on_walk gives cap names) → walked gives cap names ≡ walked other cap names)
-    (meets : (gives other : Gives) (cap : Cap) (names : List (List ℕ)) → GivesAgreeOn gives other (met_on_walk gives cap names) → met_on_walk gives cap names ≡ met_on_walk other cap names)
-    (ends : (gives : Gives) (cap : Cap) (names : List (List ℕ)) (end : Cap) → walked gives cap names ≡ Ok end → Contains (met_on_walk gives cap names) end) where
+module _ (walks : (gives other : FileLookup) (cap : Cap) (names : List (List ℕ)) → GivesAgreeOn gives other (met_on_walk gives cap names) → walked gives cap names ≡ walked other cap names)
+    (meets : (gives other : FileLookup) (cap : Cap) (names : List (List ℕ)) → GivesAgreeOn gives other (met_on_walk gives cap names) → met_on_walk gives cap names ≡ met_on_walk other cap names)
+    (ends : (gives : FileLookup) (cap : Cap) (names : List (List ℕ)) (end : Cap) → walked gives cap names ≡ Ok end → Contains (met_on_walk gives cap names) end) where
   -- walks by both looks end alike, and what is answered at the end is the same
   same_walk : (look other : Look) (f g : Cap → Reply) (cap : Cap) (names : List (List ℕ)) → ((end : Cap) → AgreesAt look other end → f end ≡ g end)
       → AgreeOn look other (met_on_walk look.gives cap names) → at_end f (walked look.gives cap names) ≡ at_end g (walked other.gives cap names)

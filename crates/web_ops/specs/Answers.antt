@@ -11,7 +11,7 @@ use Rattle.dir_codec.specs.Children.{made}
 use Rattle.chk_file.specs.Upload.{upload_cap}
 use Rattle.chk_file.specs.Check.{HealthValue, check}
 use Rattle.chk_file.specs.Look.{Look}
-use Rattle.path_walk.specs.Walk.{Gives, walked}
+use Rattle.path_walk.specs.Walk.{FileLookup, walked}
 use Rattle.path_walk.specs.declared.fault.WalkFault.{WalkFault}
 use Rattle.path_walk.specs.declared.fault.WalkFault.TheVariants.{NoChild, NotDirectory, NotEnoughShares, NoMemory}
 use Rattle.json_view.specs.Nodes.{file_text, dir_text}
@@ -45,7 +45,7 @@ with_bytes f None = not_enough_shares
 with_bytes f (Some bytes) = f bytes
 
 -- the bytes of a file; of a directory nothing is looked at
-abbrev pub content_reply : Gives → Option (List ℕ) → Cap → Reply
+abbrev pub content_reply : FileLookup → Option (List ℕ) → Cap → Reply
 content_reply gives range (Chk fields) = with_bytes (bytes_reply (Some (verify_fields fields)) range) (gives fields)
 content_reply gives range (Lit bytes) = bytes_reply None range bytes
 content_reply gives range (DirChk fields) = is_directory
@@ -62,7 +62,7 @@ abbrev pub listing_reply : Cap → List ℕ → Reply
 listing_reply cap bytes = children_reply cap (children bytes)
 
 -- the JSON of a file, of which nothing is looked at, or of a directory
-abbrev pub node_json_reply : Gives → Cap → Reply
+abbrev pub node_json_reply : FileLookup → Cap → Reply
 node_json_reply gives (Chk fields) = json_reply (file_text (Chk fields))
 node_json_reply gives (Lit bytes) = json_reply (file_text (Lit bytes))
 node_json_reply gives (DirChk fields) = with_bytes (listing_reply (DirChk fields)) (gives fields)
@@ -70,7 +70,7 @@ node_json_reply gives (DirLit bytes) = listing_reply (DirLit bytes) bytes
 node_json_reply gives (ChkVerify fields) = not_readable
 node_json_reply gives (DirChkVerify fields) = not_readable
 
-abbrev pub node_reply : Gives → Bool → Option (List ℕ) → Cap → Reply
+abbrev pub node_reply : FileLookup → Bool → Option (List ℕ) → Cap → Reply
 node_reply gives true range cap = node_json_reply gives cap
 node_reply gives false range cap = content_reply gives range cap
 
@@ -80,7 +80,7 @@ range_to_apply true range = None
 range_to_apply false range = range
 
 -- a verify cap gives no bytes and leads nowhere
-abbrev pub get_reply : Gives → Cap → List (List ℕ) → Bool → Option (List ℕ) → Reply
+abbrev pub get_reply : FileLookup → Cap → List (List ℕ) → Bool → Option (List ℕ) → Reply
 get_reply gives cap names json range =
     if is_verify_cap cap then not_readable else at_end (node_reply gives json range) (walked gives cap names)
 

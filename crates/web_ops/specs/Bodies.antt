@@ -3,7 +3,7 @@ use Rattle.std.specs.Prelude.{ℕ, List}
 use Rattle.web_ops.specs.declared.body.Source.{Source}
 use Rattle.web_ops.specs.declared.body.Source.TheVariants.{Bytes, Part, Shared}
 
-abbrev pub bytes_of : Source → List ℕ
-bytes_of (Bytes bytes) = bytes
-bytes_of (Part part) = part
-bytes_of (Shared bytes) = bytes
+abbrev pub body_bytes : Source → List ℕ
+body_bytes (Bytes bytes) = bytes
+body_bytes (Part part) = part
+body_bytes (Shared bytes) = bytes

@@ -34,9 +34,9 @@ pub record IsCarriedOut (Fresh : Type 0) (upload : Option Upload) (Fits : Reply 
   pub world : IsHonest old → HasRoomFor old upload → NoneFailed old new → OnOk result (Follows upload old new)
 
 -- a request
-abbrev pub IsRequest : Type 0 → Encoding → Request → Result Reply AllocError → GridState → GridState → Type 0
-IsRequest Fresh e request result old new = IsCarriedOut Fresh (upload_in e request) (IsReply e request) (λ look. request_reply e look request) result old new
+abbrev pub IsRequestCall : Type 0 → Encoding → Request → Result Reply AllocError → GridState → GridState → Type 0
+IsRequestCall Fresh e request result old new = IsCarriedOut Fresh (upload_in e request) (IsReply e request) (λ look. request_reply e look request) result old new
 
 -- a request that reads no file
 abbrev pub IsPerformed : Encoding → Request → Result Reply AllocError → GridState → GridState → Type 0
-IsPerformed e request result old new = IsRequest ⊤ e request result old new
+IsPerformed e request result old new = IsRequestCall ⊤ e request result old new

@@ -4,7 +4,7 @@ use Rattle.grid.specs.declared.fault.GridFault.TheVariants.{Full, Down}
 use Rattle.grid.specs.GridState.{GridState, stood, failures_at, IsHonest}
 use Rattle.grid.specs.Leaves.{IsUnchanged}
 use Rattle.grid.specs.NewBytes.{HasRoom}
-use Rattle.grid.specs.Changed.{ArePut, StopsAt}
+use Rattle.grid.specs.Changed.{ArePut, PutStopsAt}
 use Rattle.grid.specs.Histories.{TellsOfChange}
 use Rattle.grid.specs.Placement.{placed}
 use Rattle.chk_file.specs.AllStand.{AllStand}
@@ -31,7 +31,7 @@ abbrev pub TellsOfUpload : Upload → GridState → GridState → Type 0
 TellsOfUpload u old new = TellsOfChange (placed (length old.stores) (index u) (shares_of u) (stood old)) old new
 
 -- the first of them, in the order of their numbers, and a crash on the way leaves no other
-pub record IsBegun (u : Upload) (old new : GridState) : Type 0 where
+pub record IsUploadBegun (u : Upload) (old new : GridState) : Type 0 where
   pub servers : length new.stores ≡ length old.stores
   pub m : ℕ
   pub put : ArePut (index u) (take m (shares_of u)) old new
@@ -40,7 +40,7 @@ pub record IsBegun (u : Upload) (old new : GridState) : Type 0 where
 -- the same, if there is an upload
 abbrev pub IsBegunIn : Option Upload → GridState → GridState → Type 0
 IsBegunIn None old new = IsUnchanged old new
-IsBegunIn (Some u) old new = IsBegun u old new
+IsBegunIn (Some u) old new = IsUploadBegun u old new
 
 -- whatever world stood, the one after what was stored stands
 abbrev pub Follows : Option Upload → GridState → GridState → Type 0
@@ -48,14 +48,14 @@ Follows o old new = (w : World) → stood old ≡ shown w.marks → stood new �
 
 -- a store failed in an upload, which stopped there
 pub record IsDownAt (u : Upload) (old new : GridState) (server : ℕ) : Type 0 where
-  pub stops : StopsAt (index u) (shares_of u) old new (Down server)
+  pub stops : PutStopsAt (index u) (shares_of u) old new (Down server)
   pub failed : failures_at old server < failures_at new server
 
 -- What the reply to an upload tells of the stores. 200: over honest ones, however full or failing, a share of each number
 -- stands at its server. `store full`: a store had no room for a share of which none stood there. `store down`: one failed.
 pub record TellsOf (u : Upload) (reply : Reply) (old new : GridState) : Type 0 where
   pub all_stand : IsHonest old → reply.status ≡ status.Ok → AllStand u old new
-  pub full : reply ≡ store_full → (server : ℕ) × StopsAt (index u) (shares_of u) old new (Full server)
+  pub full : reply ≡ store_full → (server : ℕ) × PutStopsAt (index u) (shares_of u) old new (Full server)
   pub down : reply ≡ store_down → (server : ℕ) × IsDownAt u old new server
 
 -- the same, if there is an upload

@@ -10,7 +10,7 @@ use Rattle.dir_codec.specs.Children.{made}
 use Rattle.chk_file.specs.Bound.{Bound}
 use Rattle.chk_file.specs.Check.{HealthValue}
 use Rattle.chk_file.specs.Upload.{upload_cap}
-use Rattle.path_walk.specs.Way.{Leads, Stops}
+use Rattle.path_walk.specs.Way.{NamesLeadTo, WalkStops}
 use Rattle.path_walk.specs.declared.fault.WalkFault.{WalkFault}
 use Rattle.json_view.specs.Nodes.{file_text}
 use Rattle.json_view.specs.Checks.{literal_check_text}
@@ -26,12 +26,12 @@ use Rattle.web_ops.specs.Answers.{walk_reply, listing_reply, health_text, range_
 -- ---- uploads
 
 -- the upload's cap, or that a store was full or down
-abbrev pub IsStored : Cap → Reply → Type 0
-IsStored cap reply = (reply ≡ cap_reply cap) ⊎ ((reply ≡ store_full) ⊎ (reply ≡ store_down))
+abbrev pub IsPutReply : Cap → Reply → Type 0
+IsPutReply cap reply = (reply ≡ cap_reply cap) ⊎ ((reply ≡ store_full) ⊎ (reply ≡ store_down))
 
 abbrev pub IsMade : Encoding → Option (List Entry) → Reply → Type 0
 IsMade e None reply = reply ≡ bad_children
-IsMade e (Some entries) reply = IsStored (directory_cap e entries) reply
+IsMade e (Some entries) reply = IsPutReply (directory_cap e entries) reply
 
 -- ---- GET and HEAD
 
@@ -69,7 +69,7 @@ IsNode false range cap reply = IsContent range cap reply
 -- bytes that are bound to the cap that led there, or stand in it.
 abbrev pub IsAtEnd : (Cap → Reply → Type 0) → Cap → List (List ℕ) → Reply → Type 0
 IsAtEnd Is cap names reply =
-    ((end : Cap) × (Leads cap names end × Is end reply)) ⊎ ((fault : WalkFault) × (Stops cap names fault × (reply ≡ walk_reply fault)))
+    ((end : Cap) × (NamesLeadTo cap names end × Is end reply)) ⊎ ((fault : WalkFault) × (WalkStops cap names fault × (reply ≡ walk_reply fault)))
 
 -- where the cap leads nowhere
 abbrev pub IsAnsweredFrom : Bool → (Cap → Reply → Type 0) → Cap → List (List ℕ) → Reply → Type 0
@@ -92,7 +92,7 @@ IsHealth mapped (Some v) reply = IsHealthOf mapped v.fields reply
 -- ---- requests
 
 abbrev pub IsReply : Encoding → Request → Reply → Type 0
-IsReply e (Put bytes) reply = IsStored (upload_cap (upload_of e bytes)) reply
+IsReply e (Put bytes) reply = IsPutReply (upload_cap (upload_of e bytes)) reply
 IsReply e (Mkdir json) reply = IsMade e (made json) reply
 IsReply e (Get cap names json head_only range) reply = IsAnsweredFrom (is_verify_cap cap) (IsNode json (range_to_apply head_only range)) cap names reply
 IsReply e (Check cap names verify) reply =

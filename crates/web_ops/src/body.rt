@@ -28,11 +28,11 @@ pub struct Body {
 
 impl Model for Body {
     ghost use Rattle.std.specs.Prelude.{List, ℕ};
-    ghost use Rattle.web_ops.specs.Bodies.{bytes_of};
+    ghost use Rattle.web_ops.specs.Bodies.{body_bytes};
 
     ghost Value = { List ℕ };
 
-    ghost view = { λ b. bytes_of b.source };
+    ghost view = { λ b. body_bytes b.source };
 }
 
 impl Body {

@@ -1,7 +1,7 @@
 //! Checks of what a path leads to.
 ghost use Rattle.std.specs.Prelude.{◌≡◌, IfOk, ⊤, ◌==◌, ◌&&◌, not, length};
 ghost use Rattle.grid.specs.Stamped.{IsStamped};
-ghost use Rattle.chk_file.specs.Cached.{IsFresh};
+ghost use Rattle.chk_file.specs.Cached.{IsCacheCurrent};
 ghost use Rattle.caps.specs.Weakening.{weakened};
 ghost use Rattle.caps.specs.Kinds.{is_verify_cap};
 ghost use Rattle.web_ops.specs.Answers.{health_text, health_reply, check_reply};
@@ -30,8 +30,8 @@ pub fn check<S: Store>(
     verify: bool,
     mapped: bool,
 ) -> Result<Reply, AllocError>
-    ensures fresh { IsFresh cache.old grid.old → IsFresh cache.new grid.new }
-    ensures found { IsFound (IsFresh cache.old grid.old)
+    ensures fresh { IsCacheCurrent cache.old grid.old → IsCacheCurrent cache.new grid.new }
+    ensures found { IsFound (IsCacheCurrent cache.old grid.old)
         (IsAnsweredFrom (is_verify_cap cap.now && not (length names.now == 0))
         (λ end. IsHealth mapped (weakened end)) cap.now names.now)
         (λ look. check_reply mapped look cap.now names.now verify) result grid.old grid.new }

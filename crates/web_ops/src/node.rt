@@ -1,6 +1,6 @@
 //! The bytes and the JSON of what a path leads to.
 ghost use Rattle.std.specs.Prelude.{◌≡◌, ◌≢◌, ◌↔◌, IfOk, IsTrue, Some};
-ghost use Rattle.chk_file.specs.Cached.{IsFresh};
+ghost use Rattle.chk_file.specs.Cached.{IsCacheCurrent};
 ghost use Rattle.path_walk.specs.declared.fault.WalkFault.TheVariants.{NoMemory};
 ghost use Rattle.caps.specs.Kinds.{is_verify_cap};
 ghost use Rattle.caps.specs.Weakening.{verify_fields};
@@ -31,8 +31,8 @@ pub fn get<S: Store>(
     json: bool,
     range: Option<Bytes>,
 ) -> Result<Reply, AllocError>
-    ensures fresh { IsFresh cache.old grid.old → IsFresh cache.new grid.new }
-    ensures found { IsFound (IsFresh cache.old grid.old)
+    ensures fresh { IsCacheCurrent cache.old grid.old → IsCacheCurrent cache.new grid.new }
+    ensures found { IsFound (IsCacheCurrent cache.old grid.old)
         (IsAnsweredFrom (is_verify_cap cap.now) (IsNode json range) cap.now names.now)
         (λ look. get_reply look.gives cap.now names.now json range) result grid.old grid.new }
 {
@@ -67,8 +67,8 @@ fn node<S: Store>(
     json: bool,
     range: Option<Bytes>,
 ) -> Result<Reply, AllocError>
-    ensures fresh { IsFresh cache.old grid.old → IsFresh cache.new grid.new }
-    ensures found { IsFound (IsFresh cache.old grid.old) (IsNode json range cap)
+    ensures fresh { IsCacheCurrent cache.old grid.old → IsCacheCurrent cache.new grid.new }
+    ensures found { IsFound (IsCacheCurrent cache.old grid.old) (IsNode json range cap)
         (λ look. node_reply look.gives json range cap) result grid.old grid.new }
 {
     if json {
@@ -86,8 +86,8 @@ fn content<S: Store>(
     cap: Cap,
     range: Option<Bytes>,
 ) -> Result<Reply, AllocError>
-    ensures fresh { IsFresh cache.old grid.old → IsFresh cache.new grid.new }
-    ensures found { IsFound (IsFresh cache.old grid.old) (IsContent range cap)
+    ensures fresh { IsCacheCurrent cache.old grid.old → IsCacheCurrent cache.new grid.new }
+    ensures found { IsFound (IsCacheCurrent cache.old grid.old) (IsContent range cap)
         (λ look. content_reply look.gives range cap) result grid.old grid.new }
 {
     chk_file::laws::bound_bytes_have_the_size();
@@ -124,8 +124,8 @@ fn node_json<S: Store>(
     cache: &mut Cache,
     cap: &Cap,
 ) -> Result<Reply, AllocError>
-    ensures fresh { IsFresh cache.old grid.old → IsFresh cache.new grid.new }
-    ensures found { IsFound (IsFresh cache.old grid.old) (IsNodeJson cap.now)
+    ensures fresh { IsCacheCurrent cache.old grid.old → IsCacheCurrent cache.new grid.new }
+    ensures found { IsFound (IsCacheCurrent cache.old grid.old) (IsNodeJson cap.now)
         (λ look. node_json_reply look.gives cap.now) result grid.old grid.new }
 {
     match cap {

@@ -4,7 +4,7 @@ ghost use Rattle.erasure.specs.Code.{AreBytes};
 ghost use Rattle.octets.specs.Sharing.{IsSharing};
 ghost use Rattle.grid.specs.GridState.{stood, IsHonest, NoneFailed};
 ghost use Rattle.grid.specs.Leaves.{Leaves};
-ghost use Rattle.chk_file.specs.Cached.{IsFresh};
+ghost use Rattle.chk_file.specs.Cached.{IsCacheCurrent};
 ghost use Rattle.chk_file.specs.Look.{look_in};
 ghost use Rattle.web_ops.specs.Encoding.{encoding_of, mapping};
 ghost use Rattle.web_ops.specs.Uploads.{upload_in};
@@ -42,7 +42,7 @@ pub fn perform<S: Store>(
     ensures leaves { Leaves grid.old grid.new }
 
     // What is kept of files that were read stays as good as it was.
-    ensures fresh { IsFresh cache.old grid.old → IsFresh cache.new grid.new }
+    ensures fresh { IsCacheCurrent cache.old grid.old → IsCacheCurrent cache.new grid.new }
 
     // Of any stores: bytes of a stored file or directory are bound to the cap that the names lead to.
     ensures fits { IfOk result (λ reply. IsReply (encoding_of k n secret.now) request reply) }
@@ -61,7 +61,7 @@ pub fn perform<S: Store>(
 
     // Of honest stores that have room for what is stored and don't fail in the call.
     ensures written { let e = encoding_of k n secret.now in
-        IsFresh cache.old grid.old → IsHonest grid.old →
+        IsCacheCurrent cache.old grid.old → IsHonest grid.old →
         HasRoomFor grid.old (upload_in e request) →
         NoneFailed grid.old grid.new → IfOk result (λ reply.
         reply ≡ request_reply e (look_in (stood grid.old)) request) }
@@ -92,7 +92,7 @@ pub fn perform_mapped<S: Store>(
     ensures leaves { Leaves grid.old grid.new }
 
     // What is kept of files that were read stays as good as it was.
-    ensures fresh { IsFresh cache.old grid.old → IsFresh cache.new grid.new }
+    ensures fresh { IsCacheCurrent cache.old grid.old → IsCacheCurrent cache.new grid.new }
 
     // Of any stores: bytes of a stored file or directory are bound to the cap that the names lead to.
     ensures fits { IfOk result (λ reply. IsReply (mapping mapped (encoding_of k n secret.now)) request reply) }
@@ -111,7 +111,7 @@ pub fn perform_mapped<S: Store>(
 
     // Of honest stores that have room for what is stored and don't fail in the call.
     ensures written { let e = mapping mapped (encoding_of k n secret.now) in
-        IsFresh cache.old grid.old → IsHonest grid.old →
+        IsCacheCurrent cache.old grid.old → IsHonest grid.old →
         HasRoomFor grid.old (upload_in e request) →
         NoneFailed grid.old grid.new → IfOk result (λ reply.
         reply ≡ request_reply e (look_in (stood grid.old)) request) }

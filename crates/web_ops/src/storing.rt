@@ -8,7 +8,7 @@ ghost use Rattle.web_request.specs.declared.request.Request.TheVariants.{Put, Mk
 ghost use Rattle.web_ops.specs.Encoding.{encoding_of};
 ghost use Rattle.web_ops.specs.Uploads.{as_directory, if_long};
 ghost use Rattle.web_ops.specs.Replies.{cap_reply};
-ghost use Rattle.web_ops.specs.Replied.{IsStored};
+ghost use Rattle.web_ops.specs.Replied.{IsPutReply};
 ghost use Rattle.web_ops.specs.Calls.{IsCarriedOut, IsPerformed};
 
 use crate::failed::{Failure, failure_reply};
@@ -76,12 +76,12 @@ fn store<S: Store>(
     ensures stamped { IsStamped grid.old grid.new }
     ensures done { let u = uploaded k n secret.now bytes.items in
         let cap = if directory then as_directory (upload_cap u) else upload_cap u in
-        IsCarriedOut ⊤ (if_long u) (IsStored cap) (λ _. cap_reply cap) result grid.old grid.new }
+        IsCarriedOut ⊤ (if_long u) (IsPutReply cap) (λ _. cap_reply cap) result grid.old grid.new }
 {
     are_bytes(&bytes);
     match upload(alloc, grid, k, n, secret, bytes) {
         Ok(cap) => {
-            let named = named(cap, directory);
+            let named = as_kind(cap, directory);
             cap_reply(alloc, &named)
         }
         Err(GridFault::Full(_)) => failure_reply(alloc, Failure::StoreFull),
@@ -100,7 +100,7 @@ fn are_bytes(bytes: &[u8])
 {}
 
 /// The cap of what was stored, as that of a directory where it is one.
-fn named(cap: Cap, directory: bool) -> Cap
+fn as_kind(cap: Cap, directory: bool) -> Cap
     ensures { result ≡ (if directory then as_directory cap else cap) }
 {
     if directory { as_directory(cap) } else { cap }

@@ -7,7 +7,7 @@ use Rattle.caps.specs.Reading.{cap_reading}
 use Rattle.caps.specs.declared.cap.Cap.{Cap}
 use Rattle.caps.specs.declared.fault.CapFault.{CapFault}
 use Rattle.dir_codec.specs.Children.{nfc_text}
-use Rattle.path_names.specs.Names.{names_of, texts, has_bad_escape, max_names, is_empty, first_or_empty}
+use Rattle.path_names.specs.Names.{names_of, segment_texts, has_bad_escape, max_names, is_empty, first_or_empty}
 use Rattle.path_names.specs.declared.fault.PathFault.TheVariants as walk
 use Rattle.web_request.specs.Targets.{origin_of, path_of, query_text, resource_of, below_uri}
 use Rattle.web_request.specs.Queries.{query_of}
@@ -34,21 +34,21 @@ fault_of (Err fault) = Some fault
 abbrev path_fault : List ℕ → Option WebFault
 path_fault path =
     cond (has_bad_escape path) (Some BadEscape)
-    (cond (not (list_all is_utf8 (texts path))) (Some NotUtf8)
-    (cond (nat_lt (1 + max_names) (length (texts path))) (Some TooManyNames)
-    (cond (list_any is_empty (drop 1 (texts path))) (Some EmptyName)
-    (cond (is_err (cap_reading (first_or_empty (texts path)))) (Some BadCap) None))))
+    (cond (not (list_all is_utf8 (segment_texts path))) (Some NotUtf8)
+    (cond (nat_lt (1 + max_names) (length (segment_texts path))) (Some TooManyNames)
+    (cond (list_any is_empty (drop 1 (segment_texts path))) (Some EmptyName)
+    (cond (is_err (cap_reading (first_or_empty (segment_texts path)))) (Some BadCap) None))))
 
 node_fault : (path : List ℕ) → fault_of (node_of (names_of path)) ≡ path_fault path
 node_fault path =
-    go (has_bad_escape path) (not (list_all is_utf8 (texts path))) (nat_lt (1 + max_names) (length (texts path)))
-    (list_any is_empty (drop 1 (texts path))) (cap_reading (first_or_empty (texts path))) refl
+    go (has_bad_escape path) (not (list_all is_utf8 (segment_texts path))) (nat_lt (1 + max_names) (length (segment_texts path)))
+    (list_any is_empty (drop 1 (segment_texts path))) (cap_reading (first_or_empty (segment_texts path))) refl
   where
-    go : (t u v w : Bool) (r : Result Cap CapFault) → cap_reading (first_or_empty (texts path)) ≡ r
+    go : (t u v w : Bool) (r : Result Cap CapFault) → cap_reading (first_or_empty (segment_texts path)) ≡ r
         → fault_of (node_of (cond t (Err walk.BadEscape) (cond u (Err walk.NotUtf8) (cond v (Err walk.TooMany) (cond w (Err walk.EmptyName)
-        (Ok (first_or_empty (texts path), map nfc_text (drop 1 (texts path)))))))))
+        (Ok (first_or_empty (segment_texts path), map nfc_text (drop 1 (segment_texts path)))))))))
         ≡ cond t (Some BadEscape) (cond u (Some NotUtf8) (cond v (Some TooManyNames) (cond w (Some EmptyName)
-        (cond (is_err (cap_reading (first_or_empty (texts path)))) (Some BadCap) None))))
+        (cond (is_err (cap_reading (first_or_empty (segment_texts path)))) (Some BadCap) None))))
     go true u v w r e = refl
     go false true v w r e = refl
     go false false true w r e = refl

@@ -3,7 +3,7 @@ use Rattle.std.proofs.Common.{◌≡◌, ◌≢◌, Bool, true, false, cond, Lis
 use Rattle.std.specs.List.{filter, find, count_by}
 use Rattle.std.proofs.lemmas.List.Sums.{length-filter}
 use Rattle.web_request.specs.declared.head.Field.{Field}
-use Rattle.web_request.specs.Ranges.{only, is_range, one_range}
+use Rattle.web_request.specs.Ranges.{only_element, is_range, one_range}
 
 -- the first element, if there is one
 abbrev first_of : {A : Type 0} → List A → Option A
@@ -17,12 +17,12 @@ find_first p (x ∷ xs) = elim (p x) as (λ v. cond v (Some x) (find p xs) ≡ f
   | false ↦ find_first p xs
 ]
 
-only_one : {A : Type 0} (xs : List A) → length xs ≡ 1 → first_of xs ≡ only xs
+only_one : {A : Type 0} (xs : List A) → length xs ≡ 1 → first_of xs ≡ only_element xs
 only_one [] one = absurd (omega arith)
 only_one (x ∷ []) one = refl
 only_one (x ∷ y ∷ more) one = absurd (omega arith)
 
-not_one : {A : Type 0} (xs : List A) → length xs ≢ 1 → None ≡ only xs
+not_one : {A : Type 0} (xs : List A) → length xs ≢ 1 → None ≡ only_element xs
 not_one [] other = refl
 not_one (x ∷ []) other = absurd (other refl)
 not_one (x ∷ y ∷ more) other = refl

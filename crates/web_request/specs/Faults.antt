@@ -3,7 +3,7 @@ use Rattle.std.specs.Prelude.{ℕ, ◌+◌, Bool, true, false, ◌&&◌, ◌||�
 use Rattle.std.specs.List.{list_all, list_any, find}
 use Rattle.std.specs.Str.{is_utf8}
 use Rattle.caps.specs.Reading.{cap_reading}
-use Rattle.path_names.specs.Names.{texts, has_bad_escape, max_names, is_empty, first_or_empty}
+use Rattle.path_names.specs.Names.{segment_texts, has_bad_escape, max_names, is_empty, first_or_empty}
 use Rattle.web_request.specs.Targets.{origin_of, path_of, query_text, resource_of, below_uri}
 use Rattle.web_request.specs.Queries.{query_of}
 use Rattle.web_request.specs.Actions.{is_absent_or_empty, is_text, is_text_in_any_case, verify_of}
@@ -49,10 +49,10 @@ holds origin resource method query path (BadMethod Uploads) = is_uploads resourc
 holds origin resource method query path (BadMethod Node) = is_node resource && not (takes Node method)
 holds origin resource method query path BadQuery = not (suits_what_is_there resource method query)
 holds origin resource method query path BadEscape = is_node resource && has_bad_escape path
-holds origin resource method query path NotUtf8 = is_node resource && not (list_all is_utf8 (texts path))
-holds origin resource method query path TooManyNames = is_node resource && nat_lt (1 + max_names) (length (texts path))
-holds origin resource method query path EmptyName = is_node resource && list_any is_empty (drop 1 (texts path))
-holds origin resource method query path BadCap = is_node resource && is_err (cap_reading (first_or_empty (texts path)))
+holds origin resource method query path NotUtf8 = is_node resource && not (list_all is_utf8 (segment_texts path))
+holds origin resource method query path TooManyNames = is_node resource && nat_lt (1 + max_names) (length (segment_texts path))
+holds origin resource method query path EmptyName = is_node resource && list_any is_empty (drop 1 (segment_texts path))
+holds origin resource method query path BadCap = is_node resource && is_err (cap_reading (first_or_empty (segment_texts path)))
 holds origin resource method query path NoMemory = false
 
 -- the faults in their order

@@ -19,8 +19,8 @@ abbrev pub pairs : List ℕ → List (List ℕ × List ℕ)
 pairs query = map texts_of (raw_pairs query)
 
 -- the first value of the key
-abbrev pub first_of : List ℕ → List (List ℕ × List ℕ) → Option (List ℕ)
-first_of key found = lookup (λ name. bytes_eq name key) found
+abbrev pub first_of_key : List ℕ → List (List ℕ × List ℕ) → Option (List ℕ)
+first_of_key key found = lookup (λ name. bytes_eq name key) found
 
 -- the first of two that is there; for private clauses
 abbrev pub first_of_both : Option (List ℕ) → Option (List ℕ) → Option (List ℕ)
@@ -30,15 +30,15 @@ first_of_both None other = other
 -- the first value of each key that counts; other keys are ignored
 abbrev pub query_of : List ℕ → Query
 query_of query = record {
-  t = first_of (codes "t") (pairs query);
-  output = first_of (codes "output") (pairs query);
-  verify = first_of (codes "verify") (pairs query);
+  t = first_of_key (codes "t") (pairs query);
+  output = first_of_key (codes "output") (pairs query);
+  verify = first_of_key (codes "verify") (pairs query);
 }
 
 -- the first value of any other key, in the query of a target, where it has one
 abbrev pub value_from : List ℕ → Option (List ℕ) → Option (List ℕ)
 value_from key None = None
-value_from key (Some origin) = first_of key (pairs (query_text origin))
+value_from key (Some origin) = first_of_key key (pairs (query_text origin))
 
 unfoldable pub value_in : List ℕ → List ℕ → Option (List ℕ)
 value_in target key = value_from key (origin_of target)

@@ -11,14 +11,14 @@ unfoldable pub is_if_range : Field → Bool
 is_if_range field = eq_ignore_case field.name (codes "if-range")
 
 -- the one element of a list that has just one
-abbrev pub only : {X : Type 0} → List X → Option X
-only [] = None
-only (x ∷ []) = Some x
-only (x ∷ y ∷ more) = None
+abbrev pub only_element : {X : Type 0} → List X → Option X
+only_element [] = None
+only_element (x ∷ []) = Some x
+only_element (x ∷ y ∷ more) = None
 
 -- the one Range field
 abbrev pub one_range : List Field → Option Field
-one_range fields = only (filter is_range fields)
+one_range fields = only_element (filter is_range fields)
 
 -- its value, where no If-Range field stands
 abbrev pub range_of : List Field → Option (List ℕ)

@@ -1,6 +1,6 @@
 //! The keys of a query that count.
 ghost use Rattle.std.specs.Prelude.{◌≡◌, codes, IfOk, if◌then◌else◌, Some, None};
-ghost use Rattle.web_request.specs.Queries.{pairs, first_of, first_of_both, query_of, value_in};
+ghost use Rattle.web_request.specs.Queries.{pairs, first_of_key, first_of_both, query_of, value_in};
 
 use crate::target::{cut_at_question, origin_of};
 use form_urlencoded::parse;
@@ -64,7 +64,7 @@ pub fn value_in(alloc: Global, target: &[u8], key: &str) -> Result<Option<Text>,
 
 /// The first value of a key in a query.
 fn first_value(alloc: Global, query: &[u8], key: &str) -> Result<Option<Text>, AllocError>
-    ensures { IfOk result (λ value. value ≡ first_of key.now (pairs query.now)) }
+    ensures { IfOk result (λ value. value ≡ first_of_key key.now (pairs query.now)) }
 {
     for pair in parse(alloc, query) {
         let (name, value) = pair?;

@@ -2,14 +2,14 @@
 use super::index_from;
 use super::mem_files::MemFiles;
 use case_lines::{Case, NoAnswer, fixed};
-use folder_shelf::{FileShelf, FolderFault, FolderShelf, Settings};
+use folder_shelf::{FileShelf, FolderFault, FolderShelf, StoreSettings};
 use share_shelf::Shelf;
 use std::alloc::Global;
 use std::rc::RcSlice;
 
 /// The shelf in the folder `/d`.
 fn opened(files: &MemFiles) -> Result<FileShelf<MemFiles>, FolderFault> {
-    let settings = Settings::new(3, 10, 3, 10, b"swordfish");
+    let settings = StoreSettings::new(3, 10, 3, 10, b"swordfish");
     FolderShelf::open(files.clone()?, "/d", &settings, true)
 }
 

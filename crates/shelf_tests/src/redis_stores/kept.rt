@@ -1,7 +1,7 @@
 //! Stores over one server in memory, one after the other: the server goes from one to the next with what it keeps.
 use crate::shelves::INDEX;
 use case_lines::{NoAnswer, fixed};
-use folder_shelf::Settings;
+use folder_shelf::StoreSettings;
 use octets::Bytes;
 use redis_store::{Link, LinkFault, RedisStore, Server, ServerFault};
 use resp::{Element, Item, Limits, Reply, read_reply};
@@ -226,7 +226,7 @@ impl Link for KeepingServer {
 fn store_over(
     alloc: Global,
     server: KeepingServer,
-    settings: Settings,
+    settings: StoreSettings,
 ) -> Result<RedisStore<KeepingServer>, AllocError> {
     let known = Server {
         grid: Bytes::from_slice(alloc, b"wozhinnam:g:")?,
@@ -238,8 +238,8 @@ fn store_over(
 }
 
 /// The settings of the grid of most stores.
-fn of_grid() -> Settings {
-    Settings::new(3, 5, 3, 10, b"secret")
+fn of_grid() -> StoreSettings {
+    StoreSettings::new(3, 5, 3, 10, b"secret")
 }
 
 /// Puts a share of these bytes.
@@ -293,9 +293,9 @@ pub(super) fn of_another(alloc: Global) -> Result<String, NoAnswer> {
     let mut server = one.into_link();
     let mut answers = format!(in alloc; "{first:?}")?;
     let strangers = [
-        Settings::new(4, 5, 3, 10, b"secret"),
-        Settings::new(3, 5, 3, 9, b"secret"),
-        Settings::new(3, 5, 3, 10, b"Secret"),
+        StoreSettings::new(4, 5, 3, 10, b"secret"),
+        StoreSettings::new(3, 5, 3, 9, b"secret"),
+        StoreSettings::new(3, 5, 3, 10, b"Secret"),
         of_grid(),
     ];
     for settings in strangers {

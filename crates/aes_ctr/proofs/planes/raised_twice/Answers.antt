@@ -1,7 +1,7 @@
 use Rattle.std.proofs.Common.{refl}
-use Rattle.aes_ctr.specs.Planes.{raised}
+use Rattle.aes_ctr.specs.Planes.{raised_rows}
 use Rattle.aes_ctr.proofs.planes.raised_twice.Goals as goal
 
 pub returns : goal.returns
-unfolding raised
+unfolding raised_rows
 returns c = λ s ex. rw ex refl

@@ -3,7 +3,7 @@ use Rattle.std.specs.Prelude.{option_to_list}
 use Rattle.std.proofs.lemmas.List.{append-nil}
 use Rattle.share_codec.specs.Params.{ParamsValue}
 use Rattle.share_codec.specs.GoodShare.{GoodShare}
-use Rattle.chk_file.specs.Row.{Place, first_good}
+use Rattle.chk_file.specs.Row.{ServerShare, first_good}
 use Rattle.chk_file.specs.Gathered.{good_below}
 use Rattle.chk_file.proofs.Tools.{one_more, enough_below}
 use Rattle.chk_file.proofs.chosen.chosen.Goals as goal
@@ -20,7 +20,7 @@ pub loop-number-preserved : goal.loop-number-preserved
 loop-number-preserved c =
     let p = c.args.params.now in
     let ueb = c.args.ueb.now in
-    let rows : List (List Place) = c.args.rows.now in
+    let rows : List (List ServerShare) = c.args.rows.now in
     let n : ℕ = c.loop-number.number in
     let f : ℕ → Option GoodShare = λ number. first_good p ueb number (get_or rows number []) in
     let share_is = c.in_ok-share.ensures ∙ ap (first_good p ueb n) c.places.ensures in

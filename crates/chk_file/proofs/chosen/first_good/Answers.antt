@@ -2,12 +2,12 @@ use Rattle.std.proofs.Common.{◌≡◌, ◌<◌, ℕ, List, length, take, get_o
 use Rattle.std.specs.Option.{option_or}
 use Rattle.std.proofs.lemmas.List.{length-map, get_or-map, take-map, map_more}
 use Rattle.share_codec.specs.GoodShare.{good_share}
-use Rattle.chk_file.specs.Row.{Place, first_good}
+use Rattle.chk_file.specs.Row.{ServerShare, first_good}
 use Rattle.chk_file.specs.Gathered.{places_of}
 use Rattle.chk_file.proofs.Goods.{first_found, first_more}
 use Rattle.chk_file.proofs.chosen.first_good.Goals as goal
 
-abbrev view : ℕ × List ℕ → Place
+abbrev view : ℕ × List ℕ → ServerShare
 view place = (place.0, place.1)
 
 pub returns-in-Some : goal.returns-in-Some

@@ -6,7 +6,7 @@ use Rattle.grid.specs.Leaves.{Leaves, IsUnchanged}
 use Rattle.grid.specs.Standing.{standing}
 use Rattle.grid.proofs.Turns.{leaves_both, unchanged_both, calm_second}
 use Rattle.caps.specs.StorageIndex.{index_of}
-use Rattle.chk_file.specs.Row.{ShareTable, row_of}
+use Rattle.chk_file.specs.Row.{ShareTable, table_of}
 use Rattle.chk_file.specs.Reached.{IsReached, OfReached, ReachedLaws}
 use Rattle.chk_file.specs.Fit.{fit}
 use Rattle.chk_file.proofs.verify.verify.Goals as goal
@@ -14,7 +14,7 @@ use Rattle.chk_file.proofs.verify.verify.Goals as goal
 -- what was reached in the second of two calls was reached in both together
 reached_in_both : ReachedLaws → (old mid new : GridState) (index : List ℕ) → Leaves old mid → IsUnchanged old mid → (row : ShareTable) → IsReached mid new index row → IsReached old new index row
 reached_in_both laws old mid new index left same row reached =
-    laws.together old mid new new index row (ap (λ (maps : List Shares). row_of (standing maps) index) same.maps) left.rises (λ s. omega arith) reached
+    laws.together old mid new new index row (ap (λ (maps : List Shares). table_of (standing maps) index) same.maps) left.rises (λ s. omega arith) reached
 
 both_reached : ReachedLaws → (old mid new : GridState) (index : List ℕ) → Leaves old mid → IsUnchanged old mid → (Says : ShareTable → Type 0) → OfReached mid new index Says → OfReached old new index Says
 both_reached laws old mid new index left same Says second =
@@ -31,7 +31,7 @@ pub returns-in-Ok-clause-fit : goal.returns-in-Ok-clause-fit
 returns-in-Ok-clause-fit g c all calm =
     let f = c.args.fields.now in
     let low = c.in-Ok.ensures.fit_reached all in
-    let is : low.row ≡ row_of (stood c.args.grid.now) (index_of f.key) =
+    let is : low.row ≡ table_of (stood c.args.grid.now) (index_of f.key) =
     c.reached_rows.ensures.all c.args.grid.now c.verify_low.new.grid (index_of f.key) low.row calm low.reached in
     subst (λ (row : ShareTable). fit row f ≡ Some (crypt f.key c.in-Ok.read.1.items)) is low.says
 
@@ -51,7 +51,7 @@ returns-in-Err-NotEnoughShares-clause-fit g c all calm =
     let low = c.verify_low.ensures in
     let second = c.verify_all.ensures in
     let still = calm_second c.args.grid.now c.verify_low.new.grid c.verify_all.new.grid low.leaves second.leaves calm in
-    subst (λ (maps : List Shares). IfOk c.verify_all.result (λ read. fit (row_of (standing maps) (index_of f.key)) f ≡ Some (crypt f.key read.1.items)))
+    subst (λ (maps : List Shares). IfOk c.verify_all.result (λ read. fit (table_of (standing maps) (index_of f.key)) f ≡ Some (crypt f.key read.1.items)))
     (low.unchanged all).maps (second.fit (low.leaves.honest all) still)
 
 pub returns-in-Err-NotEnoughShares-clause-missing : goal.returns-in-Err-NotEnoughShares-clause-missing
@@ -60,7 +60,7 @@ returns-in-Err-NotEnoughShares-clause-missing g c all calm none =
     let low = c.verify_low.ensures in
     let second = c.verify_all.ensures in
     let still = calm_second c.args.grid.now c.verify_low.new.grid c.verify_all.new.grid low.leaves second.leaves calm in
-    subst (λ (maps : List Shares). fit (row_of (standing maps) (index_of f.key)) f ≡ None) (low.unchanged all).maps (second.missing (low.leaves.honest all) still none)
+    subst (λ (maps : List Shares). fit (table_of (standing maps) (index_of f.key)) f ≡ None) (low.unchanged all).maps (second.missing (low.leaves.honest all) still none)
 
 pub returns-in-Err-NotEnoughShares-clause-fit_reached : goal.returns-in-Err-NotEnoughShares-clause-fit_reached
 returns-in-Err-NotEnoughShares-clause-fit_reached g c all =

@@ -4,7 +4,7 @@ use Rattle.std.specs.Rc.{rc_slice_items}
 use Rattle.std.proofs.lemmas.List.{length-map}
 use Rattle.aes_ctr.specs.Crypt.{crypt}
 use Rattle.grid.specs.GridState.{GridState, StoreState, maps_of, failures_at}
-use Rattle.grid.specs.Found.{seen, found_below, AllBut}
+use Rattle.grid.specs.Found.{found_bytes, found_below, AllBut}
 use Rattle.grid.specs.FoundLaws.{FoundLaws}
 use Rattle.caps.specs.Fields.{ReadValue}
 use Rattle.caps.specs.StorageIndex.{index_of}
@@ -42,10 +42,10 @@ pub returns-in-Ok-clause-fit_reached : goal.returns-in-Ok-clause-fit_reached
 returns-in-Ok-clause-fit_reached g c all =
     let f = c.args.fields.now in
     let same : c.storage_index.result ≡ index_of f.key = c.storage_index.ensures ∙ ap (λ (v : ReadValue). index_of v.key) c.fields.view_is in
-    let found : List Found = map (seen rc_slice_items) c.deref.result.now in
+    let found : List Found = map (found_bytes rc_slice_items) c.deref.result.now in
     let low : IsGatheredBelow c.fields.inside.k c.args.grid.now c.gather_below.new.self (index_of f.key) found =
     low_there c.found_laws.ensures c.fields.inside.k (index_of f.key) c.storage_index.result c.args.grid.now c.gather_below.new.self found _ c.servers.ensures.few same
-    (ap (map (seen rc_slice_items)) c.deref.ensures.value) (c.in_ok-found.ensures.found all) in
+    (ap (map (found_bytes rc_slice_items)) c.deref.ensures.value) (c.in_ok-found.ensures.found all) in
     record {
       row = low.row;
       reached = low.reached;

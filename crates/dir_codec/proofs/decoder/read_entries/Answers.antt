@@ -1,13 +1,13 @@
 use Rattle.std.proofs.Common.{[], ◌∷◌, ◌++◌, option_map, Ok, sym, ap, ◌∙◌, append-nil}
 use Rattle.std.proofs.lemmas.Result.{err_from_is_err_and}
 use Rattle.dir_codec.specs.Cuts.{entry_now}
-use Rattle.dir_codec.specs.Reading.{reading_after, reading}
+use Rattle.dir_codec.specs.Reading.{reading_after, directory_reading}
 use Rattle.dir_codec.proofs.Above.{last_of_more, one_more_above}
 use Rattle.dir_codec.proofs.Steps.{after_those, after_one_more, entry_shorter, read_all, read_torn, read_fault, read_entry}
 use Rattle.dir_codec.proofs.decoder.read_entries.Goals as goal
 
 pub returns-in_default-clause-err : goal.returns-in_default-clause-err
-unfolding reading
+unfolding directory_reading
 returns-in_default-clause-err c other =
     let law = c.netstrings_are_read_back.ensures.reads_nothing_else in
     let some = sym c.is_empty.ensures ∙ c.loop-last-test.true in
@@ -15,7 +15,7 @@ returns-in_default-clause-err c other =
     c.loop-last.invariant.read ∙ ap (after_those c.loop-last.entries.items) (read_torn law c.loop-last.last.now c.loop-last.rest.now some none)
 
 pub returns-in_err-entry-clause-err : goal.returns-in_err-entry-clause-err
-unfolding reading
+unfolding directory_reading
 returns-in_err-entry-clause-err c =
     let law = c.netstrings_are_read_back.ensures.reads_nothing_else in
     let some = sym c.is_empty.ensures ∙ c.loop-last-test.true in
@@ -45,7 +45,7 @@ loop-last-preserved c =
     }
 
 pub returns-clause-ok : goal.returns-clause-ok
-unfolding reading
+unfolding directory_reading
 returns-clause-ok c =
     let none = sym c.is_empty.ensures ∙ c.loop-last-test.false in
     c.loop-last.invariant.read ∙ ap (after_those c.loop-last.entries.items) (read_all c.loop-last.last.now c.loop-last.rest.now none) ∙ ap Ok (append-nil c.loop-last.entries.items)

@@ -1,6 +1,6 @@
 use Rattle.std.proofs.Common.{◌≡◌, ℕ, List, Bool, true, sym, ◌∙◌}
 use Rattle.chk_file.specs.World.{World}
-use Rattle.gate_core.specs.Settings.{Settings}
+use Rattle.gate_core.specs.Settings.{GatewaySettings}
 use Rattle.gate_core.specs.Items.{Entry}
 use Rattle.gate_core.specs.Uploaded.{IsProper, IsLeftBy}
 use Rattle.gate_core.specs.Apart.{Apart}
@@ -11,7 +11,7 @@ pub returns : goal.returns
 returns c =
     let stay = c.worlds_stay_sound.ensures in
     let agree = c.answers_agree_where_looks_do.ensures in
-    let fit : (s : Settings) (callers : ℕ → Bool) (caller : ℕ) (past : List Entry) (w : World) (xs : List Entry) → callers caller ≡ true → IsProper s xs → IsLeftBy s past w → Apart s callers past w xs → IsFitHeld s callers caller w xs =
+    let fit : (s : GatewaySettings) (callers : ℕ → Bool) (caller : ℕ) (past : List Entry) (w : World) (xs : List Entry) → callers caller ≡ true → IsProper s xs → IsLeftBy s past w → Apart s callers past w xs → IsFitHeld s callers caller w xs =
     λ s callers caller past w xs ours proper left apart.
     apart_fit c.fit_is_held.ensures agree.reply agree.met stay.upload stay.lose stay.spoil s callers caller past w xs ours (c.worlds_of_runs_are_sound.ensures.left s w past left) left proper apart in
     record {

@@ -1,7 +1,7 @@
 use Rattle.std.proofs.Common.{◌≡◌, ◌+◌, ◌++◌, length, true, refl, sym, ap, subst, ◌∙◌, eqb-true, length-append, rules}
 use Rattle.std.specs.Io.KnownBytes.{Consumes}
 use Rattle.std.specs.Io.BufRead.{FillKeeps}
-use Rattle.gate_tasks.specs.Lines.{fits, piece_of}
+use Rattle.gate_tasks.specs.Lines.{fits, line_bytes}
 use Rattle.gate_tasks.proofs.Parts.{shows_nothing, shows_too_long, consumes_part, sized}
 use Rattle.gate_tasks.proofs.lines.read_part.Goals as goal
 
@@ -35,7 +35,7 @@ returns-then-ended g c =
     (sized part.0.now part.1 c.from.result c.from.ensures) c.in-Ok.ensures.front c.in-Ok.ensures.end filled.0 filled.1 c.consume.ensures.bytes in
     record {
       part = part.0.now;
-      taken = subst (λ e. Consumes old new (piece_of (record { bytes = part.0.now; ended = e }))) c.if-ended.true taken;
+      taken = subst (λ e. Consumes old new (line_bytes (record { bytes = part.0.now; ended = e }))) c.if-ended.true taken;
       joined = joined;
       lacks = c.first_part-ended.ensures.begins.before;
       within = subst (λ e. fits c.args.read (length line) e ≡ true) c.if-ended.true

@@ -4,9 +4,9 @@ use Rattle.std.proofs.lemmas.Option.{slice_get-get_or}
 use Rattle.std.specs.FinMap.{entries, get}
 use Rattle.std.specs.Option.{option_map}
 use Rattle.std.specs.Rc.{rc_slice_items}
-use Rattle.share_store.specs.Shares.{Entry}
+use Rattle.share_store.specs.Shares.{ShareEntry}
 use Rattle.share_store.specs.Numbers.{of_index}
-use Rattle.grid.specs.Found.{AllBut, within, seen}
+use Rattle.grid.specs.Found.{AllBut, below_limit, found_bytes}
 use Rattle.grid.proofs.Gather.{row, rows_more, rows_missing, entry_of_number, stands_at, by_calm, by_rise, rises_or_stays}
 use Rattle.grid.proofs.Looks.{looked_both}
 use Rattle.grid.proofs.Missing.{more_may_miss, all_but_both}
@@ -62,19 +62,19 @@ loop-number-preserved g c =
                 let is : rc_slice_items bytes ≡ e.1 = cc in
                 let pushed : (server, n, rc_slice_items bytes) ≡ row server e = λ j. (server, sym entry.2 j, is j) in (
                   so_far.0 ++ row server e ∷ [],
-                  ap (λ v. map (seen rc_slice_items) v.items) w.found-is
-                      ∙ ap (map (seen rc_slice_items)) w.in_ok-push-in-Some.ensures.items
-                      ∙ map-append (seen rc_slice_items) c.loop-number.found.items _
+                  ap (λ v. map (found_bytes rc_slice_items) v.items) w.found-is
+                      ∙ ap (map (found_bytes rc_slice_items)) w.in_ok-push-in-Some.ensures.items
+                      ∙ map-append (found_bytes rc_slice_items) c.loop-number.found.items _
                       ∙ ap (λ fs. fs ++ (server, n, rc_slice_items bytes) ∷ []) so_far.1
-                      ∙ append_assoc (map (seen rc_slice_items) c.args.found.now.items) so_far.0 ((server, n, rc_slice_items bytes) ∷ [])
-                      ∙ ap (λ f. map (seen rc_slice_items) c.args.found.now.items ++ (so_far.0 ++ f ∷ [])) pushed,
+                      ∙ append_assoc (map (found_bytes rc_slice_items) c.args.found.now.items) so_far.0 ((server, n, rc_slice_items bytes) ∷ [])
+                      ∙ ap (λ f. map (found_bytes rc_slice_items) c.args.found.now.items ++ (so_far.0 ++ f ∷ [])) pushed,
                   subst (λ l. AllBut Q l (so_far.0 ++ row server e ∷ [])) (sym next) (all_but_both Q rows (row server e ∷ []) so_far.0 (row server e ∷ []) weaker (inr ([], refl, refl))),
                 )
             | in-None w ↦
                 let rose : store.failures mid < store.failures new = by_rise (store.failures mid) (store.failures new) got.looked.rises
                 (λ calm. let none : None ≡ Some e.1 = sym (ap (option_map rc_slice_items) w.in-None.is) ∙ got.found (inv.looked.still_honest honest) calm ∙ stood_mid in cc) in (
                   so_far.0,
-                  ap (λ v. map (seen rc_slice_items) v.items) w.found-is ∙ so_far.1,
+                  ap (λ v. map (found_bytes rc_slice_items) v.items) w.found-is ∙ so_far.1,
                   subst (λ l. AllBut Q l so_far.0) (sym next)
                       (subst (λ l. AllBut Q (rows ++ row server e ∷ []) l) (append-nil so_far.0)
                       (all_but_both Q rows (row server e ∷ []) so_far.0 [] weaker (inl ((refl, omega (arith, rose, inv.looked.rises)), refl)))),
@@ -92,23 +92,23 @@ returns-clause-found g c honest =
     let i = c.loop-number.number-index in
     let stored = c.in_ok-stored.ensures in
     let whole = of_index c.args.index (entries (store.shares old)) in
-    let es = within (λ (e : Entry). e.0.1) c.args.limit whole in
+    let es = below_limit (λ (e : ShareEntry). e.0.1) c.args.limit whole in
     let P : ℕ × ℕ × List ℕ → Type 0 = λ f. (f.0 ≡ server) × (store.failures old < store.failures c.loop-number.store) in
-    let first = map (seen rc_slice_items) c.args.found.now.items in
-    let rows : List (ℕ × ℕ × List ℕ) = within (λ (f : ℕ × ℕ × List ℕ). f.1) c.args.limit (map (row server) whole) in
+    let first = map (found_bytes rc_slice_items) c.args.found.now.items in
+    let rows : List (ℕ × ℕ × List ℕ) = below_limit (λ (f : ℕ × ℕ × List ℕ). f.1) c.args.limit (map (row server) whole) in
     let rows_are : map (row server) es ≡ rows = sym (within_map (λ (f : ℕ × ℕ × List ℕ). f.1) (row server) c.args.limit whole) in
-    let kept : items ≡ within (λ (n : ℕ). n) c.args.limit c.in_ok-stored.stored.items = c.deref-number-items.ensures.value ∙ c.below-numbers.ensures in
+    let kept : items ≡ below_limit (λ (n : ℕ). n) c.args.limit c.in_ok-stored.stored.items = c.deref-number-items.ensures.value ∙ c.below-numbers.ensures in
     rises_or_stays (store.failures old) (store.failures c.numbers.new.self) stored.looked.rises _
     (λ rose.
-    let none : items ≡ [] = kept ∙ ap (within (λ (n : ℕ). n) c.args.limit) (stored.failed rose) ∙ within_none (λ (n : ℕ). n) c.args.limit in
+    let none : items ≡ [] = kept ∙ ap (below_limit (λ (n : ℕ). n) c.args.limit) (stored.failed rose) ∙ within_none (λ (n : ℕ). n) c.args.limit in
     let so_far = inv.found honest [] none (λ k e at. cc) in
-    let given : so_far.0 ≡ [] = subst (λ (l : List Entry). AllBut P (map (row server) l) so_far.0) (take_all i [] (omega arith)) so_far.2 in
+    let given : so_far.0 ≡ [] = subst (λ (l : List ShareEntry). AllBut P (map (row server) l) so_far.0) (take_all i [] (omega arith)) so_far.2 in
     ([], so_far.1 ∙ ap (λ l. first ++ l) given, subst (λ l. AllBut P l []) rows_are (rows_missing P server es (λ e. (refl, inv.risen rose)))))
     (λ calm.
     let nums : items ≡ map (λ e. e.0.1) es =
-    kept ∙ ap (within (λ (n : ℕ). n) c.args.limit) (stored.found honest calm) ∙ within_map (λ (n : ℕ). n) (λ (e : Entry). e.0.1) c.args.limit whole in
+    kept ∙ ap (below_limit (λ (n : ℕ). n) c.args.limit) (stored.found honest calm) ∙ within_map (λ (n : ℕ). n) (λ (e : ShareEntry). e.0.1) c.args.limit whole in
     let so_far =
     inv.found honest es nums
-    (λ k e at. let there = within_at (λ (x : Entry). x.0.1) c.args.limit whole k e at in stands_at (store.shares old ∷ []) 0 c.args.index there.0 e there.1) in
-    let all_looked : take i es ≡ es = take_all i es (omega (arith, ap length nums, length-map es (λ (e : Entry). e.0.1), c.loop-number-test.false)) in
-    (so_far.0, so_far.1, subst (λ l. AllBut P l so_far.0) rows_are (subst (λ (l : List Entry). AllBut P (map (row server) l) so_far.0) all_looked so_far.2)))
+    (λ k e at. let there = within_at (λ (x : ShareEntry). x.0.1) c.args.limit whole k e at in stands_at (store.shares old ∷ []) 0 c.args.index there.0 e there.1) in
+    let all_looked : take i es ≡ es = take_all i es (omega (arith, ap length nums, length-map es (λ (e : ShareEntry). e.0.1), c.loop-number-test.false)) in
+    (so_far.0, so_far.1, subst (λ l. AllBut P l so_far.0) rows_are (subst (λ (l : List ShareEntry). AllBut P (map (row server) l) so_far.0) all_looked so_far.2)))

@@ -3,7 +3,7 @@ use Rattle.std.proofs.lemmas.List.{take_all}
 use Rattle.std.proofs.lemmas.Result.{err_from_is_err_and}
 use Rattle.std.specs.Str.{is_utf8}
 use Rattle.percent_encoding.specs.Percent.{percent_decode}
-use Rattle.path_names.specs.Names.{texts}
+use Rattle.path_names.specs.Names.{segment_texts}
 use Rattle.path_names.proofs.PathLemmas.{texts_from_pieces, length-texts, list_all_fails}
 use Rattle.path_names.proofs.path.decoded.Goals as goal
 
@@ -13,7 +13,7 @@ returns-in_err-decoded_piece-clause-other c =
     let all = texts_from_pieces c.args.path.now _ _ _ c.without_end_slash.ensures c.in_ok-pieces.ensures c.deref-piece-items.ensures.value in
     rw (p.1, p.2) (λ other. rw (sym all) (list_all_fails is_utf8 _ _ c.loop-piece.piece-index _ c.loop-piece-test.true (c.in_err-decoded_piece.ensures.other other)))
 
-read : (c : goal.After-drop-pieces-2) → c.loop-piece.found.items ≡ texts c.args.path.now
+read : (c : goal.After-drop-pieces-2) → c.loop-piece.found.items ≡ segment_texts c.args.path.now
 read c =
     c.loop-piece.invariant.read ∙ ap (map (λ piece. percent_decode piece.now)) (take_all _ _ c.loop-piece-test.false)
     ∙ texts_from_pieces c.args.path.now _ _ _ c.without_end_slash.ensures c.in_ok-pieces.ensures c.deref-piece-items.ensures.value

@@ -7,8 +7,8 @@ use Rattle.std.proofs.lemmas.List.{drop_more}
 use Rattle.grid.specs.GridState.{stood}
 use Rattle.grid.specs.Standing.{standing}
 use Rattle.chk_file.specs.Look.{look_in}
-use Rattle.path_walk.specs.Walk.{Gives, then_on, child_below, walked}
-use Rattle.path_walk.specs.Way.{Leads, Stops}
+use Rattle.path_walk.specs.Walk.{FileLookup, then_on, child_below, walked}
+use Rattle.path_walk.specs.Way.{NamesLeadTo, WalkStops}
 use Rattle.grid.proofs.Turns.{leaves_both, unchanged_both, calm_first, calm_second}
 use Rattle.path_walk.proofs.walker.walk.Goals as goal
 
@@ -30,15 +30,15 @@ loop-name-preserved g c =
     let i = c.loop-name.name-index in
     let name = c.name-item.result in
     let more = drop (i + 1) items in
-    let gives : Gives = (look_in (stood old)).gives in
+    let gives : FileLookup = (look_in (stood old)).gives in
     let left : drop i items ≡ name ∷ more = drop_more items i name c.loop-name-test.true ∙ ap (λ (n : List ℕ). n ∷ more) (sym c.name-item.is) in
     record {
       leaves = leaves_both old mid new inv.leaves one.leaves;
       unchanged = λ all. unchanged_both old mid new (inv.unchanged all) (one.unchanged (inv.leaves.honest all));
       fresh = λ fresh. one.fresh (inv.fresh fresh);
       unread = λ none. (let empty : length items ≡ 0 = ap length none in absurd (omega (arith, empty, c.loop-name-test.true)));
-      leads = λ end way. inv.leads end (subst (λ rest. Leads here rest end) (sym left) (child, (one.child, way)));
-      stops = λ fault stop. inv.stops fault (subst (λ rest. Stops here rest fault) (sym left) (inr (child, (one.child, stop))));
+      leads = λ end way. inv.leads end (subst (λ rest. NamesLeadTo here rest end) (sym left) (child, (one.child, way)));
+      stops = λ fault stop. inv.stops fault (subst (λ rest. WalkStops here rest fault) (sym left) (inr (child, (one.child, stop))));
       walks = λ fresh all calm.
           let found = one.found (inv.fresh fresh) (inv.leaves.honest all) (calm_second old mid new inv.leaves one.leaves calm) in
           let step : child_below gives here name ≡ Ok child = subst (λ maps. child_below (look_in (standing maps)).gives here name ≡ Ok child) (inv.unchanged all).maps found in
@@ -59,9 +59,9 @@ returns-in_err-here-2-clause-stops g c =
     let i = c.loop-name.name-index in
     let name = c.name-item.result in
     let left : drop i items ≡ name ∷ drop (i + 1) items = drop_more items i name c.loop-name-test.true ∙ ap (λ (n : List ℕ). n ∷ drop (i + 1) items) (sym c.name-item.is) in
-    passed_on c.from_residual-in_err-here-2.result c.in_err-here-2.field-0.0 (Stops c.args.cap.now c.args.names.now) c.from_residual-in_err-here-2.ensures.1
-    (λ memory. subst (λ names. Stops c.args.cap.now names c.in_err-here-2.field-0.0) c.as_slice-name-items.ensures
-    (c.loop-name.invariant.stops c.in_err-here-2.field-0.0 (subst (λ rest. Stops c.loop-name.here rest c.in_err-here-2.field-0.0) (sym left) (inl (c.in_err-here-2.ensures.stop memory)))))
+    passed_on c.from_residual-in_err-here-2.result c.in_err-here-2.field-0.0 (WalkStops c.args.cap.now c.args.names.now) c.from_residual-in_err-here-2.ensures.1
+    (λ memory. subst (λ names. WalkStops c.args.cap.now names c.in_err-here-2.field-0.0) c.as_slice-name-items.ensures
+    (c.loop-name.invariant.stops c.in_err-here-2.field-0.0 (subst (λ rest. WalkStops c.loop-name.here rest c.in_err-here-2.field-0.0) (sym left) (inl (c.in_err-here-2.ensures.stop memory)))))
 
 pub returns-in_err-here-2-clause-refused : goal.returns-in_err-here-2-clause-refused
 returns-in_err-here-2-clause-refused g c fresh all calm =
@@ -76,7 +76,7 @@ returns-in_err-here-2-clause-refused g c fresh all calm =
     let name = c.name-item.result in
     let more = drop (i + 1) items in
     let fault = c.in_err-here-2.field-0.0 in
-    let gives : Gives = (look_in (stood old)).gives in
+    let gives : FileLookup = (look_in (stood old)).gives in
     let left : drop i items ≡ name ∷ more = drop_more items i name c.loop-name-test.true ∙ ap (λ (n : List ℕ). n ∷ more) (sym c.name-item.is) in
     passed_on c.from_residual-in_err-here-2.result fault (λ f. walked gives c.args.cap.now c.args.names.now ≡ Err f) c.from_residual-in_err-here-2.ensures.1
     (λ memory.

@@ -1,4 +1,4 @@
-use Rattle.http_edge.specs.Left.{frame_from}
+use Rattle.http_edge.specs.FramingState.{frame_from}
 use Rattle.gate_core.specs.ConnectionState.{secret_at}
 use Rattle.restarts.proofs.MidCalls.{begun_cut, stopped_cut, lost_cut, spoiled_cut, all_proper}
 use Rattle.restarts.proofs.laws.calls_are_cut_off.Goals as goal

@@ -4,7 +4,7 @@ use Rattle.std.specs.Prelude.{IsTrue, IsErrAnd}
 use Rattle.std.proofs.lemmas.Option.{slice_get-get_or}
 use Rattle.std.specs.FinMap.{entries}
 use Rattle.share_store.specs.Shares.{ShareKey}
-use Rattle.share_shelf.specs.Left.{IsQuiet}
+use Rattle.share_shelf.specs.CrashStates.{IsQuiet}
 use Rattle.share_store.specs.declared.fault.StoreFault.TheVariants.{Full}
 use Rattle.share_shelf.specs.declared.open_fault.OpenFault.TheVariants.{Empty, Shelf as ShelfRefused, Store as StoreRefused}
 use Rattle.share_shelf.specs.declared.fault.ShelfFault.TheVariants.{Failed}

@@ -2,7 +2,7 @@ use Rattle.std.proofs.Common.{◌≡◌, ◌+◌}
 use Rattle.std.specs.Prelude.{take, IsTrue}
 use Rattle.std.specs.FinMap.{entries}
 use Rattle.share_store.specs.Shares.{Shares}
-use Rattle.share_shelf.specs.Left.{Keeps, IsQuiet}
+use Rattle.share_shelf.specs.CrashStates.{Keeps, IsQuiet}
 use Rattle.shelf_store.specs.Known.{known}
 use Rattle.shelf_store.proofs.Opens.{IsBegun}
 use Rattle.shelf_store.proofs.opened.take_all.Given as goal

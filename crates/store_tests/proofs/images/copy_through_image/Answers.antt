@@ -7,7 +7,7 @@ use Rattle.grid.specs.Leaves.{Leaves}
 use Rattle.grid.specs.Rows.{Row, rows_of}
 use Rattle.grid.specs.Image.{image}
 use Rattle.grid.specs.ImageLaws.{ImageLaws}
-use Rattle.grid.specs.ImageReading.{Reading, image_said}
+use Rattle.grid.specs.ImageReading.{RowsRead, image_said}
 use Rattle.grid.specs.declared.image_layout.Layout.TheVariants.{VersionTwo}
 use Rattle.store_tests.proofs.images.copy_through_image.Goals as goal
 
@@ -30,7 +30,7 @@ returns g c = record {
       let written : bytes ≡ image servers rows = c.as_slice-reader.ensures.value ∙ c.in_default.ensures.ok all ∙ ap (λ l. l ++ image servers rows) c.new-image.ensures.items in
       let back = c.image_laws.ensures.read_back VersionTwo servers rows (c.in_default.ensures.rows all) in
       let said : (image_said (vec_len stores) bytes).rows ≡ rows =
-      ap (λ n. (image_said n bytes).rows) c.requires.many ∙ ap (λ b. (image_said servers b).rows) written ∙ ap (λ (r : Reading). r.rows) back in
+      ap (λ n. (image_said n bytes).rows) c.requires.many ∙ ap (λ b. (image_said servers b).rows) written ∙ ap (λ (r : RowsRead). r.rows) back in
       by_rows c.read_image.result (states store.shares store.room store.held store.failures store.honest store.history stores.items) _ (image_said (vec_len stores) bytes).rows (maps_of old) c.image_laws.ensures
       (length-map stores.items _ ∙ sym stores.ok.0 ∙ c.requires.many ∙ sym (length-map old.stores (λ (t : StoreState). t.shares))) said c.read_image.ensures.leaves (c.read_image.ensures.ok empty);
 }

@@ -1,6 +1,6 @@
 use Rattle.std.proofs.Common.{subst}
 use Rattle.std.specs.Prelude.{⊤}
-use Rattle.chk_file.specs.Cached.{IsFresh}
+use Rattle.chk_file.specs.Cached.{IsCacheCurrent}
 use Rattle.chk_file.proofs.Freshness.{fresh_stays}
 use Rattle.web_request.specs.declared.request.Request.TheVariants.{Put, Mkdir, Get}
 use Rattle.web_ops.specs.Encoding.{encoding_of, mapping}
@@ -22,9 +22,9 @@ returns-in-Mkdir-clause-world g c =
 
 pub returns-in-Get-clause-written : goal.returns-in-Get-clause-written
 returns-in-Get-clause-written g c =
-    (same_request (IsFresh c.args.cache.now c.args.grid.now) (mapping c.args.mapped (encoding_of c.args.k c.args.n c.args.secret.now)) (Get c.in-Get.cap c.in-Get.names c.in-Get.json c.in-Get.head_only c.in-Get.range) c.args.request c.get.result c.args.grid.now c.get.new.grid c.in-Get.is
+    (same_request (IsCacheCurrent c.args.cache.now c.args.grid.now) (mapping c.args.mapped (encoding_of c.args.k c.args.n c.args.secret.now)) (Get c.in-Get.cap c.in-Get.names c.in-Get.json c.in-Get.head_only c.in-Get.range) c.args.request c.get.result c.args.grid.now c.get.new.grid c.in-Get.is
     (nothing_stored _ _ _ c.get.result c.args.grid.now c.get.new.grid
-    (subst (λ range. IsFound (IsFresh c.args.cache.now c.args.grid.now) (IsAnsweredFrom (is_verify_cap c.in-Get.cap) (IsNode c.in-Get.json range) c.in-Get.cap c.in-Get.names) (λ look. get_reply look.gives c.in-Get.cap c.in-Get.names c.in-Get.json range) c.get.result c.args.grid.now c.get.new.grid)
+    (subst (λ range. IsFound (IsCacheCurrent c.args.cache.now c.args.grid.now) (IsAnsweredFrom (is_verify_cap c.in-Get.cap) (IsNode c.in-Get.json range) c.in-Get.cap c.in-Get.names) (λ look. get_reply look.gives c.in-Get.cap c.in-Get.names c.in-Get.json range) c.get.result c.args.grid.now c.get.new.grid)
     c.range_to_apply-range_to_apply.ensures c.get.ensures.found))).written
 
 pub returns-in-Put-clause-fresh : goal.returns-in-Put-clause-fresh

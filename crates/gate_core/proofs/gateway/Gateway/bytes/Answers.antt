@@ -33,10 +33,10 @@ returns-clause-cut_short g c held found e =
     let changed = lent c.args.self.now.connections _ _ c.args.id (ap (λ s. s.connections) c.self.view_is) _ c.in-Some.receiver.now c.bytes.new.self c.in-Some.ensures.value (λ some. ((c.get_mut.follows.holds c.bytes.new.self).3 some).0) in
     cut_short c.args.self.now _ c.args.id _ _ (ap (settings_of c.self.inside.parameters) c.bytes.ensures.leaves.servers ∙ ap (λ s. s.settings) c.self.view_is) changed held c.args.piece.now _ _ _ (ap (λ s. s.settings) c.self.view_is) (ap (λ s. s.grid) c.self.view_is) (ap (λ s. s.tally) c.self.view_is) found (c.bytes.ensures.no_memory e) (c.bytes.ensures.stopped e)
 
-pub returns-clause-calm : goal.returns-clause-calm
-returns-clause-calm g c quiet =
+pub returns-clause-takes_no_memory : goal.returns-clause-takes_no_memory
+returns-clause-takes_no_memory g c quiet =
     let changed = lent c.args.self.now.connections _ _ c.args.id (ap (λ s. s.connections) c.self.view_is) _ c.in-Some.receiver.now c.bytes.new.self c.in-Some.ensures.value (λ some. ((c.get_mut.follows.holds c.bytes.new.self).3 some).0) in
-    c.bytes.ensures.calm (calm_lent (connection_at c.args.self.now c.args.id) _ _ changed.found quiet)
+    c.bytes.ensures.takes_no_memory (calm_lent (connection_at c.args.self.now c.args.id) _ _ changed.found quiet)
 
 pub returns-clause-others : goal.returns-clause-others
 returns-clause-others g c =

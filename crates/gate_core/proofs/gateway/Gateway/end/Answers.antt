@@ -1,7 +1,7 @@
 use Rattle.std.proofs.Common.{refl, ap, ◌∙◌}
 use Rattle.gate_core.specs.Forgotten.{with_gone}
 use Rattle.std.proofs.lemmas.Result.{on_ok_weaker}
-use Rattle.gate_core.specs.AfterCall.{ended}
+use Rattle.gate_core.specs.AfterCall.{ended_state}
 use Rattle.gate_core.proofs.Maps.{Changed-others}
 use Rattle.gate_core.proofs.Forgetting.{lent, no_entry, unheld_refused}
 use Rattle.gate_core.proofs.Arrivals.{same_state, left_by, refused, ended_came}
@@ -16,7 +16,7 @@ returns-clause-answer g c =
 pub returns-clause-left : goal.returns-clause-left
 returns-clause-left g c held found =
     let changed = lent c.args.self.now.connections _ _ c.args.id (ap (λ s. s.connections) c.self.view_is) _ c.in-Some.connection.now c.end.new.self c.in-Some.ensures.value (λ some. ((c.get_mut.follows.holds c.end.new.self).3 some).0) in
-    on_ok_weaker c.end.result (left_by c.args.self.now _ c.args.id _ _ (ap (λ s. s.settings) c.self.view_is) changed ended held (ap (λ s. s.grid) c.self.view_is) (ap (λ s. s.tally) c.self.view_is) found) c.end.ensures.left
+    on_ok_weaker c.end.result (left_by c.args.self.now _ c.args.id _ _ (ap (λ s. s.settings) c.self.view_is) changed ended_state held (ap (λ s. s.grid) c.self.view_is) (ap (λ s. s.tally) c.self.view_is) found) c.end.ensures.left
 
 pub returns-clause-others : goal.returns-clause-others
 returns-clause-others g c =

@@ -2,7 +2,7 @@ use Rattle.std.proofs.Common.{◌≡◌, ◌∙◌, ◌<◌, ◌+◌, ◌++◌, 
 use Rattle.std.specs.Rc.{rc_slice_items}
 use Rattle.share_store.specs.Shares.{Shares}
 use Rattle.grid.specs.GridState.{stood, maps_of, failures_at}
-use Rattle.grid.specs.Found.{AllBut, found_in, found_below, within, entries_at, seen}
+use Rattle.grid.specs.Found.{AllBut, found_in, found_below, below_limit, entries_at, found_bytes}
 use Rattle.grid.proofs.Gather.{all_stand}
 use Rattle.grid.proofs.Missing.{more_may_miss, all_but_both, none_missing, given_too}
 use Rattle.grid.proofs.Turns.{leaves_none, leaves_both, unchanged_none, unchanged_then}
@@ -16,13 +16,13 @@ pub loop-server-init : goal.loop-server-init
 loop-server-init g c =
     let old = c.args.self.now in
     let P : ℕ × ℕ × List ℕ → Type 0 = λ f. failures_at old f.0 < failures_at old f.0 in
-    let none : map (seen rc_slice_items) c.new-found.result.items ≡ [] = ap (map (seen rc_slice_items)) c.new-found.ensures.items in
+    let none : map (found_bytes rc_slice_items) c.new-found.result.items ≡ [] = ap (map (found_bytes rc_slice_items)) c.new-found.ensures.items in
     record {
       leaves = leaves_none old;
       stamps = refl;
       unchanged = λ all. unchanged_none old;
       found = λ all.
-          subst (λ (given : List (ℕ × ℕ × List ℕ)). AllBut P (within number c.args.limit []) given) (sym none)
+          subst (λ (given : List (ℕ × ℕ × List ℕ)). AllBut P (below_limit number c.args.limit []) given) (sym none)
           (subst (λ (low : List (ℕ × ℕ × List ℕ)). AllBut P low []) (sym (within_none number c.args.limit)) refl);
     }
 
@@ -44,14 +44,14 @@ loop-server-preserved g c =
           let Q : ℕ × ℕ × List ℕ → Type 0 = λ f. failures_at old f.0 < failures_at new f.0 in
           let before = found_below (maps_of old) c.args.index server in
           let here = found_in server c.args.index (entries_at (maps_of old) server) in
-          let so_far = map (seen rc_slice_items) c.loop-server.found.items in
+          let so_far = map (found_bytes rc_slice_items) c.loop-server.found.items in
           let more = one.found (inv.leaves.honest all) in
-          let found_here : AllBut M (within number c.args.limit here) more.0 = subst (λ (maps : List Shares). AllBut M (within number c.args.limit (found_in server c.args.index (entries_at maps server))) more.0) (inv.unchanged all).maps more.2 in
+          let found_here : AllBut M (below_limit number c.args.limit here) more.0 = subst (λ (maps : List Shares). AllBut M (below_limit number c.args.limit (found_in server c.args.index (entries_at maps server))) more.0) (inv.unchanged all).maps more.2 in
           let next : suc server ≡ server + 1 = omega arith in
-          let now_found = map (seen rc_slice_items) c.gather_at.new.found.items in
-          let low_before = within number c.args.limit before in
-          let low_here = within number c.args.limit here in
-          subst (λ n. AllBut Q (within number c.args.limit (found_below (maps_of old) c.args.index n)) now_found) next
+          let now_found = map (found_bytes rc_slice_items) c.gather_at.new.found.items in
+          let low_before = below_limit number c.args.limit before in
+          let low_here = below_limit number c.args.limit here in
+          subst (λ n. AllBut Q (below_limit number c.args.limit (found_below (maps_of old) c.args.index n)) now_found) next
           (subst (λ l. AllBut Q l now_found) (sym (within_append number c.args.limit before here))
           (subst (AllBut Q (low_before ++ low_here)) (sym more.1)
           (all_but_both Q low_before low_here so_far more.0
@@ -69,15 +69,15 @@ pub returns-clause-all : goal.returns-clause-all
 returns-clause-all g c all calm =
     let old = c.args.self.now in
     let new = c.loop-server.self in
-    let found = map (seen rc_slice_items) c.loop-server.found.items in
+    let found = map (found_bytes rc_slice_items) c.loop-server.found.items in
     let never : (f : ℕ × ℕ × List ℕ) → failures_at old f.0 < failures_at new f.0 → ⊥ = λ f lt. omega (arith, lt, calm f.0) in
     let whole : c.loop-server.server ≡ length old.stores = omega (arith, c.loop-server-test.false, c.loop-server.auto.server-end, c.servers-server-end.ensures.servers) in
-    none_missing (λ f. failures_at old f.0 < failures_at new f.0) (within number c.args.limit (found_below (maps_of old) c.args.index c.loop-server.server)) found never (c.loop-server.invariant.found all)
-    ∙ ap (λ n. within number c.args.limit (found_below (maps_of old) c.args.index n)) whole
+    none_missing (λ f. failures_at old f.0 < failures_at new f.0) (below_limit number c.args.limit (found_below (maps_of old) c.args.index c.loop-server.server)) found never (c.loop-server.invariant.found all)
+    ∙ ap (λ n. below_limit number c.args.limit (found_below (maps_of old) c.args.index n)) whole
 
 pub returns-clause-stands : goal.returns-clause-stands
 returns-clause-stands g c all =
     let old = c.args.self.now in
     let new = c.loop-server.self in
-    given_too (λ f. failures_at old f.0 < failures_at new f.0) (λ f. stood old f.0 (c.args.index, f.1) ≡ Some f.2) (within number c.args.limit (found_below (maps_of old) c.args.index c.loop-server.server)) (map (seen rc_slice_items) c.loop-server.found.items)
+    given_too (λ f. failures_at old f.0 < failures_at new f.0) (λ f. stood old f.0 (c.args.index, f.1) ≡ Some f.2) (below_limit number c.args.limit (found_below (maps_of old) c.args.index c.loop-server.server)) (map (found_bytes rc_slice_items) c.loop-server.found.items)
     (all_within (λ f. stood old f.0 (c.args.index, f.1) ≡ Some f.2) number c.args.limit (found_below (maps_of old) c.args.index c.loop-server.server) (all_stand (maps_of old) c.args.index c.loop-server.server)) (c.loop-server.invariant.found all)

@@ -6,7 +6,7 @@ use Rattle.std.specs.Rc.{rc_slice_items}
 use Rattle.grid.specs.declared.fault.GridFault.TheVariants.{NoMemory}
 use Rattle.grid.specs.Standing.{standing}
 use Rattle.grid.specs.GridState.{GridState, stood, IsHonest}
-use Rattle.grid.specs.Changed.{ArePut, StopsAt}
+use Rattle.grid.specs.Changed.{ArePut, PutStopsAt}
 use Rattle.grid.proofs.Puts.{put_none, passed_on}
 use Rattle.grid.specs.Placement.{placed}
 use Rattle.grid.proofs.Raising.{SameBut, none_there, put_raised, stops_raised, told_raised, raise_stamped, same_but_placed, by_fault, if_err_weaker}
@@ -47,7 +47,7 @@ returns-clause-stamped g c =
     let shares = map rc_slice_items c.args.shares.now in
     raise_stamped old new c.args.index (c.put_each.ensures.stamps ∙ ap (λ (g : GridState). g.stamps) is)
     (λ all. (let honest : IsHonest mid = subst IsHonest (sym is) all in
-    by_fault (SameBut c.args.index (stood old) (stood new)) (ArePut c.args.index shares mid new) (StopsAt c.args.index shares mid new) c.put_each.result
+    by_fault (SameBut c.args.index (stood old) (stood new)) (ArePut c.args.index shares mid new) (PutStopsAt c.args.index shares mid new) c.put_each.result
     (c.put_each.ensures.ok honest) c.put_each.ensures.err
     (λ p. same_but_placed (length old.stores) c.args.index shares (stood old) (stood new) (put_raised new c.args.index is shares p).stands)
     (λ e p. same_but_placed (length old.stores) c.args.index (take p.n shares) (stood old) (stood new) (put_raised new c.args.index is (take p.n shares) (p.put honest)).stands)))

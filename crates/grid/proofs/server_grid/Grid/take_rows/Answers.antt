@@ -5,7 +5,7 @@ use Rattle.grid.specs.GridState.{maps_of, room_at, IsHonest}
 use Rattle.grid.specs.Rows.{rows_of}
 use Rattle.grid.specs.Layout.{front}
 use Rattle.grid.specs.ImageHeads.{head_key}
-use Rattle.grid.specs.ImageReading.{Reading, rows_said, stopped}
+use Rattle.grid.specs.ImageReading.{RowsRead, rows_said, stopped}
 use Rattle.grid.specs.ImageSteps.{SaysRow}
 use Rattle.grid.proofs.Puts.{calm_after}
 use Rattle.grid.proofs.Turns.{leaves_none, leaves_both}
@@ -24,7 +24,7 @@ loop-done-init g c = record {
 pub returns-in_err-row-clause-reads : goal.returns-in_err-row-clause-reads
 returns-in_err-row-clause-reads g c =
     let servers = length c.args.self.now.stores in
-    let all : List ℕ → Reading = λ bytes. rows_said c.args.layout c.args.count servers None (front c.args.layout) bytes in
+    let all : List ℕ → RowsRead = λ bytes. rows_said c.args.layout c.args.count servers None (front c.args.layout) bytes in
     let good = IsHonest c.args.self.now × (rows_of (maps_of c.args.self.now) ≡ []) in
     let room = room_at c.loop-done.self in
     let held = rows_of (maps_of c.loop-done.self) in
@@ -39,7 +39,7 @@ returns-in_err-row-clause-reads g c =
 pub returns-in_err-_put-clause-reads : goal.returns-in_err-_put-clause-reads
 returns-in_err-_put-clause-reads g c =
     let servers = length c.args.self.now.stores in
-    let all : List ℕ → Reading = λ bytes. rows_said c.args.layout c.args.count servers None (front c.args.layout) bytes in
+    let all : List ℕ → RowsRead = λ bytes. rows_said c.args.layout c.args.count servers None (front c.args.layout) bytes in
     let good = IsHonest c.args.self.now × (rows_of (maps_of c.args.self.now) ≡ []) in
     let room = room_at c.put_row.new.self in
     let held = rows_of (maps_of c.loop-done.self) in
@@ -58,7 +58,7 @@ returns-in_err-_put-clause-reads g c =
 pub loop-done-preserved : goal.loop-done-preserved
 loop-done-preserved g c =
     let servers = length c.args.self.now.stores in
-    let all : List ℕ → Reading = λ bytes. rows_said c.args.layout c.args.count servers None (front c.args.layout) bytes in
+    let all : List ℕ → RowsRead = λ bytes. rows_said c.args.layout c.args.count servers None (front c.args.layout) bytes in
     let good = IsHonest c.args.self.now × (rows_of (maps_of c.args.self.now) ≡ []) in
     let held = rows_of (maps_of c.loop-done.self) in
     let new = rows_of (maps_of c.put_row.new.self) in
@@ -80,7 +80,7 @@ loop-done-preserved g c =
 pub returns-in_err-expect_end-clause-reads : goal.returns-in_err-expect_end-clause-reads
 returns-in_err-expect_end-clause-reads g c =
     let servers = length c.args.self.now.stores in
-    let all : List ℕ → Reading = λ bytes. rows_said c.args.layout c.args.count servers None (front c.args.layout) bytes in
+    let all : List ℕ → RowsRead = λ bytes. rows_said c.args.layout c.args.count servers None (front c.args.layout) bytes in
     let good = IsHonest c.args.self.now × (rows_of (maps_of c.args.self.now) ≡ []) in
     let room = room_at c.loop-done.self in
     let held = rows_of (maps_of c.loop-done.self) in
@@ -92,7 +92,7 @@ returns-in_err-expect_end-clause-reads g c =
 pub returns-clause-reads : goal.returns-clause-reads
 returns-clause-reads g c =
     let servers = length c.args.self.now.stores in
-    let all : List ℕ → Reading = λ bytes. rows_said c.args.layout c.args.count servers None (front c.args.layout) bytes in
+    let all : List ℕ → RowsRead = λ bytes. rows_said c.args.layout c.args.count servers None (front c.args.layout) bytes in
     let good = IsHonest c.args.self.now × (rows_of (maps_of c.args.self.now) ≡ []) in
     let room = room_at c.loop-done.self in
     let held = rows_of (maps_of c.loop-done.self) in

@@ -3,7 +3,7 @@ use Rattle.std.proofs.lemmas.List.{take_all}
 use Rattle.std.specs.List.{flat_map}
 use Rattle.std.specs.Option.{option_map}
 use Rattle.share_store.specs.Stored.{entry_of}
-use Rattle.share_store.specs.Shares.{Shares, Entry}
+use Rattle.share_store.specs.Shares.{Shares, ShareEntry}
 use Rattle.grid.specs.GridState.{maps_of}
 use Rattle.grid.specs.Found.{entries_at}
 use Rattle.grid.specs.Image.{row_bytes, refused_field}
@@ -25,7 +25,7 @@ loop-at-preserved g c =
     let inv = c.loop-at.invariant in
     let one = c.in_ok-share_at.ensures in
     let share = c.in-Some.share in
-    let row : Entry → Row = λ e. (server, e) in
+    let row : ShareEntry → Row = λ e. (server, e) in
     record {
       leaves = leaves_both c.args.self.now c.loop-at.self c.share_at.new.self inv.leaves one.leaves;
       stamps = one.stamps ∙ inv.stamps;
@@ -45,7 +45,7 @@ loop-at-preserved g c =
 pub returns-clause-ok : goal.returns-clause-ok
 returns-clause-ok g c =
     let inv = c.loop-at.invariant in
-    let row : Entry → Row = λ e. (c.args.server, e) in (
+    let row : ShareEntry → Row = λ e. (c.args.server, e) in (
       inv.done.0,
       inv.done.1,
       λ all. (
@@ -58,7 +58,7 @@ pub returns-in-None-clause-ok : goal.returns-in-None-clause-ok
 returns-in-None-clause-ok g c =
     let inv = c.loop-at.invariant in
     let server = c.args.server in
-    let row : Entry → Row = λ e. (server, e) in (
+    let row : ShareEntry → Row = λ e. (server, e) in (
       inv.done.0,
       inv.done.1,
       λ all. (
@@ -70,7 +70,7 @@ returns-in-None-clause-ok g c =
 pub returns-in_err-share_at-clause-err : goal.returns-in_err-share_at-clause-err
 returns-in_err-share_at-clause-err g c all =
     let inv = c.loop-at.invariant in
-    let row : Entry → Row = λ e. (c.args.server, e) in
+    let row : ShareEntry → Row = λ e. (c.args.server, e) in
     let es = entries_at (maps_of c.args.self.now) c.args.server in
     let old = g.W.Write.contents c.args.writer.now in
     let new = g.W.Write.contents c.loop-at.writer in
@@ -84,7 +84,7 @@ returns-in_err-write_row-in-Some-clause-err g c all =
     let inv = c.loop-at.invariant in
     let server = c.args.server in
     let share = c.in-Some.share in
-    let row : Entry → Row = λ e. (server, e) in
+    let row : ShareEntry → Row = λ e. (server, e) in
     let es = entries_at (maps_of c.args.self.now) server in
     let old = g.W.Write.contents c.args.writer.now in
     let mid = g.W.Write.contents c.loop-at.writer in
@@ -101,7 +101,7 @@ returns-in_err-write_row-in-Some-clause-bad_image g c all place is more =
     let inv = c.loop-at.invariant in
     let server = c.args.server in
     let share = c.in-Some.share in
-    let row : Entry → Row = λ e. (server, e) in
+    let row : ShareEntry → Row = λ e. (server, e) in
     let es = entries_at (maps_of c.args.self.now) server in
     let rest = map row (drop (c.loop-at.at + 1) es) in
     let at : slice_get es c.loop-at.at ≡ Some (entry_of share) = sym (sym (ap (option_map entry_of) c.in-Some.is) ∙ c.in_ok-share_at.ensures.found (inv.leaves.honest all) ∙ ap (λ maps. slice_get (entries_at maps server) c.loop-at.at) (inv.unchanged all).maps) in

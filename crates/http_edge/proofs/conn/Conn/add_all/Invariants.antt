@@ -1,5 +1,5 @@
 use Rattle.std.proofs.Common.{◌≡◌, ◌++◌, length}
-use Rattle.http_edge.specs.Left.{frame_from, rest_from}
+use Rattle.http_edge.specs.FramingState.{frame_from, rest_from}
 use Rattle.http_edge.proofs.conn.Conn.add_all.Given as goal
 
 abbrev pub invariant-loop-bytes : goal.invariant-loop-bytes

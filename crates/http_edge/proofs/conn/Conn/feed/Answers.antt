@@ -1,5 +1,5 @@
 use Rattle.std.proofs.Common.{subst, ◌≡◌, [], ◌++◌, sym, ap, ◌∙◌}
-use Rattle.http_edge.specs.Left.{frame_from, rest_from}
+use Rattle.http_edge.specs.FramingState.{frame_from, rest_from}
 use Rattle.http_edge.specs.State.{IsSettled}
 use Rattle.http_edge.proofs.FrameLemmas.{joined_by, kept_by, empty_from}
 use Rattle.http_edge.proofs.LineLemmas.{nothing_more, closed_more, waiting_settled}

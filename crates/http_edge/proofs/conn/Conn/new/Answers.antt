@@ -1,5 +1,5 @@
 use Rattle.std.proofs.Common.{sym, ap, ◌∙◌}
-use Rattle.http_edge.specs.Left.{part_of}
+use Rattle.http_edge.specs.FramingState.{part_of}
 use Rattle.http_edge.proofs.FrameLemmas.{rest-nil}
 use Rattle.http_edge.proofs.conn.Conn.new.Goals as goal
 

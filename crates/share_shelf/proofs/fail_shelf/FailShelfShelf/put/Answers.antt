@@ -2,7 +2,7 @@ use Rattle.std.proofs.Common.{refl}
 use Rattle.std.specs.FinMap.{insert}
 use Rattle.std.specs.Rc.{rc_slice_items}
 use Rattle.share_store.specs.Shares.{Shares}
-use Rattle.share_shelf.specs.Left.{IsEither}
+use Rattle.share_shelf.specs.CrashStates.{IsEither}
 use Rattle.share_shelf.proofs.Inside.{keeps_as, goes_as, leaves_as, each_as, maybe_as}
 use Rattle.share_shelf.proofs.fail_shelf.FailShelfShelf.put.Goals as goal
 

@@ -1,7 +1,7 @@
 use Rattle.std.proofs.Common.{refl}
 use Rattle.std.specs.FinMap.{remove}
 use Rattle.share_store.specs.Shares.{Shares}
-use Rattle.share_shelf.specs.Left.{IsEither}
+use Rattle.share_shelf.specs.CrashStates.{IsEither}
 use Rattle.share_shelf.proofs.Inside.{keeps_as, goes_as, leaves_as, each_as, maybe_as}
 use Rattle.share_shelf.proofs.fail_shelf.FailShelfShelf.remove.Goals as goal
 

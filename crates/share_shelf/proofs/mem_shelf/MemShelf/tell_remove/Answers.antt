@@ -1,7 +1,7 @@
 use Rattle.std.proofs.Common.{ap, sym, ◌∙◌, None, List}
 use Rattle.std.specs.FinMap.{empty, remove}
 use Rattle.share_store.specs.Shares.{Shares}
-use Rattle.share_shelf.specs.Kept.{told_of, after}
+use Rattle.share_shelf.specs.Kept.{told_of, after_changes}
 use Rattle.share_shelf.specs.declared.mem_shelf.Change.{Change}
 use Rattle.share_shelf.proofs.Moments.{after_more}
 use Rattle.share_shelf.proofs.mem_shelf.MemShelf.tell_remove.Goals as goal
@@ -14,5 +14,5 @@ invariant_of-self-2 c =
       told = c.remove-bytes.ensures.shares
           ∙ ap (λ (n : Shares). remove n (c.args.index, c.args.number)) c.args.self.now.told
           ∙ sym (after_more past change empty)
-          ∙ ap (λ (l : List Change). after (told_of l) empty) (sym c.in_ok-push.ensures.items);
+          ∙ ap (λ (l : List Change). after_changes (told_of l) empty) (sym c.in_ok-push.ensures.items);
     }

@@ -11,4 +11,4 @@ pub returns-in-None-clause-found : goal.returns-in-None-clause-found
 returns-in-None-clause-found g c h same =
     let key : ShareKey = (c.args.index, c.args.number) in
     let self = c.args.self.now in
-    sym (none_as (known self.index) (as_before (in_doubt self.doubt) (g.H.Shelf.shares self.shelf)) (self.in_step.sizes h) key (sym c.get.ensures ∙ ap (option_map blank) c.in-None.is))
+    sym (none_as (known self.sizes) (as_before (in_doubt self.doubt) (g.H.Shelf.shares self.shelf)) (self.in_step.sizes h) key (sym c.get.ensures ∙ ap (option_map blank) c.in-None.is))

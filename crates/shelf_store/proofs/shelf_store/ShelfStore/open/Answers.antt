@@ -1,6 +1,6 @@
 use Rattle.std.proofs.Common.{refl, subst, sym, ap, ◌∙◌}
 use Rattle.std.specs.Prelude.{IsTrue}
-use Rattle.share_shelf.specs.Left.{Keeps}
+use Rattle.share_shelf.specs.CrashStates.{Keeps}
 use Rattle.shelf_store.specs.Sizes.{sizes_of}
 use Rattle.shelf_store.proofs.Steps.{quiet_keeps}
 use Rattle.shelf_store.proofs.shelf_store.ShelfStore.open.Goals as goal

@@ -46,6 +46,6 @@ returns-then-is_empty-clause-given g c h =
     let found : get (standing self) (c.args.index, c.args.number) ≡ Some (rc_slice_items c.in-Some-2.bytes) =
     sym (read g (goal.at.returns-then-is_empty-clause-given g c).In_ok-bytes h) ∙ ap (option_map rc_slice_items) c.in-Some-2.is in
     let some : 0 < length (rc_slice_items c.in-Some-2.bytes) =
-    found_from_all (standing self) (some_as (known self.index) (standing self) (self.in_step.sizes h) self.index.some) (c.args.index, c.args.number) (rc_slice_items c.in-Some-2.bytes) found in
+    found_from_all (standing self) (some_as (known self.sizes) (standing self) (self.in_step.sizes h) self.sizes.some) (c.args.index, c.args.number) (rc_slice_items c.in-Some-2.bytes) found in
     let none : length c.deref.result.now ≡ 0 = eqb-true (length c.deref.result.now) 0 (sym c.is_empty.ensures ∙ c.if-is_empty.true) in
     absurd (omega (arith, some, none, c.deref.ensures.len))

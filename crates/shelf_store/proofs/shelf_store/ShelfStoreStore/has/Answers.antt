@@ -9,4 +9,4 @@ pub returns-clause-found : goal.returns-clause-found
 returns-clause-found g c h same =
     let self = c.args.self.now in
     let key : ShareKey = (c.args.index, c.args.number) in
-    sym (is_in (known self.index) (as_before (in_doubt self.doubt) (g.H.Shelf.shares self.shelf)) (self.in_step.sizes h) key c.is_some.result c.get.result c.is_some.ensures c.get.ensures)
+    sym (is_in (known self.sizes) (as_before (in_doubt self.doubt) (g.H.Shelf.shares self.shelf)) (self.in_step.sizes h) key c.is_some.result c.get.result c.is_some.ensures c.get.ensures)

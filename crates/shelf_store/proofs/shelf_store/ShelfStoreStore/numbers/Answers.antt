@@ -8,4 +8,4 @@ pub returns-clause-found : goal.returns-clause-found
 returns-clause-found g c h same =
     let self = c.args.self.now in
     subst (λ (ns : List ℕ). IfOk c.numbers.result (λ numbers. numbers.items ≡ ns))
-    (numbers_as (known self.index) (as_before (in_doubt self.doubt) (g.H.Shelf.shares self.shelf)) (self.in_step.sizes h) c.args.index) c.numbers.ensures
+    (numbers_as (known self.sizes) (as_before (in_doubt self.doubt) (g.H.Shelf.shares self.shelf)) (self.in_step.sizes h) c.args.index) c.numbers.ensures
