@@ -23,6 +23,13 @@ test -z "$(ls "$prefix")" || fail 'what was refused was written'
 (cd "$prefix" && find . -type f | sort | xargs sha256sum) > "$folder/once"
 "$installer" --program "$program" --connections 5000 "$prefix" > "$folder/given"
 (cd "$prefix" && find . -type f | sort | xargs sha256sum) | cmp - "$folder/once" || fail 'twice makes something else'
+test ! -e "$prefix/share/wozhinnam/commit" || fail 'a program from elsewhere is told its commit'
+"$installer" --program "$program" --commit 0123abc --connections 5000 "$prefix" > "$folder/given"
+test "$("$prefix/bin/wozhinnam" --version)" = "$("$program" --version) (0123abc)" || fail 'the version has another commit'
+"$installer" --program "$program" --commit 'not one' --connections 5000 "$prefix" > "$folder/given"
+test "$("$prefix/bin/wozhinnam" --version)" = "$("$program" --version)" || fail 'the version has what is no commit'
+"$installer" --program "$program" --connections 5000 "$prefix" > "$folder/given"
+(cd "$prefix" && find . -type f | sort | xargs sha256sum) | cmp - "$folder/once" || fail 'a commit is left'
 for page in "$here"/../../pages/*; do
     cmp "$page" "$prefix/share/wozhinnam/pages/${page##*/}" || fail "the page ${page##*/} is another"
 done
@@ -70,7 +77,9 @@ if test "$(ulimit -H -n)" = unlimited || test "$(ulimit -H -n)" -ge "$(said Limi
     $curl "$base/" | cmp - "$here/../../pages/index.html" || fail 'the unit serves no page'
     test "$(ls -d "$folder"/[0-9] | wc -l)" = 5 || fail 'the unit has not five stores'
     MAINPID=$(pgrep -P "$server")
-    eval "$(said ExecStop= | sed "s/\${CONTROL}/$CONTROL/; s/\${MAINPID}/$MAINPID/")" > "$folder/given" || fail 'the stop of the unit fails'
+    TOKEN=$(said Environment=TOKEN=)
+    export TOKEN
+    eval "$(said ExecStop= | sed "s/\${CONTROL}/$CONTROL/; s/\${MAINPID}/$MAINPID/; s/%%/%/g; s/\\\$\\\$/\$/g")" > "$folder/given" || fail 'the stop of the unit fails'
     test ! -e "/proc/$MAINPID" || fail 'the stop of the unit does not wait for the end'
     wait "$server" || fail "the program of the unit ends with $?"
     server=

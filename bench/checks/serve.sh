@@ -1,7 +1,7 @@
 #!/bin/sh
 # `wozhinnam serve`, the built program: each exit status that a run can have, curl and wget at once (clients.sh), chunked
 # uploads, `Expect: 100-continue`, a refusal that arrives though all of its body was sent first, the control requests, which
-# web pages are refused, and a stop. It needs curl, wget and python3, and takes a minute.
+# web pages are refused, times of requests, a stop, and a control token. It needs curl, wget and python3, and takes a minute.
 # usage: bench/checks/serve.sh PROGRAM
 set -eu
 program=${1:?usage: bench/checks/serve.sh PROGRAM}
@@ -128,19 +128,47 @@ assert status["received"] > 8 * 1000000 and status["sent"] > 8 * 1000000, status
 assert 0 < status["uptime_seconds"] < 600, status
 assert "wozhinnam " + status["version"] == sys.argv[1], status
 ' "$("$program" --version)" || fail 'the status'
-$curl "$control/metrics" | python3 -c '
+$curl "$control/metrics" > "$folder/metrics"
+python3 - "$folder/metrics" << 'END' || fail 'the lines of the metrics'
 import re, sys
-said = {"HELP": set(), "TYPE": set()}
-for line in sys.stdin.read().splitlines():
+said = {"HELP": {}, "TYPE": {}}
+times, replies = {}, 0
+for line in open(sys.argv[1]).read().splitlines():
     if line.startswith("# "):
         kind, name, text = line[2:].split(" ", 2)
         assert text and name not in said[kind], line
-        said[kind].add(name)
+        said[kind][name] = text
+        continue
+    name, labels, value = re.fullmatch(r'(wozhinnam_[a-z_]+)(?:\{((?:[a-z]+="[^"]*",?)+)\})? ([0-9]+(?:\.[0-9]+)?)', line).groups()
+    labels = dict(re.findall(r'([a-z]+)="([^"]*)"', labels or ""))
+    if name.startswith("wozhinnam_request_seconds_"):
+        times.setdefault(labels.pop("kind"), []).append((name[len("wozhinnam_request_seconds_"):], labels, value))
+        name = "wozhinnam_request_seconds"
     else:
-        name, labels, value = re.fullmatch(r"(wozhinnam_[a-z_]+)(\{[a-z]+=\"[^\"]*\"\})? ([0-9]+)", line).groups()
-        assert name in said["HELP"] and name in said["TYPE"], line
-assert said["HELP"] == said["TYPE"] and len(said["HELP"]) == 18, said
-' || fail 'the lines of the metrics'
+        assert value.isdigit(), line
+    replies += int(value) if name == "wozhinnam_replies_total" else 0
+    assert name in said["HELP"] and name in said["TYPE"], line
+assert said["HELP"].keys() == said["TYPE"].keys() and len(said["HELP"]) == 19, said
+assert said["TYPE"]["wozhinnam_request_seconds"] == "histogram", said
+# each histogram: bounds that rise to +Inf, numbers that don't fall, the last of which is that of all, and a sum
+assert sorted(times) == ["get", "head", "other", "post", "put"], times
+count = {}
+for kind, lines in times.items():
+    buckets, (summed, _, total), (counted, _, number) = lines[:-2], lines[-2], lines[-1]
+    assert [name for name, _, _ in buckets] == ["bucket"] * 10 and (summed, counted) == ("sum", "count"), lines
+    bounds = [float(labels["le"]) for _, labels, _ in buckets]
+    numbers = [int(value) for _, _, value in buckets]
+    assert bounds == sorted(set(bounds)) and bounds[0] == 0.001 and bounds[-2] == 10 and bounds[-1] == float("inf"), bounds
+    assert numbers == sorted(numbers) and numbers[-1] == int(number), lines
+    # at most the bound of each bucket, and at least the one before it, but for those past 10 seconds
+    news = [after - before for before, after in zip([0] + numbers, numbers)]
+    assert sum(n * low for n, low in zip(news, [0] + bounds)) <= float(total), lines
+    assert news[-1] or float(total) <= sum(n * high for n, high in zip(news, bounds) if n), lines
+    count[kind] = int(number)
+# each of these clients waits for its reply, so there is a time of each reply
+assert sum(count.values()) == replies, (count, replies)
+assert all(count[kind] > 0 for kind in ("get", "head", "put", "post")), count
+END
 $curl "$control/metrics" | grep -q "^wozhinnam_build_info{version=\"$("$program" --version | cut -d' ' -f2)\"} 1\$" || fail 'the version in the metrics'
 $curl "$control/metrics" | grep -q '^wozhinnam_connections_opened_total [1-9]' || fail 'the metrics'
 for status in 200 206 400 404; do
@@ -161,4 +189,48 @@ wait "$server" || status=$?
 server=
 test "$status" = 0 || fail "the program's status is $status"
 grep -q 'URI:' "$folder/words" && fail 'a cap in the log'
+
+# a token: without it each control request is 401 and changes nothing, with it all is as without
+token=$(head -c 24 /dev/urandom | base64)
+ends 7 serve --control-token-file "$folder/none"
+for bytes in '' '\n' 'two words\n' 'secret\r\n' '\303\244\n'; do
+    printf "$bytes" > "$folder/token"
+    ends 8 serve --control-token-file "$folder/token"
+done
+head -c 257 /dev/zero | tr '\0' a > "$folder/token"
+ends 8 serve --control-token-file "$folder/token"
+echo "$token" > "$folder/token"
+start --control-token-file "$folder/token"
+port=${control##*:}
+refused() {
+    for path in status metrics stop elsewhere; do
+        test "$(code "$@" "$control/$path")" = 401 || fail "/$path with $*"
+        test "$(code -X POST "$@" "$control/$path")" = 401 || fail "POST /$path with $*"
+    done
+    grep -q '^refused: ' "$folder/back" || fail "a 401 says $(cat "$folder/back")"
+}
+refused
+refused -H "Authorization: Bearer ${token%?}"
+refused -H "Authorization: Bearer ${token}x"
+refused -H "Authorization: Bearer  $token"
+refused -H "Authorization: Bearer"
+refused -H "Authorization: $token"
+refused -H "Authorization: Basic $token"
+refused -H "Token: Bearer $token"
+refused -u "Bearer:$token"
+test "$(code --head "$control/stop")" = 401 || fail 'a head without the token'
+grep -qi '^WWW-Authenticate: Bearer' "$folder/back" || fail 'a 401 has no challenge'
+grep -q refused "$folder/back" && fail 'a head without the token has a body'
+test "$(code -X POST -H "Authorization: Bearer $token" -H 'Origin: null' "$control/stop")" = 403 || fail 'a page with the token'
+test "$(code -X POST -H "Authorization: Bearer $token" -H 'Host: elsewhere.invalid' "$control/stop")" = 403 || fail 'another Host with the token'
+test "$(code "$base/uri/URI:LIT:my")" = 200 || fail 'a refused stop stops'
+test "$(code -H "Authorization: bearer $token" "$control/metrics")" = 200 || fail 'the metrics with the token'
+test "$(code -H "AUTHORIZATION: Bearer $token" "$control/status")" = 200 || fail 'the status with the token'
+test "$(code -H "Authorization: Bearer $token" "$control/elsewhere")" = 404 || fail 'nothing with the token'
+test "$($curl -X POST -H "Authorization: Bearer $token" "$control/stop")" = stopping || fail 'the stop with the token'
+status=0
+wait "$server" || status=$?
+server=
+test "$status" = 0 || fail "the program's status is $status with a token"
+grep -qF "$token" "$folder/words" "$folder/out" && fail 'the token in the log'
 echo 'serve: all as it is to be'
