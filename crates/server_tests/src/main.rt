@@ -9,9 +9,6 @@ mod missing;
 /// Words, control requests, figures, and one folder.
 #[cfg(test)]
 mod serving;
-/// A grid in folders, laid into others.
-#[cfg(test)]
-mod reshaping;
 
 /// Nothing: the tests are all that this crate has.
 fn main() {}
