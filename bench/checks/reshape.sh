@@ -122,7 +122,8 @@ ends 19 'into folders of another number of servers' $(folders old 3) --into $(fo
 ends 18 'into folders in another order' $(folders old 3) --into "$folder/five/1" "$folder/five/0" "$folder/five/2" "$folder/five/3" "$folder/five/4"
 ends 12 'into a folder above which there is none' $(folders old 3) --into "$folder/none/0" "$folder/nowhere/1"
 ends 2 'into no folders' $(folders old 3)
-ends 2 'into too many folders' $(folders old 3) --into $(folders none 257)
+# `--into` takes 256 paths: one behind them is a folder of the grid, which has no fourth
+ends 24 'into too many folders' $(folders old 3) --into $(folders none 257)
 test -z "$(ls "$folder/none")" || fail "a call that is refused makes folders: $(ls "$folder/none")"
 sums five | cmp - "$folder/before" || fail 'a call that is refused writes'
 
