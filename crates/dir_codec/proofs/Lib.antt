@@ -8,6 +8,7 @@ pub mod Finding
 pub mod Written
 pub mod Cuts
 pub mod Belong
+pub mod Ends
 pub mod Fields
 pub mod Making
 pub mod SoundLemmas
@@ -15,4 +16,5 @@ pub mod Printed
 pub mod Spellings
 pub mod Refused
 pub mod OneMember
+pub mod OnePass
 pub mod Gathering

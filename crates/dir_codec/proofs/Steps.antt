@@ -1,5 +1,5 @@
 -- Reading a directory text entry by entry.
-use Rattle.std.proofs.Common.{◌≡◌, ◌==◌, ℕ, zero, suc, ◌+◌, ◌<◌, ◌≤◌, true, false, List, [], ◌∷◌, ◌++◌, length, drop, Option, Some, None, option_and_then, Result, Ok, Err, IfOk, refl, sym, ap, ◌∙◌, arith, append_assoc, length-drop}
+use Rattle.std.proofs.Common.{◌≡◌, ◌==◌, ℕ, zero, suc, ◌+◌, ◌-◌, ◌<◌, ◌≤◌, true, false, List, [], ◌∷◌, ◌++◌, length, drop, Option, Some, None, option_and_then, Result, Ok, Err, IfOk, refl, sym, ap, subst, ◌∙◌, arith, append_assoc, length-drop}
 use Rattle.std.proofs.lemmas.Bool.{eqb-true, eqb-false}
 use Rattle.tag_hash.specs.Netstring.{netstring}
 use Rattle.tag_hash.specs.NetstringAt.{netstring_at, span_bytes}
@@ -59,6 +59,30 @@ entry_shorter_at law bytes None at found is = absurd cc
 -- what follows an entry is shorter
 pub entry_shorter : NothingElse → (bytes : List ℕ) (found : EntryTexts × List ℕ) → first_entry bytes ≡ Some found → length found.1 < length bytes
 entry_shorter law bytes found is = entry_shorter_at law bytes (first_netstring bytes) refl found is
+
+cut_rest : (bytes : List ℕ) (r : Result (Span × ℕ) NetFault) → IfOk r (λ read. (read.0.start + read.0.len + 1 ≡ read.1) × (read.1 ≤ length bytes) × (bytes ≡ netstring (span_bytes read.0 bytes) ++ drop read.1 bytes))
+    → (found : List ℕ × List ℕ) → cut_netstring bytes r ≡ Some found → found.1 ≡ drop (length bytes - length found.1) bytes
+cut_rest bytes (Ok read) facts found is =
+    let same : drop read.1 bytes ≡ found.1 = ap (λ (p : List ℕ × List ℕ). p.1) (let h : (span_bytes read.0 bytes, drop read.1 bytes) ≡ found = cc in h) in
+    let long = length-drop read.1 bytes in
+    let size = ap length same in
+    let last = facts.1 in
+    sym same ∙ ap (λ n. drop n bytes) (let e : read.1 ≡ length bytes - length found.1 = omega arith in e)
+cut_rest bytes (Err fault) facts found is = absurd cc
+
+netstring_rest : NothingElse → (bytes : List ℕ) (found : List ℕ × List ℕ) → first_netstring bytes ≡ Some found → found.1 ≡ drop (length bytes - length found.1) bytes
+unfolding first_netstring
+netstring_rest law bytes found is = cut_rest bytes (netstring_at bytes 0) (law bytes 0) found is
+
+entry_rest_at : NothingElse → (bytes : List ℕ) (o : Option (List ℕ × List ℕ)) → first_netstring bytes ≡ o → (found : EntryTexts × List ℕ)
+    → option_and_then (λ two. texts_before two.1 (four_texts two.0)) o ≡ Some found → found.1 ≡ drop (length bytes - length found.1) bytes
+entry_rest_at law bytes (Some two) at found is =
+    subst (λ (l : List ℕ). l ≡ drop (length bytes - length l) bytes) (before_shorter two.1 (four_texts two.0) found is) (netstring_rest law bytes two at)
+entry_rest_at law bytes None at found is = absurd cc
+
+-- what follows an entry is an end of the bytes
+pub entry_rest : NothingElse → (bytes : List ℕ) (found : EntryTexts × List ℕ) → first_entry bytes ≡ Some found → found.1 ≡ drop (length bytes - length found.1) bytes
+entry_rest law bytes found is = entry_rest_at law bytes (first_netstring bytes) refl found is
 
 then_same : (f g : List ℕ → List ℕ → Result (List Entry) DirFault) (rest : List ℕ) (r : Result Entry DirFault) → ((last : List ℕ) → f last rest ≡ g last rest) → then_more f rest r ≡ then_more g rest r
 then_same f g rest (Ok entry) same = ap (before_more entry) (same entry.name)

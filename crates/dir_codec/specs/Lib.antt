@@ -1,10 +1,12 @@
 -- Read DirectoryText first, over Names, Metadata and Entries; then Reading and Faults, and Children with MadeOf.
 pub mod Names
 pub mod Metadata
+pub mod Spelled
 pub mod Entries
 pub mod DirectoryText
 pub mod Parts
 pub mod Reading
+pub mod First
 pub mod Faults
 pub mod Find
 pub mod Cuts

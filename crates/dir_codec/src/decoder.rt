@@ -11,10 +11,11 @@ ghost use Rattle.dir_codec.specs.Cuts.{texts_now};
 ghost use Rattle.dir_codec.specs.declared.fault.DirFault.TheVariants.{NoMemory};
 
 use crate::directory::Directory;
+use crate::entries::{last_name, read_first};
 use crate::entry::Entry;
 use crate::fault::DirFault;
 use crate::metadata::read_metadata;
-use crate::parts::{Parts, first_entry};
+use crate::parts::Parts;
 use caps::{Cap, parse_bytes};
 use octets::Text;
 use std::alloc::{AllocError, Global};
@@ -38,24 +39,18 @@ fn read_entries(alloc: Global, text: &[u8]) -> Result<Vec<Entry>, DirFault>
     ensures kept { IfOk result (λ entries. IsDirectory entries.items) }
     ensures err { IfErr result (λ fault. fault ≢ NoMemory → directory_reading text.now ≡ Err fault) }
 {
-    tag_hash::laws::netstrings_are_read_back();
     let mut entries = Vec::new(alloc);
-    let mut last: &[u8] = &[];
     let mut rest = text;
     while !rest.is_empty() {
-        let Some((parts, more)) = first_entry(rest) else {
-            return Err(DirFault::Torn);
-        };
-        let entry = read_entry(alloc, parts, last)?;
+        let (entry, size) = read_first(alloc, last_name(&entries), rest)?;
         entries.push(entry)?;
-        last = parts.name;
-        rest = more;
+        rest = &rest[size..];
     }
     Ok(entries)
 }
 
 /// The entry of four texts, after an entry of that name.
-fn read_entry(alloc: Global, parts: Parts<'_>, last: &[u8]) -> Result<Entry, DirFault>
+pub(crate) fn read_entry(alloc: Global, parts: Parts<'_>, last: &[u8]) -> Result<Entry, DirFault>
     ensures ok { IfOk result (λ entry. entry_reading last.now (texts_now parts.entry) ≡ Ok entry) }
     ensures name { IfOk result (λ entry. entry.name ≡ parts.entry.name.now) }
     ensures kept { IfOk result (λ entry. IsEntry entry) }

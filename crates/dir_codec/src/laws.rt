@@ -7,7 +7,7 @@ ghost use Rattle.dir_codec.specs.Sound.{IsSound};
 ghost use Rattle.dir_codec.specs.Metadata.{metadata_of, spelling_of};
 ghost use Rattle.dir_codec.specs.Entries.{IsDirectory};
 ghost use Rattle.dir_codec.specs.DirectoryText.{IsDirectoryText, directory_text};
-ghost use Rattle.dir_codec.specs.Reading.{directory_reading, children};
+ghost use Rattle.dir_codec.specs.Reading.{reading_after, directory_reading, children};
 ghost use Rattle.dir_codec.specs.Children.{making, made};
 ghost use Rattle.dir_codec.specs.MadeOf.{AreMadeOf, RefusesJson};
 ghost use Rattle.dir_codec.specs.Faults.{RefusesDirectory};
@@ -37,6 +37,14 @@ pub fn texts_are_refused_for_the_first_fault()
 {
     netstrings_are_read_back();
     reading_is_decided();
+}
+
+/// What stands behind an entry is a directory's text by itself, with the same entries.
+pub fn ends_of_texts_are_texts()
+    ensures { (last text : List ℕ) (entries : List Entry) → reading_after last text ≡ Ok entries
+        → directory_reading text ≡ Ok entries }
+{
+    netstrings_are_read_back();
 }
 
 /// The text that is written for a directory belongs to it, so it is read back.

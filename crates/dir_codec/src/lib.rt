@@ -10,6 +10,8 @@ mod entry;
 mod fault;
 /// From a text to the directory whose text it is.
 mod decoder;
+/// The entries of a directory text, one at a time.
+mod entries;
 /// From a directory to its text.
 mod encoder;
 /// From the JSON that a client names children with to their directory.
@@ -18,6 +20,8 @@ mod child;
 mod parts;
 /// Metadata, and their one spelling.
 mod metadata;
+/// The one spelling of JSON, written while its tokens are read.
+mod spelling;
 
 /// What holds of directory texts.
 pub mod laws;
@@ -26,5 +30,6 @@ pub use child::from_children_json;
 pub use decoder::decode;
 pub use directory::Directory;
 pub use encoder::encode;
+pub use entries::read_first;
 pub use entry::Entry;
 pub use fault::{DirFault, is_memory};

@@ -2,10 +2,11 @@
 ghost use Rattle.std.specs.Prelude.{◌≡◌, ◌≢◌, Some, None, IfOk, IfErr, option_map};
 ghost use Rattle.serde_json.specs.View.{view, items_view, members_view};
 ghost use Rattle.serde_json.specs.Written.{has_float, items_have_float, members_have_float};
-ghost use Rattle.dir_codec.specs.Metadata.{json_of, is_whole, items_are_whole, members_are_whole, is_metadata, spelling_of};
+ghost use Rattle.dir_codec.specs.Metadata.{json_of, is_whole, items_are_whole, members_are_whole, spelling_of};
 ghost use Rattle.dir_codec.specs.declared.fault.DirFault.TheVariants.{NoMemory, BadMetadata};
 
 use crate::fault::DirFault;
+use crate::spelling::spell_text;
 use octets::Text;
 use serde_json::{Map, Value};
 use std::alloc::{AllocError, Global};
@@ -20,13 +21,13 @@ pub(crate) fn read_metadata(alloc: Global, bytes: &[u8]) -> Result<Text, DirFaul
     ensures err { IfErr result (λ fault. fault ≢ NoMemory → spelling_of bytes.now ≡ None) }
     ensures cause { IfErr result (λ fault. fault ≢ NoMemory → fault ≡ BadMetadata) }
 {
-    let Some(value) = parse_json(alloc, bytes)? else {
+    let Ok(text) = str::from_utf8(bytes) else {
         return Err(DirFault::BadMetadata);
     };
-    if !is_metadata(&value) {
+    let Some(spelling) = spell_text(alloc, text)? else {
         return Err(DirFault::BadMetadata);
-    }
-    Ok(Text::from_string(value.to_string(alloc)?))
+    };
+    Ok(Text::from_string(spelling))
 }
 
 /// The JSON that bytes are, None where they are none. `Err` only where memory is refused.
@@ -43,13 +44,6 @@ pub(crate) fn parse_json(alloc: Global, bytes: &[u8]) -> Result<Option<Value>, A
             }
         }
     }
-}
-
-/// Whether a value is an object in which each number is whole and which nests at most 100 levels.
-pub(crate) fn is_metadata(value: &Value) -> bool
-    ensures { result ≡ is_metadata (view value.now) }
-{
-    value.is_object() && is_whole(value, MOST_LEVELS)
 }
 
 /// Whether each number is whole, and arrays and objects nest at most so many levels.

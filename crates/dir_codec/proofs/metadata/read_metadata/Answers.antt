@@ -1,24 +1,23 @@
-use Rattle.std.proofs.Common.{Some, option_map, string_bytes, sym, ap, ◌∙◌}
+use Rattle.std.proofs.Common.{[], string_bytes}
 use Rattle.std.proofs.lemmas.Str.{IsUtf8-string_bytes}
-use Rattle.serde_json.specs.View.{view}
-use Rattle.dir_codec.proofs.Json.{none_spelled, other_spelled, spelled, written, spells_itself}
+use Rattle.json.specs.Lex.{tokens}
+use Rattle.dir_codec.specs.Spelled.{SpellsMetadata}
+use Rattle.dir_codec.proofs.OnePass.{no_text, unspelled, spelled_bytes, kept_spelled}
 use Rattle.dir_codec.proofs.metadata.read_metadata.Goals as goal
 
 pub returns-in_default-clause-err : goal.returns-in_default-clause-err
-returns-in_default-clause-err c other = none_spelled c.args.bytes.now (sym c.in_ok-value.ensures ∙ ap (option_map view) c.in_default.is)
+returns-in_default-clause-err c other = no_text c.args.bytes.now c.in_default.ensures.cases.0
 
-pub returns-then-not-is_metadata-clause-err : goal.returns-then-not-is_metadata-clause-err
-returns-then-not-is_metadata-clause-err c other =
-    other_spelled c.args.bytes.now (view c.in-Some.value) (sym c.in_ok-value.ensures ∙ ap (option_map view) c.in-Some.is) (sym c.is_metadata.ensures ∙ c.if-not-is_metadata.true)
+pub returns-in_default-2-clause-err : goal.returns-in_default-2-clause-err
+returns-in_default-2-clause-err c other =
+    unspelled c.args.bytes.now c.in-Ok.text.now c.in-Ok.ensures.cases.0 (rw c.in_default-2.is at c.in_ok-spelling.ensures)
 
 pub returns-clause-ok : goal.returns-clause-ok
 returns-clause-ok c =
-    let good = sym c.is_metadata.ensures ∙ c.if-not-is_metadata.false in
-    let json = sym c.in_ok-value.ensures ∙ ap (option_map view) c.in-Some.is in
-    let text = string_bytes c.in_ok-to_string.field-0 in
-    rw c.from_string.ensures (spelled c.args.bytes.now (view c.in-Some.value) json good ∙ ap Some (sym (written (view c.in-Some.value) text good c.in_ok-to_string.ensures.text)))
+    let made : SpellsMetadata (tokens c.in-Ok.text.now) [] (string_bytes c.in-Some.spelling) = rw c.in-Some.is at c.in_ok-spelling.ensures in
+    rw c.from_string.ensures (spelled_bytes c.args.bytes.now c.in-Ok.text.now (string_bytes c.in-Some.spelling) c.in-Ok.ensures.cases.0 c.in-Ok.ensures.cases.1 made)
 
 pub returns-clause-kept : goal.returns-clause-kept
 returns-clause-kept c =
-    let good = sym c.is_metadata.ensures ∙ c.if-not-is_metadata.false in
-    rw c.from_string.ensures (spells_itself (view c.in-Some.value) _ (IsUtf8-string_bytes c.in_ok-to_string.field-0) good c.in_ok-to_string.ensures.text c.in_ok-to_string.ensures.reads_back)
+    let made : SpellsMetadata (tokens c.in-Ok.text.now) [] (string_bytes c.in-Some.spelling) = rw c.in-Some.is at c.in_ok-spelling.ensures in
+    rw c.from_string.ensures (kept_spelled c.in-Ok.text.now (string_bytes c.in-Some.spelling) (IsUtf8-string_bytes c.in-Some.spelling) made)
