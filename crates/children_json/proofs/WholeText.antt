@@ -9,7 +9,8 @@ use Rattle.caps.specs.declared.cap.Cap.{Cap}
 use Rattle.caps.specs.declared.cap.Cap.TheVariants.{Chk, Lit, DirChk, DirLit, ChkVerify, DirChkVerify}
 use Rattle.dir_codec.specs.Entries.{AreEntriesAbove, IsDirectory}
 use Rattle.dir_codec.specs.declared.entry.Entry.{Entry}
-use Rattle.json_view.proofs.Commas.{parted, parted_joined}
+use Rattle.json_view.specs.Listings.{with_commas}
+use Rattle.json_view.proofs.Commas.{parted_joined}
 use Rattle.children_json.specs.Texts.{kind, metadata_data, entry_value, entries_value, entry_member, children_text}
 use Rattle.children_json.proofs.Spelled.{IsSpelled, spelled}
 
@@ -36,7 +37,7 @@ entry_written entry metadata =
     ap (λ t. text_of entry.name ++ 58 ∷ 91 ∷ 34 ∷ t) (closed (kind entry.cap) (codes ",{\"metadata\":") entry.metadata (codes ",\"ro_uri\":") (text_of (cap_text entry.cap)))
     ∙ (λ i. text_of entry.name ++ 58 ∷ 91 ∷ (quoted i ++ (codes ",{\"metadata\":" ++ ((metadata.is i ++ (codes ",\"ro_uri\":" ++ (text_of (cap_text entry.cap) ++ 125 ∷ []))) ++ 93 ∷ []))))
 
-entries_written : (later : Bool) (name : List ℕ) (entries : List Entry) → AreEntriesAbove name entries → parted later (map entry_member entries) (125 ∷ []) ≡ members_text later (entries_value entries)
+entries_written : (later : Bool) (name : List ℕ) (entries : List Entry) → AreEntriesAbove name entries → with_commas later (map entry_member entries) (125 ∷ []) ≡ members_text later (entries_value entries)
 unfolding text_of
 entries_written later name [] all = refl
 entries_written later name (entry ∷ more) all =

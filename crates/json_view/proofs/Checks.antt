@@ -13,7 +13,8 @@ use Rattle.dir_codec.specs.Sound.{ItemsAreSound}
 use Rattle.json_view.specs.Strings.{quoted, truth}
 use Rattle.json_view.specs.Checks.{bad_share_text, counts_text, check_text, literal_check_text}
 use Rattle.json_view.specs.Values.{share_value, shares_value, check_value, literal_check_value, IsCounted}
-use Rattle.json_view.proofs.Commas.{parted, parted_joined}
+use Rattle.json_view.specs.Listings.{with_commas}
+use Rattle.json_view.proofs.Commas.{parted_joined}
 use Rattle.json_view.proofs.ReadBack.{ValuesAreReadBack, read_as}
 
 -- ---- shares
@@ -22,7 +23,7 @@ share_written : (index : List ℕ) (share : ℕ × ℕ) → bad_share_text (quot
 unfolding quoted bad_share_text
 share_written index share = refl
 
-pub shares_written : (later : Bool) (index : List ℕ) (shares : List (ℕ × ℕ)) → parted later (map (bad_share_text (quoted (spelling index))) shares) (93 ∷ []) ≡ items_text later (shares_value index shares)
+pub shares_written : (later : Bool) (index : List ℕ) (shares : List (ℕ × ℕ)) → with_commas later (map (bad_share_text (quoted (spelling index))) shares) (93 ∷ []) ≡ items_text later (shares_value index shares)
 shares_written later index [] = refl
 shares_written later index (share ∷ more) =
     let first = share_written index share in

@@ -4,14 +4,10 @@ use Rattle.std.specs.List.{join_with_byte}
 use Rattle.std.proofs.lemmas.Bool.{lt-ltb}
 use Rattle.std.proofs.lemmas.List.{map_more}
 use Rattle.serde_json.specs.Written.{comma_if}
+use Rattle.json_view.specs.Listings.{with_commas}
 use Rattle.json_view.proofs.Pushed.{three_put}
 
--- each text with the comma that stands before it, and then an end
-abbrev pub parted : Bool → List (List ℕ) → List ℕ → List ℕ
-parted later [] end = end
-parted later (text ∷ more) end = comma_if later ++ (text ++ parted true more end)
-
-pub parted_joined : (texts : List (List ℕ)) (end : List ℕ) → parted false texts end ≡ join_with_byte 44 texts ++ end
+pub parted_joined : (texts : List (List ℕ)) (end : List ℕ) → with_commas false texts end ≡ join_with_byte 44 texts ++ end
 parted_joined [] end = refl
 parted_joined (text ∷ []) end = refl
 parted_joined (text ∷ second ∷ more) end =

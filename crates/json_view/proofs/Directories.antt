@@ -15,7 +15,8 @@ use Rattle.dir_codec.specs.declared.entry.Entry.{Entry}
 use Rattle.json_view.specs.Strings.{quoted, needs_no_escape}
 use Rattle.json_view.specs.Nodes.{node_kind, node_members, child_text, dir_text}
 use Rattle.json_view.specs.Values.{file_size, metadata_value, child_value, children_value, dir_value}
-use Rattle.json_view.proofs.Commas.{parted, parted_joined}
+use Rattle.json_view.specs.Listings.{with_commas}
+use Rattle.json_view.proofs.Commas.{parted_joined}
 use Rattle.json_view.proofs.Lengths.{CapsAreRead, SizesFit, sizes_fit}
 use Rattle.json_view.proofs.Metadata.{IsTextOf, spelled_value}
 use Rattle.json_view.proofs.Nodes.{node_written, node_sound, node_whole, node_flat, below_node}
@@ -59,7 +60,7 @@ child_shallow entry metadata =
 
 -- ---- the children
 
-children_written : (later : Bool) (name : List ℕ) (entries : List Entry) → AreEntriesAbove name entries → parted later (map child_text entries) (125 ∷ []) ≡ members_text later (children_value entries)
+children_written : (later : Bool) (name : List ℕ) (entries : List Entry) → AreEntriesAbove name entries → with_commas later (map child_text entries) (125 ∷ []) ≡ members_text later (children_value entries)
 unfolding quoted
 children_written later name [] all = refl
 children_written later name (entry ∷ more) all =

@@ -18,7 +18,8 @@ use Rattle.serde_json.specs.Written.{comma_if}
 use Rattle.json_view.specs.Strings.{quoted}
 use Rattle.json_view.specs.Nodes.{size_member, verify_member, node_kind, node_members, child_text, dir_text}
 use Rattle.json_view.specs.Values.{file_size}
-use Rattle.json_view.proofs.Commas.{parted, parted_joined}
+use Rattle.json_view.specs.Listings.{with_commas}
+use Rattle.json_view.proofs.Commas.{parted_joined}
 
 abbrev pub CapsAreRead : Type 0
 CapsAreRead = (text : List ℕ) (cap : Cap) → IsCapText cap text ↔ (cap_reading text ≡ Ok cap)
@@ -112,10 +113,10 @@ child_fits caps entry is below =
     let cap = cap_within entry.cap in
     size_fits entry.cap ((caps (cap_text entry.cap) entry.cap).1 is.cap) (omega (arith, below, node, cap))
 
-parted_fit : CapsAreRead → (later : Bool) (name : List ℕ) (entries : List Entry) → AreEntriesAbove name entries → length (parted later (map child_text entries) []) < 2 ^ 64 → SizesFit entries
+parted_fit : CapsAreRead → (later : Bool) (name : List ℕ) (entries : List Entry) → AreEntriesAbove name entries → length (with_commas later (map child_text entries) []) < 2 ^ 64 → SizesFit entries
 parted_fit caps later name [] all below = tt
 parted_fit caps later name (entry ∷ more) all below =
-    let both = parts_below (comma_if later) (child_text entry) (parted true (map child_text more) []) (2 ^ 64) below in
+    let both = parts_below (comma_if later) (child_text entry) (with_commas true (map child_text more) []) (2 ^ 64) below in
     (child_fits caps entry all.1 both.0, parted_fit caps true entry.name more all.2 both.1)
 
 pub sizes_fit : CapsAreRead → (cap : Cap) (entries : List Entry) → IsDirectory entries → length (dir_text cap entries) < 2 ^ 64 → SizesFit entries

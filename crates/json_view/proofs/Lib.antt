@@ -1,6 +1,7 @@
 pub mod Pushed
 pub mod Plain
 pub mod Commas
+pub mod Listings
 pub mod Sharemap
 pub mod Replies
 pub mod ReadBack

@@ -13,7 +13,8 @@ use Rattle.json_view.specs.Strings.{quoted, truth}
 use Rattle.json_view.specs.Checks.{bad_share_text, counts_text, with_place, sharemap, servers_text, sharemap_text, mapped_check_text}
 use Rattle.json_view.specs.Values.{shares_value, servers_value, sharemap_value, mapped_check_value, in_key_order, IsCounted}
 use Rattle.json_view.proofs.Checks.{Fits, shares_written, shares_shallow, truth_written, before}
-use Rattle.json_view.proofs.Commas.{parted, parted_joined}
+use Rattle.json_view.specs.Listings.{with_commas}
+use Rattle.json_view.proofs.Commas.{parted_joined}
 use Rattle.json_view.proofs.Ordered.{IsWhole, ItemsAreWhole, MembersAreWhole, ordered_read}
 use Rattle.json_view.proofs.Sharemap.{group_put}
 
@@ -22,13 +23,13 @@ use Rattle.json_view.proofs.Sharemap.{group_put}
 item_closed : (a b c d : List ℕ) → a ++ (b ++ (c ++ d)) ≡ (a ++ (b ++ c)) ++ d
 item_closed a b c d = simp append_assoc
 
-servers_written : (later : Bool) (servers more : List ℕ) → parted later (map decimal servers) (93 ∷ more) ≡ items_text later (servers_value servers) ++ more
+servers_written : (later : Bool) (servers more : List ℕ) → with_commas later (map decimal servers) (93 ∷ more) ≡ items_text later (servers_value servers) ++ more
 servers_written later [] more = refl
 servers_written later (server ∷ servers) more =
     ap (λ t. comma_if later ++ (decimal server ++ t)) (servers_written true servers more)
     ∙ item_closed (comma_if later) (decimal server) (items_text true (servers_value servers)) more
 
-groups_written : (later : Bool) (groups : List (ℕ × List ℕ)) → parted later (map servers_text groups) (125 ∷ []) ≡ members_text later (sharemap_value groups)
+groups_written : (later : Bool) (groups : List (ℕ × List ℕ)) → with_commas later (map servers_text groups) (125 ∷ []) ≡ members_text later (sharemap_value groups)
 unfolding quoted
 groups_written later [] = refl
 groups_written later (group ∷ more) =

@@ -1,5 +1,5 @@
 -- Whole replies, from the pieces that were put.
-use Rattle.std.proofs.Common.{◌≡◌, ℕ, ◌==◌, nat_le, List, [], ◌∷◌, ◌++◌, length, map, codes, decimal, ap, ◌∙◌, append_assoc, append-nil}
+use Rattle.std.proofs.Common.{◌≡◌, ℕ, ◌==◌, nat_le, false, List, [], ◌∷◌, ◌++◌, length, map, codes, decimal, ap, ◌∙◌, append_assoc, append-nil}
 use Rattle.std.specs.List.{concat, join_with_byte}
 use Rattle.base32_text.specs.Base32.{spelling}
 use Rattle.caps.specs.declared.cap.Cap.{Cap}
@@ -8,6 +8,7 @@ use Rattle.dir_codec.specs.declared.entry.Entry.{Entry}
 use Rattle.json_view.specs.Strings.{quoted, truth}
 use Rattle.json_view.specs.Checks.{bad_share_text, counts_text, check_text, sharemap_text, mapped_check_text}
 use Rattle.json_view.specs.Nodes.{node_kind, node_members, child_text, dir_text}
+use Rattle.json_view.specs.Listings.{head_unless, dir_end}
 use Rattle.json_view.proofs.Pushed.{three_put, four_put, last_put}
 
 pub check_put : (index : List ℕ) (health : HealthValue) (i j t : List ℕ) (shares : List (ℕ × ℕ)) (x y new : List ℕ)
@@ -59,13 +60,12 @@ child_put entry kind metadata name old x y z new pn pk pm one two three four =
     three (last_put _ _ _ four)
     ∙ ap (λ t. old ++ (quoted entry.name ++ t)) (regroup (codes ":[\"") (node_kind entry.cap) (codes "\",{\"metadata\":") entry.metadata (codes ",") (node_members entry.cap ++ (codes "}]" ++ [])))
 
-pub dir_put : (cap : Cap) (entries lent : List Entry) (w x y z new : List ℕ) → lent ≡ entries → w ≡ codes "[\"dirnode\",{\"children\":{" → x ≡ w ++ join_with_byte 44 (map child_text lent)
-    → y ≡ x ++ codes "}," → z ≡ y ++ node_members cap → new ≡ z ++ codes "}]" → new ≡ dir_text cap entries
+pub dir_put : (cap : Cap) (entries lent : List Entry) (w x y new : List ℕ) → lent ≡ entries → w ≡ [] → x ≡ w ++ head_unless false → y ≡ x ++ join_with_byte 44 (map child_text lent)
+    → new ≡ y ++ dir_end cap → new ≡ dir_text cap entries
 unfolding dir_text
-dir_put cap entries lent w x y z new pl head one two three four =
-    four_put w (join_with_byte 44 (map child_text entries)) (codes "},") (node_members cap) (codes "}]" ++ []) x y z new
-    (one ∙ ap (λ t. w ++ join_with_byte 44 (map child_text t)) pl) two three (last_put _ _ _ four)
-    ∙ ap (λ t. t ++ (join_with_byte 44 (map child_text entries) ++ (codes "}," ++ (node_members cap ++ (codes "}]" ++ []))))) head
+dir_put cap entries lent w x y new pl none one two three =
+    three_put w (head_unless false) (join_with_byte 44 (map child_text entries)) (dir_end cap) x y new one (two ∙ ap (λ t. x ++ join_with_byte 44 (map child_text t)) pl) three
+    ∙ ap (λ t. t ++ (head_unless false ++ (join_with_byte 44 (map child_text entries) ++ dir_end cap))) none
 
 pub counts_put : (health : HealthValue) (a b d e t old new : List ℕ)
     → a ≡ decimal (length health.corrupt) → b ≡ decimal health.expected → d ≡ decimal health.good → e ≡ decimal health.needed → t ≡ truth (health.good == health.expected)

@@ -8,7 +8,8 @@ use Rattle.std.proofs.lemmas.List.Folds.{list_all-append}
 use Rattle.serde_json.specs.Written.{comma_if}
 use Rattle.json_view.specs.Strings.{quoted, needs_no_escape}
 use Rattle.json_view.specs.Checks.{with_place, sharemap, servers_places, servers_text, sharemap_text, place_text, end_text}
-use Rattle.json_view.proofs.Commas.{parted, parted_joined}
+use Rattle.json_view.specs.Listings.{with_commas}
+use Rattle.json_view.proofs.Commas.{parted_joined}
 use Rattle.json_view.proofs.Plain.{plain_text_quoted}
 
 -- ---- a number as a key
@@ -75,16 +76,16 @@ left_text before (place ∷ more) = place_text before place.0 place.1 ++ left_te
 abbrev all_text : Bool → List (ℕ × List ℕ) → List ℕ
 all_text later [] = 125 ∷ []
 all_text later (group ∷ more) =
-    comma_if later ++ (quoted (decimal group.0) ++ 58 ∷ 91 ∷ parted false (map decimal group.1) (93 ∷ all_text true more))
+    comma_if later ++ (quoted (decimal group.0) ++ 58 ∷ 91 ∷ with_commas false (map decimal group.1) (93 ∷ all_text true more))
 
 -- the same in the list of a number, which the first of them may be
 abbrev in_list : ℕ → List (ℕ × List ℕ) → List ℕ
 in_list number [] = 93 ∷ 125 ∷ []
-in_list number (group ∷ more) = cond (number == group.0) (parted true (map decimal group.1) (93 ∷ all_text true more)) (93 ∷ all_text true (group ∷ more))
+in_list number (group ∷ more) = cond (number == group.0) (with_commas true (map decimal group.1) (93 ∷ all_text true more)) (93 ∷ all_text true (group ∷ more))
 
 module _ (server number : ℕ) (servers : List ℕ) (more : List (ℕ × List ℕ)) where
   abbrev after : List ℕ
-  after = parted true (map decimal servers) (93 ∷ all_text true more)
+  after = with_commas true (map decimal servers) (93 ∷ all_text true more)
 
   put_first : place_text None server number ++ after ≡ all_text false ((number, server ∷ servers) ∷ more)
   put_first = append_assoc (quoted (decimal number)) (58 ∷ 91 ∷ decimal server) after
@@ -101,7 +102,7 @@ with_first : (place : ℕ × ℕ) (groups : List (ℕ × List ℕ)) → place_te
 with_first place [] = put_first place.0 place.1 [] []
 with_first place (group ∷ more) = by_case (place.1 == group.0)
   where
-    by_case : (same : Bool) → place_text None place.0 place.1 ++ cond same (parted true (map decimal group.1) (93 ∷ all_text true more)) (93 ∷ all_text true (group ∷ more))
+    by_case : (same : Bool) → place_text None place.0 place.1 ++ cond same (with_commas true (map decimal group.1) (93 ∷ all_text true more)) (93 ∷ all_text true (group ∷ more))
         ≡ all_text false (cond same ((place.1, place.0 ∷ group.1) ∷ more) ((place.1, place.0 ∷ []) ∷ group ∷ more))
     by_case true = put_first place.0 place.1 group.1 more
     by_case false = put_first place.0 place.1 [] (group ∷ more)
@@ -110,7 +111,7 @@ with_later : (before : ℕ) (place : ℕ × ℕ) (groups : List (ℕ × List ℕ
 with_later before place [] = put_later place.0 place.1 [] [] before
 with_later before place (group ∷ more) = by_case (place.1 == group.0)
   where
-    by_case : (same : Bool) → place_text (Some before) place.0 place.1 ++ cond same (parted true (map decimal group.1) (93 ∷ all_text true more)) (93 ∷ all_text true (group ∷ more))
+    by_case : (same : Bool) → place_text (Some before) place.0 place.1 ++ cond same (with_commas true (map decimal group.1) (93 ∷ all_text true more)) (93 ∷ all_text true (group ∷ more))
         ≡ in_list before (cond same ((place.1, place.0 ∷ group.1) ∷ more) ((place.1, place.0 ∷ []) ∷ group ∷ more))
     by_case true = put_later place.0 place.1 group.1 more before
     by_case false = put_later place.0 place.1 [] (group ∷ more) before
@@ -128,13 +129,13 @@ left_all (place ∷ more) = ap (λ t. place_text None place.0 place.1 ++ t) (lef
 group_closed : (key servers more : List ℕ) → (key ++ 58 ∷ 91 ∷ (servers ++ 93 ∷ [])) ++ more ≡ key ++ 58 ∷ 91 ∷ (servers ++ 93 ∷ more)
 group_closed key servers more = simp append_assoc
 
-pub group_put : (group : ℕ × List ℕ) (more : List ℕ) → servers_text group ++ more ≡ quoted (decimal group.0) ++ 58 ∷ 91 ∷ parted false (map decimal group.1) (93 ∷ more)
+pub group_put : (group : ℕ × List ℕ) (more : List ℕ) → servers_text group ++ more ≡ quoted (decimal group.0) ++ 58 ∷ 91 ∷ with_commas false (map decimal group.1) (93 ∷ more)
 unfolding servers_text
 group_put group more =
     group_closed (quoted (decimal group.0)) (join_with_byte 44 (map decimal group.1)) more
     ∙ ap (λ t. quoted (decimal group.0) ++ 58 ∷ 91 ∷ t) (sym (parted_joined (map decimal group.1) (93 ∷ more)))
 
-all_parted : (later : Bool) (groups : List (ℕ × List ℕ)) → all_text later groups ≡ parted later (map servers_text groups) (125 ∷ [])
+all_parted : (later : Bool) (groups : List (ℕ × List ℕ)) → all_text later groups ≡ with_commas later (map servers_text groups) (125 ∷ [])
 all_parted later [] = refl
 all_parted later (group ∷ more) =
     ap (λ t. comma_if later ++ t) (sym (group_put group (all_text true more)) ∙ ap (λ t. servers_text group ++ t) (all_parted true more))

@@ -4,6 +4,8 @@
 
 /// Nodes: files, and directories with their children.
 mod node;
+/// The JSON of directories that is made as it is taken.
+mod listing;
 /// Checks.
 mod report;
 /// Pieces of text, put after one another.
@@ -12,5 +14,6 @@ mod text;
 /// What holds of the replies.
 pub mod laws;
 
+pub use listing::Listing;
 pub use node::{dir_json, file_json};
 pub use report::{check_json, literal_check_json, mapped_check_json};

@@ -1,8 +1,9 @@
 //! Nodes: files, and directories with their children.
-ghost use Rattle.std.specs.Prelude.{◌≡◌, ◌++◌, map, IfOk, OnOk};
+ghost use Rattle.std.specs.Prelude.{◌≡◌, ◌++◌, false, map, IfOk, OnOk};
 ghost use Rattle.std.specs.List.{join_with_byte};
 ghost use Rattle.caps.specs.Weakening.{weakened};
 ghost use Rattle.json_view.specs.Nodes.{size_member, verify_member, node_members, node_kind, file_text, child_text, dir_text};
+ghost use Rattle.json_view.specs.Listings.{head_unless, dir_end};
 
 use crate::text::{put_all, put_cap, put_comma, put_string};
 use caps::{Cap, weaken};
@@ -24,16 +25,32 @@ pub fn file_json(alloc: Global, cap: &Cap) -> Result<Vec<u8>, AllocError>
 
 /// The JSON of a directory: its children in the order of their names, its cap, and the verify cap, which a directory
 /// whose bytes stand in its cap has not. Children of a child are not listed. Refused only where memory is.
-#[tactic(auto, unfolding(crate::specs::Nodes::dir_text))]
 pub fn dir_json(alloc: Global, cap: &Cap, directory: &Directory) -> Result<Vec<u8>, AllocError>
     ensures { IfOk result (λ text. text.items ≡ dir_text cap.now directory.now) }
 {
-    let mut out = Vec::from_slice(alloc, b"[\"dirnode\",{\"children\":{")?;
+    let mut out = Vec::new(alloc);
+    put_dir_head(&mut out)?;
     put_children(alloc, &mut out, directory.entries())?;
-    out.extend_from_slice(b"},")?;
-    put_members(alloc, &mut out, cap)?;
-    out.extend_from_slice(b"}]")?;
+    put_dir_end(alloc, &mut out, cap)?;
     Ok(out)
+}
+
+/// Puts what stands before the children of a directory.
+pub(crate) fn put_dir_head(out: &mut Vec<u8>) -> Result<(), AllocError>
+    ensures { OnOk result (out.new.items ≡ out.old.items ++ head_unless false) }
+{
+    out.extend_from_slice(b"[\"dirnode\",{\"children\":{")?;
+    Ok(())
+}
+
+/// Puts what stands behind the children of a directory: its own members.
+pub(crate) fn put_dir_end(alloc: Global, out: &mut Vec<u8>, cap: &Cap) -> Result<(), AllocError>
+    ensures { OnOk result (out.new.items ≡ out.old.items ++ dir_end cap.now) }
+{
+    out.extend_from_slice(b"},")?;
+    put_members(alloc, out, cap)?;
+    out.extend_from_slice(b"}]")?;
+    Ok(())
 }
 
 /// Puts the members of `children`.
@@ -50,7 +67,7 @@ fn put_children(alloc: Global, out: &mut Vec<u8>, entries: &[Entry]) -> Result<(
 
 /// Puts a child under its name, with its metadata.
 #[tactic(auto, unfolding(crate::specs::Nodes::child_text))]
-fn put_child(alloc: Global, out: &mut Vec<u8>, entry: &Entry) -> Result<(), AllocError>
+pub(crate) fn put_child(alloc: Global, out: &mut Vec<u8>, entry: &Entry) -> Result<(), AllocError>
     ensures { OnOk result (out.new.items ≡ out.old.items ++ child_text entry.now) }
 {
     put_string(alloc, out, entry.name.as_str())?;

@@ -3,5 +3,5 @@ use Rattle.json_view.proofs.node.dir_json.Goals as goal
 
 pub returns : goal.returns
 returns c =
-    dir_put c.args.cap.now c.args.directory.now _ _ _ _ _ _ c.entries.ensures.same c.in_ok-out.ensures.items
-    c.in_ok-put_children.ensures c.in_ok-extend_from_slice.ensures.items c.in_ok-put_members.ensures c.in_ok-extend_from_slice-2.ensures.items
+    dir_put c.args.cap.now c.args.directory.now _ _ _ _ _ c.entries.ensures.same c.new-out.ensures.items
+    c.in_ok-put_dir_head.ensures c.in_ok-put_children.ensures c.in_ok-put_dir_end.ensures

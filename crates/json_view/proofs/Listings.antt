@@ -1,0 +1,173 @@
+-- The JSON of a directory that is made of its text, child by child.
+use Rattle.std.proofs.Common.{◌≡◌, ◌==◌, ℕ, ◌+◌, ◌-◌, ◌<◌, ◌≤◌, nat_lt, Bool, true, false, List, [], ◌∷◌, ◌++◌, length, map, drop, Result, Ok, Err, if◌then◌else◌, refl, sym, ap, subst, ◌∙◌, arith, append_assoc, append-nil, length-append}
+use Rattle.std.proofs.lemmas.Bool.{lt-ltb, eqb-true, eqb-false}
+use Rattle.std.proofs.lemmas.List.{drop_all}
+use Rattle.std.specs.List.{join_with_byte}
+use Rattle.serde_json.specs.Written.{comma_if}
+use Rattle.caps.specs.declared.cap.Cap.{Cap}
+use Rattle.dir_codec.specs.Reading.{before_more, reading_after, directory_reading}
+use Rattle.dir_codec.specs.declared.entry.Entry.{Entry}
+use Rattle.dir_codec.specs.declared.fault.DirFault.{DirFault}
+use Rattle.json_view.specs.Nodes.{child_text, dir_text}
+use Rattle.json_view.specs.Listings.{IsListingOf, entries_read, entries_in, with_commas, head_unless, dir_end, children_from, listing_left, IsReadable, IsListing, IsChildPut, IsCountOfChildren, AreChildrenPut, IsPiece}
+use Rattle.json_view.proofs.Commas.{parted_joined}
+
+-- ---- entries
+
+begins : (text : List ℕ) → reading_after [] text ≡ directory_reading text
+unfolding directory_reading
+begins text = refl
+
+read_none : (last : List ℕ) → reading_after last [] ≡ Ok []
+unfolding reading_after
+read_none last = refl
+
+none_in : entries_in [] ≡ []
+none_in = ap entries_read (sym (begins []) ∙ read_none [])
+
+more_read : (entry : Entry) (r : Result (List Entry) DirFault) (entries : List Entry) → before_more entry r ≡ Ok entries → (r ≡ Ok (entries_read r)) × (entries ≡ entry ∷ entries_read r)
+more_read entry (Ok more) entries is = (refl, cc)
+more_read entry (Err fault) entries is = absurd cc
+
+later_place : (at next : ℕ) → at < next → nat_lt 0 next ≡ true
+later_place at next further = lt-ltb 0 next (omega arith)
+
+-- ---- children that are put
+
+-- what stands behind an entry is a text by itself
+abbrev pub EndsAreTexts : Type 0
+EndsAreTexts = (last text : List ℕ) (entries : List Entry) → reading_after last text ≡ Ok entries → directory_reading text ≡ Ok entries
+
+regroup : (old comma child rest : List ℕ) → old ++ (comma ++ (child ++ rest)) ≡ (old ++ (comma ++ child)) ++ rest
+regroup old comma child rest = simp append_assoc
+
+pub child_put : EndsAreTexts → (text : List ℕ) (at next : ℕ) (old new : List ℕ) (entry : Entry) → IsReadable at text → IsChildPut [] text at old new entry next → AreChildrenPut text at old new next
+child_put ends text at next old new entry readable put =
+    let r = reading_after entry.name (drop next text) in
+    let both = more_read entry r (entries_in (drop at text)) (sym put.read ∙ begins (drop at text) ∙ readable.read) in
+    let rest : directory_reading (drop next text) ≡ Ok (entries_read r) = ends entry.name (drop next text) (entries_read r) both.0 in
+    let is : entries_in (drop next text) ≡ entries_read r = ap entries_read rest in
+    let later = later_place at next put.further in
+    record {
+      readable = record { within = put.within; read = rest ∙ ap Ok (sym is) };
+      put = λ end.
+          ap (λ entries. old ++ with_commas (nat_lt 0 at) (map child_text entries) end) both.1
+          ∙ regroup old (comma_if (nat_lt 0 at)) (child_text entry) (with_commas true (map child_text (entries_read r)) end)
+          ∙ (λ i. sym put.put i ++ with_commas (sym later i) (map child_text (sym is i)) end);
+    }
+
+pub children_put : (text : List ℕ) (from at next : ℕ) (old middle new : List ℕ) → AreChildrenPut text from old middle at → AreChildrenPut text at middle new next → AreChildrenPut text from old new next
+children_put text from at next old middle new first second = record {
+  readable = second.readable;
+  put = λ end. first.put end ∙ second.put end;
+}
+
+-- ---- pieces
+
+nothing_from : (text end : List ℕ) (at : ℕ) → length text ≤ at → children_from at text end ≡ end
+nothing_from text end at past =
+    ap (λ t. with_commas (nat_lt 0 at) (map child_text (entries_in t)) end) (drop_all at text past)
+    ∙ ap (λ entries. with_commas (nat_lt 0 at) (map child_text entries) end) none_in
+
+pub piece_put : (text end : List ℕ) (at next : ℕ) (head middle piece : List ℕ) (ended : Bool) → head ≡ head_unless (nat_lt 0 at) → AreChildrenPut text at head middle next
+    → (next < length text → (0 < next) × (0 < length middle)) → piece ≡ middle ++ (if ended then end else []) → ended ≡ (next == length text) → IsPiece text end at piece next ended
+piece_put text end at next head middle piece true begun put some is at_end =
+    let past : length text ≤ next = (let e = eqb-true next (length text) (sym at_end) in omega arith) in
+    record {
+      readable = put.readable;
+      some = λ no. absurd cc;
+      is = ap (λ t. t ++ children_from at text end) (sym begun) ∙ put.put end ∙ ap (λ t. middle ++ t) (nothing_from text end next past) ∙ sym is ∙ sym (append-nil piece);
+    }
+piece_put text end at next head middle piece false begun put some is at_end =
+    let other = eqb-false next (length text) (sym at_end) in
+    let within = put.readable.within in
+    let inside : next < length text = omega (arith, other, within) in
+    let same : piece ≡ middle = is ∙ append-nil middle in
+    let later = later_place 0 next (some inside).0 in
+    record {
+      readable = put.readable;
+      some = λ no. subst (λ t. 0 < length t) (sym same) (some inside).1;
+      is = ap (λ t. t ++ children_from at text end) (sym begun) ∙ put.put end ∙ (λ i. sym same i ++ (head_unless (sym later i) ++ children_from next text end));
+    }
+
+pub piece_given : (ended last : Bool) (at next left : ℕ) (text end piece : List ℕ) → 0 < left → left ≡ length (listing_left ended at text end) → IsPiece text end at piece next last
+    → (0 < length piece) × (listing_left ended at text end ≡ piece ++ listing_left last next text end)
+piece_given true last at next left text end piece some counted is = absurd (omega arith)
+piece_given false true at next left text end piece some counted is =
+    let same : left ≡ length piece = counted ∙ ap length (is.is ∙ append-nil piece) in
+    (omega arith, is.is)
+piece_given false false at next left text end piece some counted is = (is.some refl, is.is)
+
+pub left_is : (left : ℕ) (whole piece rest : List ℕ) → left ≡ length whole → whole ≡ piece ++ rest → (length piece ≤ left) × (left - length piece ≡ length rest)
+left_is left whole piece rest counted is =
+    let e : left ≡ length piece + length rest = counted ∙ ap length is ∙ length-append piece rest in
+    (omega arith, omega arith)
+
+-- ---- how many bytes there are
+
+-- the entries from a place on make up what is not counted yet
+pub record IsCountedTo (last text : List ℕ) (at count : ℕ) : Type 0 where
+  pub within : at ≤ length text
+  pub read : (more : List Entry) → reading_after last (drop at text) ≡ Ok more
+      → (directory_reading text ≡ Ok (entries_in text)) × (count + length (with_commas (nat_lt 0 at) (map child_text more) []) ≡ length (children_from 0 text []))
+  pub refused : (fault : DirFault) → reading_after last (drop at text) ≡ Err fault → directory_reading text ≡ Err fault
+
+pub count_begun : (last text : List ℕ) → last ≡ [] → IsCountedTo last text 0 0
+count_begun last text empty =
+    let begun : reading_after last text ≡ directory_reading text = ap (λ t. reading_after t text) empty ∙ begins text in
+    record {
+      within = omega arith;
+      read = λ more is.
+          let whole : directory_reading text ≡ Ok more = sym begun ∙ is in
+          let same : more ≡ entries_in text = sym (ap entries_read whole) in
+          let e : length (with_commas false (map child_text more) []) ≡ length (with_commas false (map child_text (entries_in text)) []) = ap (λ entries. length (with_commas false (map child_text entries) [])) same in
+          (whole ∙ ap Ok same, omega (arith, e));
+      refused = λ fault is. sym begun ∙ is;
+    }
+
+count_more : (count : ℕ) (comma text rest child : List ℕ) (all : ℕ) → child ≡ [] ++ (comma ++ text) → count + length (comma ++ (text ++ rest)) ≡ all → (count + length child) + length rest ≡ all
+count_more count comma text rest child all is whole =
+    let a = length-append comma (text ++ rest) in
+    let b = length-append text rest in
+    let e : length child ≡ length comma + length text = ap length is ∙ length-append comma text in
+    omega arith
+
+pub count_step : (last name text : List ℕ) (at next count : ℕ) (none child : List ℕ) (entry : Entry) → IsCountedTo last text at count → none ≡ [] → IsChildPut last text at none child entry next → name ≡ entry.name
+    → IsCountedTo name text next (count + length child)
+count_step last name text at next count none child entry counted empty put named =
+    let later = later_place at next put.further in
+    let read = put.read ∙ ap (λ t. before_more entry (reading_after t (drop next text))) (sym named) in
+    record {
+      within = put.within;
+      read = λ more is.
+          let both = counted.read (entry ∷ more) (read ∙ ap (before_more entry) is) in (
+            both.0,
+            ap (λ b. (count + length child) + length (with_commas b (map child_text more) [])) later
+                ∙ count_more count (comma_if (nat_lt 0 at)) (child_text entry) (with_commas true (map child_text more) []) child _ (put.put ∙ ap (λ t. t ++ (comma_if (nat_lt 0 at) ++ child_text entry)) empty) both.1,
+          );
+      refused = λ fault is. counted.refused fault (read ∙ ap (before_more entry) is);
+    }
+
+pub count_done : (last text : List ℕ) (at count : ℕ) → IsCountedTo last text at count → length text ≤ at → IsCountOfChildren text count
+count_done last text at count counted past =
+    let both = counted.read [] (ap (reading_after last) (drop_all at text past) ∙ read_none last) in
+    record { read = both.0; is = (let e = both.1 in omega arith) }
+
+-- ---- the whole
+
+pub whole_is : (cap : Cap) (text end : List ℕ) (count : ℕ) → IsCountOfChildren text count → end ≡ dir_end cap → IsListingOf cap text (listing_left false 0 text end)
+unfolding dir_text
+whole_is cap text end count counted is = record {
+  entries = entries_in text;
+  read = counted.read;
+  is = ap (λ t. head_unless false ++ children_from 0 text t) is ∙ ap (λ t. head_unless false ++ t) (parted_joined (map child_text (entries_in text)) (dir_end cap));
+}
+
+pub whole_counted : (text end head : List ℕ) (count left : ℕ) → IsCountOfChildren text count → head ≡ head_unless false → left ≡ length head + count + length end → IsListing 0 left text (listing_left false 0 text end)
+whole_counted text end head count left counted begun is =
+    let joined = join_with_byte 44 (map child_text (entries_in text)) in
+    let bare : count ≡ length joined = counted.is ∙ ap length (parted_joined (map child_text (entries_in text)) [] ∙ append-nil joined) in
+    let all : length (children_from 0 text end) ≡ length joined + length end = ap length (parted_joined (map child_text (entries_in text)) end) ∙ length-append joined end in
+    let first = length-append (head_unless false) (children_from 0 text end) in
+    let size = ap length begun in
+    record { readable = record { within = omega arith; read = counted.read }; counted = omega (arith, bare, all, first, size, is) }

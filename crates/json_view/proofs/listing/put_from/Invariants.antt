@@ -1,0 +1,9 @@
+use Rattle.std.proofs.Common.{◌-◌, length}
+use Rattle.json_view.specs.Listings.{AreChildrenPut}
+use Rattle.json_view.proofs.listing.put_from.Given as goal
+
+abbrev pub invariant-loop-at : goal.invariant-loop-at
+invariant-loop-at l = AreChildrenPut l.text l.from l.fn.out.items l.out.items l.at
+
+abbrev pub decreases-loop-at : goal.decreases-loop-at
+decreases-loop-at l = length l.text - l.at

@@ -1,0 +1,217 @@
+//! The JSON of directories that is made as it is taken.
+ghost use Rattle.std.specs.Prelude.{◌≡◌, ◌≢◌, ◌<◌, ◌+◌, [], ◌++◌, length, nat_lt, drop, Err, IfOk, IfErr, IfSome, OnOk, OnErr, IsOk, MatchOption, if◌then◌else◌};
+ghost use Rattle.std.specs.Rc.{rc_slice_items};
+ghost use Rattle.dir_codec.specs.Reading.{reading_after, directory_reading};
+ghost use Rattle.dir_codec.specs.declared.fault.DirFault.TheVariants.{NoMemory};
+ghost use Rattle.json_view.specs.Listings.{IsListingOf, head_unless, IsReadable, IsChildPut, IsCountOfChildren, AreChildrenPut, IsPiece};
+
+use crate::node::{put_child, put_dir_end, put_dir_head};
+use crate::text::put_comma;
+use caps::Cap;
+use dir_codec::{DirFault, Entry, read_first};
+use std::alloc::{AllocError, Global};
+use std::marker::Model;
+use std::rc::RcSlice;
+
+/// A piece has this many bytes at least, unless it is the last one.
+const PIECE: usize = 65_536;
+
+/// The bytes that are left of a directory's JSON, which are made of its text as they are taken. It holds the text, and of
+/// the JSON nothing but what stands behind the children. Contracts see it as these bytes.
+#[derive(Debug, Drop)]
+pub struct Listing {
+    text: RcSlice<u8>,
+    end: Vec<u8>,
+    at: usize,
+    ended: bool,
+    left: usize,
+}
+
+impl Model for Listing {
+    ghost use Rattle.std.specs.Prelude.{List, ℕ};
+    ghost use Rattle.std.specs.Rc.{rc_slice_items};
+    ghost use Rattle.json_view.specs.Listings.{listing_left, IsListing};
+
+    ghost Value = { List ℕ };
+
+    ghost view = { λ l. listing_left l.ended l.at (rc_slice_items l.text) l.end.items };
+
+    ghost invariant = { λ l. IsListing l.at l.left (rc_slice_items l.text)
+        (listing_left l.ended l.at (rc_slice_items l.text) l.end.items) };
+}
+
+impl Listing {
+    /// The JSON of the directory whose text this is, as [`crate::dir_json`] makes it. The text is read whole, and its JSON
+    /// is counted, with one entry in memory at a time.
+    ///
+    /// # Errors
+    /// As those of [`dir_codec::decode`]. A text whose JSON has more bytes than a `usize` counts is refused as memory is.
+    pub fn new(alloc: Global, cap: &Cap, text: RcSlice<u8>) -> Result<Listing, DirFault>
+        ensures read { IfOk result (λ listing.
+            IsListingOf cap.now (rc_slice_items text) listing) }
+        ensures refused { IfErr result (λ fault. fault ≢ NoMemory
+            → directory_reading (rc_slice_items text) ≡ Err fault) }
+    {
+        let children = count_children(alloc, text.as_slice())?;
+        let mut head = Vec::new(alloc);
+        put_head_unless(&mut head, false)?;
+        let mut end = Vec::new(alloc);
+        put_dir_end(alloc, &mut end, cap)?;
+        let Some(left) = sum(head.len(), children, end.len()) else {
+            return Err(DirFault::NoMemory);
+        };
+        Ok(Listing {
+            text,
+            end,
+            at: 0,
+            ended: false,
+            left,
+        })
+    }
+
+    /// How many bytes are left.
+    pub fn len(&self) -> usize
+        ensures { result ≡ length self.now }
+    {
+        self.left
+    }
+
+    /// The next bytes, of which there is one at least, or none where no byte is left: those of whole children until there
+    /// are 65,536, with what stands before the first child and behind the last one.
+    ///
+    /// # Errors
+    /// Only where memory is refused. Then the same bytes are left: the call can be made again.
+    pub fn next(&mut self, alloc: Global) -> Result<Option<Vec<u8>>, AllocError>
+        ensures given { IfOk result (λ given.
+            MatchOption given ((self.old ≡ []) × (self.new ≡ []))
+            (λ bytes. (0 < length bytes.items) × (self.old ≡ bytes.items ++ self.new))) }
+        ensures err { OnErr result (self.new ≡ self.old) }
+        ensures nothing { self.old ≡ [] → IsOk result }
+    {
+        if self.left == 0 {
+            return Ok(None);
+        }
+        let text = self.text.as_slice();
+        let (piece, next, ended) = next_piece(alloc, text, self.end.as_slice(), self.at)?;
+        self.at = next;
+        self.ended = ended;
+        self.left -= piece.len();
+        Ok(Some(piece))
+    }
+}
+
+/// How many bytes the children have that stand in a directory's text, with the commas between them.
+fn count_children(alloc: Global, text: &[u8]) -> Result<usize, DirFault>
+    ensures counted { IfOk result (λ count. IsCountOfChildren text.now count) }
+    ensures refused { IfErr result (λ fault. fault ≢ NoMemory
+        → directory_reading text.now ≡ Err fault) }
+{
+    let mut count: usize = 0;
+    let mut child = Vec::new(alloc);
+    let mut last = Vec::new(alloc);
+    let mut at = 0;
+    while at < text.len() {
+        child.clear();
+        let (entry, next) = put_at(alloc, &mut child, &last, text, at)?;
+        let Some(more) = count.checked_add(child.len()) else {
+            return Err(DirFault::NoMemory);
+        };
+        last.clear();
+        last.extend_from_slice(entry.name.as_str().as_bytes())?;
+        count = more;
+        at = next;
+    }
+    Ok(count)
+}
+
+/// The sum of three counts, None where it is too large.
+fn sum(first: usize, second: usize, third: usize) -> Option<usize>
+    ensures { IfSome result (λ sum. sum ≡ first + second + third) }
+{
+    first.checked_add(second)?.checked_add(third)
+}
+
+/// The next bytes of a listing that has come to a place of a text, the place to which they come, and whether they are the
+/// last ones.
+fn next_piece(
+    alloc: Global,
+    text: &[u8],
+    end: &[u8],
+    at: usize,
+) -> Result<(Vec<u8>, usize, bool), AllocError>
+    requires { IsReadable at text.now }
+    ensures { IfOk result (λ given.
+        IsPiece text.now end.now at given.0.items given.1 given.2) }
+{
+    let mut piece = Vec::new(alloc);
+    put_head_unless(&mut piece, at > 0)?;
+    let next = put_from(alloc, &mut piece, text, at)?;
+    let ended = next == text.len();
+    put_end_if(&mut piece, end, ended)?;
+    Ok((piece, next, ended))
+}
+
+/// Puts what stands before the first child, unless it was put before.
+fn put_head_unless(out: &mut Vec<u8>, later: bool) -> Result<(), AllocError>
+    ensures { OnOk result (out.new.items ≡ out.old.items ++ head_unless later) }
+{
+    if later {
+        return Ok(());
+    }
+    put_dir_head(out)
+}
+
+/// Puts what stands behind the last child, where it was put.
+fn put_end_if(out: &mut Vec<u8>, end: &[u8], ended: bool) -> Result<(), AllocError>
+    ensures { OnOk result (out.new.items
+        ≡ out.old.items ++ (if ended then end.now else [])) }
+{
+    if ended {
+        out.extend_from_slice(end)?;
+    }
+    Ok(())
+}
+
+/// Puts the children whose entries stand from a place of a directory's text on, one at least, until there are enough
+/// bytes. It gives the place behind them. The text was read before, so that it has no fault.
+fn put_from(alloc: Global, out: &mut Vec<u8>, text: &[u8], from: usize) -> Result<usize, AllocError>
+    requires { IsReadable from text.now }
+    ensures put { IfOk result (λ at.
+        AreChildrenPut text.now from out.old.items out.new.items at) }
+    ensures some { IfOk result (λ at. at < length text.now
+        → (0 < at) × (0 < length out.new.items)) }
+{
+    dir_codec::laws::ends_of_texts_are_texts();
+    let mut at = from;
+    while at < text.len() {
+        let Ok((_, next)) = put_at(alloc, out, &[], text, at) else {
+            return Err(AllocError);
+        };
+        at = next;
+        if out.len() >= PIECE {
+            return Ok(at);
+        }
+    }
+    Ok(at)
+}
+
+/// Puts the child whose entry stands at a place of a directory's text, behind an entry of that name, with the comma before
+/// it. It gives the entry and the place behind it.
+fn put_at(
+    alloc: Global,
+    out: &mut Vec<u8>,
+    last: &[u8],
+    text: &[u8],
+    at: usize,
+) -> Result<(Entry, usize), DirFault>
+    requires { at < length text.now }
+    ensures put { IfOk result (λ child.
+        IsChildPut last.now text.now at out.old.items out.new.items child.0 child.1) }
+    ensures refused { IfErr result (λ fault. fault ≢ NoMemory
+        → reading_after last.now (drop at text.now) ≡ Err fault) }
+{
+    let (entry, size) = read_first(alloc, last, &text[at..])?;
+    put_comma(out, at > 0)?;
+    put_child(alloc, out, &entry)?;
+    Ok((entry, at + size))
+}
