@@ -1,12 +1,10 @@
 //! How bytes are encoded.
 ghost use Rattle.std.specs.Prelude.{◌≡◌, ◌<◌, ◌++◌, map, IfOk, vec_len};
 ghost use Rattle.std.specs.Rc.{rc_slice_items};
-ghost use Rattle.std.specs.List.{range_with_len};
-ghost use Rattle.tag_hash.specs.Tagged.{tagged16};
-ghost use Rattle.aes_ctr.specs.Crypt.{crypt};
-ghost use Rattle.share_codec.specs.Shares.{share, ueb_hash};
 ghost use Rattle.chk_file.specs.Upload.{key_tag, numbers_text};
+ghost use Rattle.chk_file.specs.Prepared.{fields_under, shares_under};
 
+use crate::cache::Cache;
 use crate::cipher::apply_keystream;
 use aes_ctr::laws::{keystream_by_place, parts_agree};
 use caps::ReadFields;
@@ -19,7 +17,7 @@ use tag_hash::{Decimal, push_netstring, tagged16};
 const KEY_TAG: &[u8; 26] = b"webgate_content_to_key_v1+";
 
 /// The read fields and the shares of bytes that are uploaded under a secret.
-pub(crate) fn encrypt_and_share(
+fn encrypt_and_share(
     alloc: Global,
     params: &Params,
     secret: &[u8],
@@ -27,17 +25,10 @@ pub(crate) fn encrypt_and_share(
 ) -> Result<(ReadFields, Vec<RcSlice<u8>>), AllocError>
     requires size { vec_len bytes ≡ params.now.size }
     requires some { 0 < params.now.size }
-    ensures fields { let key = tagged16 (key_tag params.now secret.now) bytes.items in
-        IfOk result (λ made. made.0 ≡ record {
-          key = key;
-          ueb = ueb_hash params.now (crypt key bytes.items);
-          k = params.now.k;
-          n = params.now.n;
-          size = params.now.size;
-        }) }
-    ensures shares { let key = tagged16 (key_tag params.now secret.now) bytes.items in
-        IfOk result (λ made. map rc_slice_items made.1.items
-        ≡ map (λ i. share params.now (crypt key bytes.items) i) (range_with_len 0 params.now.n)) }
+    ensures fields { IfOk result (λ made.
+        made.0 ≡ fields_under params.now secret.now bytes.items) }
+    ensures shares { IfOk result (λ made.
+        map rc_slice_items made.1.items ≡ shares_under params.now secret.now bytes.items) }
 {
     keystream_by_place();
     parts_agree();
@@ -56,9 +47,31 @@ pub(crate) fn encrypt_and_share(
     Ok((fields, shares))
 }
 
+/// The same, taken from the cache where it was made beforehand of these bytes, numbers and secret.
+pub(crate) fn made_or_encrypted(
+    alloc: Global,
+    cache: &mut Cache,
+    params: &Params,
+    secret: &[u8],
+    bytes: Vec<u8>,
+) -> Result<(ReadFields, Vec<RcSlice<u8>>), AllocError>
+    requires size { vec_len bytes ≡ params.now.size }
+    requires some { 0 < params.now.size }
+    ensures same { cache.new ≡ cache.old }
+    ensures fields { IfOk result (λ made.
+        made.0 ≡ fields_under params.now secret.now bytes.items) }
+    ensures shares { IfOk result (λ made.
+        map rc_slice_items made.1.items ≡ shares_under params.now secret.now bytes.items) }
+{
+    match cache.take_made(params, secret, &bytes) {
+        Some(made) => Ok(made),
+        None => encrypt_and_share(alloc, params, secret, bytes),
+    }
+}
+
 /// The tag of the convergent key.
 #[tactic(auto, unfolding(crate::specs::Upload::key_tag))]
-fn tag_of(alloc: Global, params: &Params, secret: &[u8]) -> Result<Vec<u8>, AllocError>
+pub(crate) fn tag_of(alloc: Global, params: &Params, secret: &[u8]) -> Result<Vec<u8>, AllocError>
     ensures { IfOk result (λ tag. tag.items ≡ key_tag params.now secret.now) }
 {
     let numbers = numbers(alloc, params)?;
@@ -87,7 +100,7 @@ fn numbers(alloc: Global, params: &Params) -> Result<Vec<u8>, AllocError>
 }
 
 /// Shares that can be lent.
-fn shared(alloc: Global, shares: Vec<Vec<u8>>) -> Result<Vec<RcSlice<u8>>, AllocError>
+pub(crate) fn shared(alloc: Global, shares: Vec<Vec<u8>>) -> Result<Vec<RcSlice<u8>>, AllocError>
     ensures { IfOk result (λ lent. map rc_slice_items lent.items
         ≡ map (λ share. share.items) shares.items) }
 {

@@ -10,7 +10,19 @@
 mod uploader;
 /// How bytes become a cap and shares.
 mod encode;
-/// Files that were read and are kept.
+/// Uploads that are prepared.
+mod preparation;
+/// Uploads that are awaited.
+mod awaited;
+/// Bytes that are copied and hashed.
+mod hashing;
+/// Shares that are made of them.
+mod coding;
+/// The shares of bytes under a key, made step by step.
+mod encoder;
+/// What was made.
+mod made;
+/// Files that were read and are kept, and the upload that is prepared.
 mod cache;
 /// Reading files.
 mod reader;

@@ -12,3 +12,4 @@ pub mod GoodShare
 pub mod Uses
 pub mod Parts
 pub mod Drafts
+pub mod Maker

@@ -1,8 +1,8 @@
-//! How the blocks of a share and the segments of a crypttext are hashed: four at a time, where they stand.
+//! How the blocks of a share and the segments of a crypttext are hashed: side by side, where they stand.
 ghost use Rattle.std.specs.Prelude.{◌≡◌, ◌≤◌, ◌<◌, ◌+◌, ◌*◌, length, map, IfOk};
 ghost use Rattle.std.specs.Simd.{first_chunks};
 ghost use Rattle.share_codec.specs.Shares.{segment_hashes, roots_of};
-ghost use Rattle.share_codec.specs.Tags.{block_hash};
+ghost use Rattle.share_codec.specs.Tags.{block_hash, segment_hash};
 
 use crate::cut::cut;
 use crate::laws;
@@ -38,6 +38,18 @@ pub(crate) fn hashes_of(alloc: Global, blocks: &[&[u8]]) -> Result<Vec<[u8; 32]>
         ≡ map (λ block. block_hash block.now) blocks.now) }
 {
     tagged_all(alloc, BLOCK_TAG, blocks)
+}
+
+/// The hashes of segments.
+#[tactic(auto, unfolding(crate::specs::Tags::segment_tag))]
+pub(crate) fn hashes_of_segments(
+    alloc: Global,
+    segments: &[&[u8]],
+) -> Result<Vec<[u8; 32]>, AllocError>
+    ensures { IfOk result (λ hashes. hashes.items
+        ≡ map (λ segment. segment_hash segment.now) segments.now) }
+{
+    tagged_all(alloc, SEGMENT_TAG, segments)
 }
 
 /// The hashes of the segments of a crypttext.
