@@ -1,7 +1,7 @@
 #!/usr/bin/env python3
 """Loads on `wozhinnam serve`, the built program, on the loopback, with times and memory; each takes a minute or two at most.
 
-usage: bench/times/loads.py PROGRAM [open|readers|many_readers|slow_readers|untaken|came|million|pipelined|cut ..]
+usage: bench/times/loads.py PROGRAM [open|readers|many_readers|slow_readers|untaken|came|million|pipelined|cut|puts|many_puts|listings|metadata ..]
 
 open          10,000 connections, a reply on each
 readers       8 readers of 4 MiB beside small GETs; many_readers: 200 of them; slow_readers: 200 that take 10 KB a second
@@ -9,6 +9,9 @@ untaken       200 GETs of one file of 4 MiB, of 200 files, and of 100 bytes of o
 came          100,000 connections that come and go, one after the other; million: 1,000,000
 pipelined     500 GETs of a file of 4 MiB on one connection, written before anything is read
 cut           a minute of connections that send and take a part of something and are cut, some by a reset, beside small GETs
+puts          a client that puts 16 MiB again and again, beside small GETs; many_puts: four of them
+listings      20 GETs of the `t=json` of a directory of names that JSON escapes six times as long, of which nothing is read
+metadata      GETs through a directory whose one child has 2.4 million members of metadata, beside small GETs
 """
 
 import os
@@ -187,6 +190,104 @@ def untaken(program):
     server.stop()
 
 
+def beside(name, server, quick, load, count, seconds=15):
+    """Small GETs on one connection, while so many threads call `load` again and again; how often they did, a second."""
+    over = time.monotonic() + seconds
+    done = []
+
+    def go_on():
+        while time.monotonic() < over:
+            load()
+            done.append(time.monotonic())
+
+    threads = [threading.Thread(target=go_on) for _ in range(count)]
+    for thread in threads:
+        thread.start()
+    began = time.monotonic()
+    time.sleep(1)
+    waits = []
+    while time.monotonic() < over - 1:
+        waits.append(small(quick))
+        time.sleep(0.001)
+    for thread in threads:
+        thread.join(SECONDS)
+    times("small GETs beside %s" % name, waits)
+    return len(done) / (done[-1] - began)
+
+
+def puts(program, count):
+    server = served(program, 100)
+    quick = server.connect()
+    times("small GETs alone", [small(quick) for _ in range(2000)])
+    body = random.Random(16).randbytes(16 << 20)
+    asked = b"PUT /uri HTTP/1.1\r\nHost: g\r\nConnection: close\r\nContent-Length: %d\r\n\r\n" % len(body)
+
+    def put():
+        with server.connect() as stream:
+            stream.sendall(asked)
+            stream.sendall(body)
+            if not stream.recv(65536).startswith(b"HTTP/1.1 200"):
+                fail("an upload was refused")
+
+    each = beside("%d that put 16 MiB" % count, server, quick, put, count)
+    print("puts of 16 MiB a second: %.2f; memory at most %d MB" % (each, server.memory("VmHWM") >> 20))
+    server.stop()
+
+
+def put_text(server, text):
+    """The cap of a directory with this text."""
+    return server.ask("PUT", "/uri", text).decode().replace("URI:CHK:", "URI:DIR2-CHK:").replace("URI:LIT:", "URI:DIR2-LIT:")
+
+
+def netstring(text):
+    return b"%d:%s," % (len(text), text)
+
+
+def entry(name, metadata):
+    return netstring(netstring(name) + netstring(b"URI:LIT:mzxw6") + netstring(b"") + netstring(metadata))
+
+
+def listings(program):
+    server = served(program, 100)
+    names = [b"%08d" % at + b"\x01" * 240 for at in range(55_000)]
+    cap = put_text(server, b"".join(entry(name, b"{}") for name in names))
+    quick = server.connect()
+    small(quick)
+    before = server.memory()
+    streams = []
+    for _ in range(20):
+        stream = socket.socket()
+        stream.setsockopt(socket.SOL_SOCKET, socket.SO_RCVBUF, 4096)
+        stream.connect(server.address)
+        stream.sendall(b"GET /uri/%s?t=json HTTP/1.1\r\nHost: g\r\n\r\n" % cap.encode())
+        streams.append(stream)
+    time.sleep(10)
+    small(quick)
+    print("20 GETs of a listing that nobody takes: %.1f MB of memory beside, %d MB at most" % ((server.memory() - before) / 1e6, server.memory("VmHWM") >> 20))
+    for stream in streams + [quick]:
+        stream.close()
+    server.stop()
+
+
+def metadata(program):
+    server = served(program, 100)
+    members = b"{" + b",".join(b'"%06x":{}' % at for at in range(1_300_000)) + b"}"
+    cap = put_text(server, entry(b"child", members))
+    quick = server.connect()
+    times("small GETs alone", [small(quick) for _ in range(2000)])
+    asked = b"GET /uri/%s/child HTTP/1.1\r\nHost: g\r\nConnection: close\r\n\r\n" % cap.encode()
+
+    def get():
+        with server.connect() as stream:
+            stream.sendall(asked)
+            if not stream.recv(65536).startswith(b"HTTP/1.1 200"):
+                fail("a child was not found")
+
+    each = beside("GETs through a directory of %d bytes of metadata" % len(members), server, quick, get, 1)
+    print("such GETs a second: %.2f; memory at most %d MB" % (each, server.memory("VmHWM") >> 20))
+    server.stop()
+
+
 def cut(program):
     """Connections that end at any place, with what waits left unread."""
     server = served(program, 300)
@@ -282,6 +383,10 @@ LOADS = {
     "million": lambda program: came(program, 1_000_000, 600),
     "pipelined": pipelined,
     "cut": cut,
+    "puts": lambda program: puts(program, 1),
+    "many_puts": lambda program: puts(program, 4),
+    "listings": listings,
+    "metadata": metadata,
 }
 
 

@@ -317,7 +317,7 @@ fn through_the_file(alloc: Global, room: &Room, outcome: Outcome) -> Result<Outc
         return Err(Ended::Wrong("there are other stores"));
     }
     let mut grid = Grid::new(stores);
-    let was_refused = uploaded(alloc, &mut grid, &room.file)?;
+    let was_refused = uploaded(alloc, &mut grid, &mut cache, &room.file)?;
     let was_refused_too = given(alloc, &mut grid, &mut cache, &room.file)?;
     Ok(both(outcome, said(was_refused || was_refused_too)))
 }
@@ -346,13 +346,18 @@ fn given(
 }
 
 /// Uploads the file, and says whether memory was refused once.
-fn uploaded(alloc: Global, grid: &mut Grid<MemStore>, file: &[u8]) -> Result<bool, Ended> {
+fn uploaded(
+    alloc: Global,
+    grid: &mut Grid<MemStore>,
+    cache: &mut Cache,
+    file: &[u8],
+) -> Result<bool, Ended> {
     let (Ok(first), Ok(second)) = (file.to_vec(alloc), file.to_vec(alloc)) else {
         return Err(Ended::Early);
     };
-    let (cap, was_refused) = match upload(alloc, grid, 3, 10, b"", first) {
+    let (cap, was_refused) = match upload(alloc, grid, cache, 3, 10, b"", first) {
         Ok(cap) => (cap, false),
-        Err(GridFault::NoMemory) => match upload(alloc, grid, 3, 10, b"", second) {
+        Err(GridFault::NoMemory) => match upload(alloc, grid, cache, 3, 10, b"", second) {
             Ok(cap) => (cap, true),
             Err(_) => return Err(Ended::Wrong("an upload is refused again")),
         },

@@ -22,6 +22,8 @@ mod output;
 mod server;
 /// How far a connection's calls went.
 mod stage;
+/// What is done of an upload before the call that completes it.
+mod foresight;
 /// One connection: what framing goes on with, and what waits to be taken.
 mod connection;
 /// How many replies there were, by status.

@@ -106,6 +106,21 @@ impl<S: Store> Lobby<S> {
         Flow::open(alloc, &mut self.gateway, id, secret)
     }
 
+    /// Takes a step of what the gateway will do with the bytes that a flow has at hand, and says whether it had better not
+    /// go on yet, as `Gateway::prepare` does.
+    pub fn prepare(&mut self, flow: &Flow) -> bool
+        ensures { self.new ≡ self.old }
+    {
+        self.gateway.prepare(flow.id(), flow.at_hand())
+    }
+
+    /// Lets go of what was prepared for a connection.
+    pub fn let_go_of(&mut self, id: u64)
+        ensures { self.new ≡ self.old }
+    {
+        self.gateway.let_go_of(id);
+    }
+
     /// Lets a flow go on, as `Flow::advance` does.
     pub fn advance(&mut self, flow: &mut Flow) -> Result<(), FlowFault>
         requires { flow.old.want ≡ want.Advance }

@@ -127,6 +127,18 @@ impl Stepped {
         }
     }
 
+    /// The turn ends behind a step of a long request, of which more are left: others have their turns first.
+    fn waits() -> Stepped
+        ensures { result.end ≡ Some End.Again }
+    {
+        Stepped {
+            end: Some(End::Again),
+            long: true,
+            replied: false,
+            fault: None,
+        }
+    }
+
     /// The turn ends at a fault.
     fn fails(fault: FlowFault) -> Stepped
         ensures { result.end ≡ Some End.Over }
@@ -379,10 +391,15 @@ impl Peer {
             return Stepped::goes_on();
         }
         self.stopwatch.sees(self.flow.at_hand(), moment.now);
+        if lobby.prepare(&self.flow) {
+            moment.skips(rt);
+            return Stepped::waits();
+        }
         let replies = lobby.gateway().tally();
         if let Err(fault) = lobby.advance(&mut self.flow) {
             return Stepped::fails(fault);
         }
+        lobby.let_go_of(self.flow.id());
         let long = moment.passes(rt);
         let is_answered = lobby.gateway().tally() != replies;
         self.times(is_answered, tools, moment.now);

@@ -521,6 +521,7 @@ fn give_up<S: Store, F: Forget>(lobby: &mut Lobby<S>, forgets: &mut F, flow: Flo
 {
     gate_flow::laws::gateways_are_hosted();
     let id = flow.id();
+    lobby.let_go_of(id);
     lobby.close(flow);
     forgets.forget(lobby, id);
 }

@@ -49,3 +49,49 @@ fn is_kept(gateway: &mut Gateway<MemStore>, request: &[u8], found: &[u8]) -> Res
         &[(1, b"", STORED), (1, GET, found), (1, PUT_MORE, TOO_LONG)],
     )
 }
+
+#[test]
+fn an_upload_that_is_prepared_is_stored(rt: HostRuntime) -> Result<(), Fail> {
+    let alloc = rt.alloc();
+    let request = with_counted(alloc, PUT, LONGEST)?;
+    let found = with_counted(alloc, FOUND, LONGEST)?;
+    let mut stores = Vec::new(alloc);
+    stores.push(MemStore::new(alloc, 60_000_000))?;
+    let mut gateway = Gateway::new(alloc, 3, 10, stores, b"")?;
+    let (first, last) = request.split_at(request.len().saturating_sub(65_536));
+    are_brought(&mut gateway, first)?;
+
+    // Neither what was never opened nor bytes that don't complete the upload make a step.
+    assert!(rt; !gateway.prepare(3, last));
+    assert!(rt; !gateway.prepare(1, &last[last.len().min(1)..]));
+    // Another upload waits for the one that is prepared.
+    assert!(rt; gateway.prepare(1, last));
+    assert!(rt; gateway.prepare(2, last));
+    // Each 65,536 bytes are a step, and there are others.
+    assert!(rt; steps_left(&mut gateway, 1, last) > 256);
+    gateway.bytes(1, last)?;
+    gateway.let_go_of(1);
+    assert!(rt; gateway.prepare(2, last));
+    are_told(&mut gateway, &[(1, b"", STORED), (1, GET, &found)])
+}
+
+/// Two connections are opened, and each is brought these bytes.
+fn are_brought(gateway: &mut Gateway<MemStore>, bytes: &[u8]) -> Result<(), Fail> {
+    gateway.open(1, None)?;
+    gateway.open(2, None)?;
+    for piece in bytes.chunks(65_536) {
+        gateway.bytes(1, piece)?;
+        gateway.bytes(2, piece)?;
+    }
+    Ok(())
+}
+
+/// How many steps are left before these bytes are brought, which are taken.
+fn steps_left(gateway: &mut Gateway<MemStore>, id: u64, last: &[u8]) -> usize {
+    for step in 0..10_000 {
+        if !gateway.prepare(id, last) {
+            return step;
+        }
+    }
+    0
+}

@@ -1,15 +1,17 @@
 //! A connection's bytes, as they come in pieces.
-ghost use Rattle.std.specs.Prelude.{◌≡◌, ◌<◌, ◌⊎◌, ℕ, List, not, [], ◌++◌, length, IfOk, OnOk, OnErr, IsOk};
+ghost use Rattle.std.specs.Prelude.{◌≡◌, ◌≢◌, ◌<◌, ◌⊎◌, ℕ, List, not, [], ◌++◌, length, IfOk, IfSome, IfNone, OnOk, OnErr, IsOk};
 ghost use Rattle.std.specs.List.{list_any};
 ghost use Rattle.http_edge.specs.Judge.{closes};
 ghost use Rattle.http_edge.specs.Frame.{frame};
 ghost use Rattle.http_edge.specs.Kept.{kept_bytes};
-ghost use Rattle.http_edge.specs.FramingState.{part_of, closed, is_closed, rest, frame_from, rest_from};
+ghost use Rattle.http_edge.specs.FramingState.{part_of, body_of, closed, is_closed, rest, frame_from, rest_from};
 ghost use Rattle.http_edge.specs.State.{IsSettled, Takes, item_list};
+ghost use Rattle.http_edge.specs.declared.verdict.Awaited.{Awaited};
 
 use crate::item::Item;
 use crate::line::split_line;
 use crate::state::{State, after_body, after_chunks, after_line};
+use crate::verdict::Awaited;
 use std::alloc::{AllocError, Global};
 use std::marker::Model;
 use std::mem;
@@ -92,6 +94,20 @@ impl Conn {
             State::Body(_, body) => body.len(),
             State::Chunks(_, content, _) => content.len(),
             State::Closed => 0,
+        }
+    }
+
+    /// A request whose body isn't whole yet and has the length that its head tells, and the first bytes of that body. None
+    /// where none is under way. Takes no memory.
+    pub fn under_way(&self) -> Option<(&Awaited, &[u8])>
+        ensures some { IfSome result (λ request. self.now ≡ body_of request.0.now request.1.now) }
+        ensures none { IfNone result ((awaited : Awaited) (body : List ℕ) → self.now ≢ body_of awaited body) }
+    {
+        match &self.state {
+            State::Body(awaited, body) => Some((awaited, body)),
+            State::Head(_) => None,
+            State::Chunks(_, _, _) => None,
+            State::Closed => None,
         }
     }
 

@@ -1,12 +1,10 @@
 //! Stores whose folders are missing: the words that say so, and what such a store answers.
-ghost use Rattle.std.specs.Prelude.{◌<◌, length, IfOk};
-ghost use Rattle.std.specs.Rc.{rc_slice_items};
 
+use super::serving::share;
 use server_options::{Options, Refusal, StoreWanted, Task, read_words};
 use server_stores::unreachable_store;
 use share_store::{Store, StoreFault};
 use std::alloc::Global;
-use std::rc::RcSlice;
 use std::test::Fail;
 
 /// These words of `serve`.
@@ -87,13 +85,6 @@ fn what_cannot_be_missing_is_refused(rt: HostRuntime) -> Result<(), Fail> {
     let words = serving(rt.alloc(), &given)?;
     assert!(rt; matches!(read_words(rt.alloc(), &words), Err(Refusal::New)));
     Ok(())
-}
-
-/// A share's bytes.
-fn share(alloc: Global) -> Result<RcSlice<u8>, Fail>
-    ensures { IfOk result (λ share. 0 < length (rc_slice_items share)) }
-{
-    Ok(RcSlice::from_vec(vec![in alloc; 9u8; 3usize]?)?)
 }
 
 #[test]

@@ -457,7 +457,7 @@ fn sizes_have_units(rt: HostRuntime) {
 }
 
 /// A share's bytes.
-fn share(alloc: Global) -> Result<RcSlice<u8>, Fail>
+pub fn share(alloc: Global) -> Result<RcSlice<u8>, Fail>
     ensures { IfOk result (λ share. 0 < length (rc_slice_items share)) }
 {
     Ok(RcSlice::from_vec(vec![in alloc; 9u8; 3usize]?)?)

@@ -46,6 +46,7 @@ pub fn answer<S: Store>(
             let _ = store(alloc, grid, files, case)?;
             fixed(alloc, "ok")
         }
+        "prepare" => prepared(alloc, files, case),
         "take" => taken(alloc, files, &case.bytes(alloc, 2)?),
         _ => of_file(alloc, grid, files, case),
     }
@@ -103,7 +104,8 @@ fn store<S: Store>(
     }
     let secret = case.bytes(alloc, 4)?;
     let bytes = case.bytes(alloc, 5)?;
-    match upload(alloc, grid, k, n, &secret, bytes) {
+    let cache = held(alloc, &mut files.cache)?;
+    match upload(alloc, grid, cache, k, n, &secret, bytes) {
         Ok(cap) => {
             let text = print(alloc, &cap)?;
             files.caps.push(cap)?;
@@ -111,6 +113,24 @@ fn store<S: Store>(
         }
         Err(fault) => debug(alloc, &fault),
     }
+}
+
+/// Prepares an upload to its end: k, n, the secret and the bytes, in two halves.
+fn prepared(alloc: Global, files: &mut Files, case: &Case<'_>) -> Result<String, NoAnswer> {
+    let (k, n) = (case.small(2)?, case.small(3)?);
+    if !octets::is_sharing(k, n) {
+        return Err(NoAnswer::Word(2));
+    }
+    let secret = case.bytes(alloc, 4)?;
+    let bytes = case.bytes(alloc, 5)?;
+    let (body, next) = bytes.split_at(bytes.len() / 2);
+    let cache = held(alloc, &mut files.cache)?;
+    for _ in 0..1000 {
+        if !cache.prepare(alloc, k, n, &secret, body, next) {
+            return fixed(alloc, "ok");
+        }
+    }
+    Err(NoAnswer::Question)
 }
 
 /// A cap of the same file with the k, n and size that stand after the file's place.

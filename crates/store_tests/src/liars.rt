@@ -45,7 +45,8 @@ fn file(alloc: Global, liar: Liar, case: &Case<'_>) -> Result<String, NoAnswer> 
     let mut stores = Vec::new(alloc);
     stores.push(liar)?;
     let mut grid = Grid::new(stores);
-    match upload(alloc, &mut grid, k, n, b"", bytes) {
+    let mut cache = Cache::new(alloc)?;
+    match upload(alloc, &mut grid, &mut cache, k, n, b"", bytes) {
         Ok(cap) => found_of(alloc, &mut grid, &cap),
         Err(fault) => debug(alloc, &fault),
     }

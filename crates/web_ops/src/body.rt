@@ -3,6 +3,7 @@ ghost use Rattle.std.specs.Prelude.{◌≡◌, ◌<◌, ◌≤◌, ◌+◌, [], 
 
 use crate::part::Part;
 use crate::shared::SharedBytes;
+use json_view::Listing;
 use octets::Bytes;
 use std::alloc::{AllocError, Global};
 use std::marker::Model;
@@ -17,10 +18,12 @@ pub(crate) enum Source {
     Part(Part),
     /// They are shared with other replies.
     Shared(SharedBytes),
+    /// They are made of a directory's text as they are asked for.
+    Listing(Listing),
 }
 
-/// The bytes of a body that are left: they are at hand, decoded as they are asked for, or shared with other replies.
-/// Contracts see them as bytes.
+/// The bytes of a body that are left: they are at hand, decoded or made as they are asked for, or shared with other
+/// replies. Contracts see them as bytes.
 #[derive(Debug, Drop)]
 pub struct Body {
     source: Source,
@@ -63,7 +66,16 @@ impl Body {
         }
     }
 
-    /// So many of its bytes, from a place on: a copy where they are at hand or shared.
+    /// The JSON of a directory.
+    pub(crate) fn from_listing(listing: Listing) -> Self
+        ensures { result ≡ listing }
+    {
+        Body {
+            source: Source::Listing(listing),
+        }
+    }
+
+    /// So many of its bytes, from a place on: a copy where they are at hand, shared or made.
     pub(crate) fn narrow(self, alloc: Global, from: usize, count: usize) -> Result<Body, AllocError>
         requires { from + count ≤ length self }
         ensures { IfOk result (λ body. body ≡ take count (drop from self)) }
@@ -72,6 +84,7 @@ impl Body {
             Source::Bytes(bytes) => copy_of(alloc, bytes.as_slice(), from, count),
             Source::Part(part) => Ok(Body::from_part(part.narrow(from, count))),
             Source::Shared(bytes) => copy_of(alloc, bytes.as_slice(), from, count),
+            Source::Listing(listing) => copy_of(alloc, &made(alloc, listing)?, from, count),
         }
     }
 
@@ -83,6 +96,7 @@ impl Body {
             Source::Bytes(bytes) => bytes.len(),
             Source::Part(part) => part.len(),
             Source::Shared(bytes) => bytes.len(),
+            Source::Listing(listing) => listing.len(),
         }
     }
 
@@ -94,7 +108,8 @@ impl Body {
     }
 
     /// The next bytes, of which there is one at least, or none where no byte is left: all where they are at hand, those of
-    /// the next segment where they are decoded, and a copy of up to 65,536 of those that are shared.
+    /// the next segment where they are decoded, those of the next children where they are made, and a copy of up to 65,536
+    /// of those that are shared.
     ///
     /// # Errors
     /// Only where memory is refused. Then the same bytes are left: the call can be made again.
@@ -109,6 +124,7 @@ impl Body {
             Source::Bytes(bytes) => Ok(all_of(alloc, bytes)),
             Source::Part(part) => part.next(),
             Source::Shared(bytes) => bytes.next(alloc),
+            Source::Listing(listing) => listing.next(alloc),
         }
     }
 }
@@ -132,4 +148,16 @@ fn all_of(alloc: Global, bytes: &mut Bytes) -> Option<Vec<u8>>
     }
     let all = mem::replace(bytes, Bytes::new(alloc));
     Some(all.into_vec())
+}
+
+/// All bytes of the JSON of a directory.
+fn made(alloc: Global, listing: Listing) -> Result<Vec<u8>, AllocError>
+    ensures { IfOk result (λ bytes. bytes.items ≡ listing) }
+{
+    let mut left = listing;
+    let mut all = Vec::with_capacity(alloc, left.len())?;
+    while let Some(bytes) = left.next(alloc)? {
+        all.extend_from_slice(&bytes)?;
+    }
+    Ok(all)
 }

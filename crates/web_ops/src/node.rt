@@ -9,17 +9,18 @@ ghost use Rattle.web_ops.specs.Replied.{IsContent, IsNodeJson, IsNode, IsAnswere
 ghost use Rattle.web_ops.specs.Calls.{IsFound};
 
 use crate::failed::{Failure, failure_reply};
-use crate::replies::{bytes_reply, download_reply, json_reply};
+use crate::replies::{bytes_reply, download_reply, json_reply, listing_reply};
 use crate::reply::Reply;
 use caps::{Cap, ReadFields, VerifyFields, is_verify_cap, weaken};
 use chk_file::{Cache, ReadFault, begin, read};
-use dir_codec::{decode, is_memory};
+use dir_codec::is_memory;
 use grid::Grid;
-use json_view::{dir_json, file_json};
+use json_view::{Listing, file_json};
 use octets::Bytes;
 use path_walk::{Names, WalkFault, walk};
 use share_store::Store;
 use std::alloc::{AllocError, Global};
+use std::rc::RcSlice;
 
 /// The bytes of what the names lead to from a cap, or its JSON.
 pub fn get<S: Store>(
@@ -131,22 +132,31 @@ fn node_json<S: Store>(
     match cap {
         Cap::Chk(_) | Cap::Lit(_) => Ok(json_reply(file_json(alloc, cap)?)),
         Cap::DirChk(fields) => match read(alloc, grid, cache, fields) {
-            Ok(bytes) => listing(alloc, cap, &bytes),
+            Ok(bytes) => listing(alloc, cap, bytes),
             Err(ReadFault::NotEnoughShares) => failure_reply(alloc, Failure::NotEnoughShares),
             Err(ReadFault::NoMemory) => Err(AllocError),
         },
-        Cap::DirLit(bytes) => listing(alloc, cap, bytes.as_slice()),
+        Cap::DirLit(bytes) => literal_listing(alloc, cap, bytes),
         Cap::ChkVerify(_) | Cap::DirChkVerify(_) => failure_reply(alloc, Failure::NotReadable),
     }
 }
 
-/// The JSON of a directory whose text these bytes are.
-fn listing(alloc: Global, cap: &Cap, bytes: &[u8]) -> Result<Reply, AllocError>
+/// The JSON of a directory whose text stands in its cap.
+fn literal_listing(alloc: Global, cap: &Cap, bytes: &Bytes) -> Result<Reply, AllocError>
     ensures { IfOk result (λ reply. reply ≡ listing_reply cap.now bytes.now) }
 {
+    let text = Vec::from_slice(alloc, bytes.as_slice())?;
+    listing(alloc, cap, text)
+}
+
+/// The JSON of a directory whose text these bytes are. It is made as it is taken, of the text, which is held.
+fn listing(alloc: Global, cap: &Cap, bytes: Vec<u8>) -> Result<Reply, AllocError>
+    ensures { IfOk result (λ reply. reply ≡ listing_reply cap.now bytes.items) }
+{
     dir_codec::laws::texts_and_entries_belong_together();
-    match decode(alloc, bytes) {
-        Ok(directory) => Ok(json_reply(dir_json(alloc, cap, &directory)?)),
+    let text = RcSlice::from_vec(bytes)?;
+    match Listing::new(alloc, cap, text) {
+        Ok(listing) => Ok(listing_reply(listing)),
         Err(fault) if is_memory(&fault) => Err(AllocError),
         Err(_) => failure_reply(alloc, Failure::NotDirectory),
     }

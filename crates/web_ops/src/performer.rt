@@ -125,8 +125,8 @@ pub fn perform_mapped<S: Store>(
         (Follows (upload_in e request) grid.old grid.new) }
 {
     match request {
-        Request::Put(bytes) => put(alloc, grid, k, n, secret, bytes),
-        Request::Mkdir(json) => make_directory(alloc, grid, k, n, secret, json.as_slice()),
+        Request::Put(bytes) => put(alloc, grid, cache, k, n, secret, bytes),
+        Request::Mkdir(json) => make_directory(alloc, grid, cache, k, n, secret, json.as_slice()),
         Request::Get {
             cap,
             names,

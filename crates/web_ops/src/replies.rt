@@ -8,6 +8,7 @@ use crate::part::Part;
 use crate::reply::{Field, Fields, MediaType, Reply, Status};
 use caps::{Cap, VerifyFields};
 use chk_file::Download;
+use json_view::Listing;
 use octets::Bytes;
 use range_view::{Resolved, resolve};
 use std::alloc::{AllocError, Global};
@@ -76,6 +77,18 @@ pub fn json_reply(text: Vec<u8>) -> Reply
 {
     let body = Body::from_bytes(Bytes::from_vec(text));
     reply_with(Status::Ok, MediaType::Json, None, body)
+}
+
+/// The JSON of a directory, which is made as it is taken.
+pub fn listing_reply(listing: Listing) -> Reply
+    ensures { result ≡ json_reply listing }
+{
+    reply_with(
+        Status::Ok,
+        MediaType::Json,
+        None,
+        Body::from_listing(listing),
+    )
 }
 
 /// The bytes that stand in a cap, which are moved, or a copy of as many of them as a range asks for.

@@ -15,7 +15,7 @@ use crate::failed::{Failure, failure_reply};
 use crate::replies::cap_reply;
 use crate::reply::Reply;
 use caps::Cap;
-use chk_file::upload;
+use chk_file::{Cache, upload};
 use dir_codec::{encode, from_children_json, is_memory};
 use grid::{Grid, GridFault};
 use octets::Bytes;
@@ -26,28 +26,32 @@ use std::alloc::{AllocError, Global};
 pub fn put<S: Store>(
     alloc: Global,
     grid: &mut Grid<S>,
+    cache: &mut Cache,
     k: u16,
     n: u16,
     secret: &[u8],
     bytes: Bytes,
 ) -> Result<Reply, AllocError>
     requires { IsSharing k n }
+    ensures cached { cache.new ≡ cache.old }
     ensures stamped { IsStamped grid.old grid.new }
     ensures done { IsPerformed (encoding_of k n secret.now) (Put bytes) result grid.old grid.new }
 {
-    store(alloc, grid, k, n, secret, bytes.into_vec(), false)
+    store(alloc, grid, cache, k, n, secret, bytes.into_vec(), false)
 }
 
 /// Stores the directory of the children that a JSON text names, and gives its cap.
 pub fn make_directory<S: Store>(
     alloc: Global,
     grid: &mut Grid<S>,
+    cache: &mut Cache,
     k: u16,
     n: u16,
     secret: &[u8],
     json: &[u8],
 ) -> Result<Reply, AllocError>
     requires { IsSharing k n }
+    ensures cached { cache.new ≡ cache.old }
     ensures stamped { IsStamped grid.old grid.new }
     ensures done { IsPerformed (encoding_of k n secret.now) (Mkdir json.now) result grid.old grid.new }
 {
@@ -55,7 +59,7 @@ pub fn make_directory<S: Store>(
     match from_children_json(alloc, json) {
         Ok(directory) => {
             let text = encode(alloc, &directory)?;
-            store(alloc, grid, k, n, secret, text, true)
+            store(alloc, grid, cache, k, n, secret, text, true)
         }
         Err(fault) if is_memory(&fault) => Err(AllocError),
         Err(_) => failure_reply(alloc, Failure::BadChildren),
@@ -66,6 +70,7 @@ pub fn make_directory<S: Store>(
 fn store<S: Store>(
     alloc: Global,
     grid: &mut Grid<S>,
+    cache: &mut Cache,
     k: u16,
     n: u16,
     secret: &[u8],
@@ -73,13 +78,14 @@ fn store<S: Store>(
     directory: bool,
 ) -> Result<Reply, AllocError>
     requires { IsSharing k n }
+    ensures cached { cache.new ≡ cache.old }
     ensures stamped { IsStamped grid.old grid.new }
     ensures done { let u = uploaded k n secret.now bytes.items in
         let cap = if directory then as_directory (upload_cap u) else upload_cap u in
         IsCarriedOut ⊤ (if_long u) (IsPutReply cap) (λ _. cap_reply cap) result grid.old grid.new }
 {
     are_bytes(&bytes);
-    match upload(alloc, grid, k, n, secret, bytes) {
+    match upload(alloc, grid, cache, k, n, secret, bytes) {
         Ok(cap) => {
             let named = as_kind(cap, directory);
             cap_reply(alloc, &named)

@@ -4,7 +4,7 @@ use Rattle.gate_poll.proofs.table.give_up.Goals as goal
 
 pub returns-clause-let_go : goal.returns-clause-let_go
 returns-clause-let_go g c = record {
-  before = c.args.lobby.now;
+  before = c.let_go_of.new.self;
   closed = c.close.new.self;
   after = c.forget.new.lobby;
   given_up = c.close.ensures.given_up;

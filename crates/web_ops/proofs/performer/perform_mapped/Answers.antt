@@ -1,4 +1,4 @@
-use Rattle.std.proofs.Common.{subst}
+use Rattle.std.proofs.Common.{subst, sym}
 use Rattle.std.specs.Prelude.{⊤}
 use Rattle.chk_file.specs.Cached.{IsCacheCurrent}
 use Rattle.chk_file.proofs.Freshness.{fresh_stays}
@@ -28,8 +28,11 @@ returns-in-Get-clause-written g c =
     c.range_to_apply-range_to_apply.ensures c.get.ensures.found))).written
 
 pub returns-in-Put-clause-fresh : goal.returns-in-Put-clause-fresh
-returns-in-Put-clause-fresh g c fresh = fresh_stays c.args.cache.now c.args.grid.now c.put.new.grid c.put.ensures.done.leaves c.put.ensures.stamped fresh
+returns-in-Put-clause-fresh g c fresh =
+    subst (λ cache. IsCacheCurrent cache c.put.new.grid) (sym c.put.ensures.cached)
+    (fresh_stays c.args.cache.now c.args.grid.now c.put.new.grid c.put.ensures.done.leaves c.put.ensures.stamped fresh)
 
 pub returns-in-Mkdir-clause-fresh : goal.returns-in-Mkdir-clause-fresh
 returns-in-Mkdir-clause-fresh g c fresh =
-    fresh_stays c.args.cache.now c.args.grid.now c.make_directory.new.grid c.make_directory.ensures.done.leaves c.make_directory.ensures.stamped fresh
+    subst (λ cache. IsCacheCurrent cache c.make_directory.new.grid) (sym c.make_directory.ensures.cached)
+    (fresh_stays c.args.cache.now c.args.grid.now c.make_directory.new.grid c.make_directory.ensures.done.leaves c.make_directory.ensures.stamped fresh)
