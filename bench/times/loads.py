@@ -1,7 +1,7 @@
 #!/usr/bin/env python3
 """Loads on `wozhinnam serve`, the built program, on the loopback, with times and memory; each takes a minute or two at most.
 
-usage: bench/times/loads.py PROGRAM [open|readers|many_readers|slow_readers|untaken|came|million|pipelined|cut|puts|many_puts|listings|metadata ..]
+usage: bench/times/loads.py PROGRAM [open|readers|many_readers|slow_readers|untaken|came|million|pipelined|cut|listings|puts|many_puts|walks|metadata|verifies|parts|wide|mixed ..]
 
 open          10,000 connections, a reply on each
 readers       8 readers of 4 MiB beside small GETs; many_readers: 200 of them; slow_readers: 200 that take 10 KB a second
@@ -9,11 +9,20 @@ untaken       200 GETs of one file of 4 MiB, of 200 files, and of 100 bytes of o
 came          100,000 connections that come and go, one after the other; million: 1,000,000
 pipelined     500 GETs of a file of 4 MiB on one connection, written before anything is read
 cut           a minute of connections that send and take a part of something and are cut, some by a reset, beside small GETs
-puts          a client that puts 16 MiB again and again, beside small GETs; many_puts: four of them
 listings      20 GETs of the `t=json` of a directory of names that JSON escapes six times as long, of which nothing is read
-metadata      GETs through a directory whose one child has 2.4 million members of metadata, beside small GETs
+
+Beside small GETs, each by a client that asks again and again:
+puts          puts of 16 MiB; many_puts: by four clients
+walks         GETs of a small file behind ten directories of 16 MB each
+metadata      GETs through a directory whose one child has 1.3 million members of metadata
+verifies      checks with verify of a file of 16 MiB
+parts         GETs of 1,000 bytes of two files of 16 MiB, by turns
+wide          the `t=json` of a directory of 20,000 children
+mixed         all of these at once, by a client each
 """
 
+import functools
+import itertools
 import os
 import random
 import resource
@@ -215,23 +224,29 @@ def beside(name, server, quick, load, count, seconds=15):
     return len(done) / (done[-1] - began)
 
 
-def puts(program, count):
-    server = served(program, 100)
-    quick = server.connect()
-    times("small GETs alone", [small(quick) for _ in range(2000)])
-    body = random.Random(16).randbytes(16 << 20)
-    asked = b"PUT /uri HTTP/1.1\r\nHost: g\r\nConnection: close\r\nContent-Length: %d\r\n\r\n" % len(body)
+def once(server, request, body=b"", status=b"200"):
+    """What sends a request on a connection of its own and takes its reply, which has to have this status."""
 
-    def put():
+    def load():
         with server.connect() as stream:
-            stream.sendall(asked)
+            stream.sendall(request)
             stream.sendall(body)
-            if not stream.recv(65536).startswith(b"HTTP/1.1 200"):
-                fail("an upload was refused")
+            first = stream.recv(65536)
+            if not first.startswith(b"HTTP/1.1 " + status):
+                fail("refused: %r" % first[:80])
+            while stream.recv(1 << 20):
+                pass
 
-    each = beside("%d that put 16 MiB" % count, server, quick, put, count)
-    print("puts of 16 MiB a second: %.2f; memory at most %d MB" % (each, server.memory("VmHWM") >> 20))
-    server.stop()
+    return load
+
+
+def asked(method, target, length=0):
+    return b"%s /uri%s HTTP/1.1\r\nHost: g\r\nConnection: close\r\nContent-Length: %d\r\n\r\n" % (method, target.encode(), length)
+
+
+def putter(server):
+    body = random.Random(16).randbytes(16 << 20)
+    return once(server, asked(b"PUT", "", len(body)), body)
 
 
 def put_text(server, text):
@@ -243,8 +258,88 @@ def netstring(text):
     return b"%d:%s," % (len(text), text)
 
 
-def entry(name, metadata):
-    return netstring(netstring(name) + netstring(b"URI:LIT:mzxw6") + netstring(b"") + netstring(metadata))
+def entry(name, metadata, cap=b"URI:LIT:mzxw6"):
+    return netstring(netstring(name) + netstring(cap) + netstring(b"") + netstring(metadata))
+
+
+def children(count):
+    return b"".join(entry(b"%08d" % at, b"{}") for at in range(count))
+
+
+def walker(server):
+    """GETs of a small file behind ten directories of 16 MB each, whose next one has the last name of all."""
+    cap, others = "URI:LIT:mzxw6", children(16_000_000 // len(entry(b"%08d" % 0, b"{}")))
+    for _ in range(10):
+        cap = put_text(server, others + entry(b"~", b"{}", cap.encode()))
+    return once(server, asked(b"GET", "/" + cap + "/~" * 10))
+
+
+def getter(server):
+    """GETs through a directory whose one child has 1.3 million members of metadata, 15.6 MB."""
+    cap = put_text(server, entry(b"child", b"{" + b",".join(b'"%06x":{}' % at for at in range(1_300_000)) + b"}"))
+    return once(server, asked(b"GET", "/%s/child" % cap))
+
+
+def verifier(server):
+    """Checks with verify of a file of 16 MiB."""
+    cap = server.ask("PUT", "/uri", random.Random(17).randbytes(16 << 20)).decode()
+    return once(server, asked(b"POST", "/%s?t=check&verify=true&output=JSON" % cap))
+
+
+def reader(server):
+    """GETs of 1,000 bytes of two files of 16 MiB, by turns."""
+    loads = []
+    for at in (18, 19):
+        cap = server.ask("PUT", "/uri", random.Random(at).randbytes(16 << 20))
+        head = b"GET /uri/%s HTTP/1.1\r\nHost: g\r\nConnection: close\r\nRange: bytes=5000000-5000999\r\n\r\n" % cap
+        loads.append(once(server, head, status=b"206"))
+    turns = itertools.cycle(loads)
+    return lambda: next(turns)()
+
+
+def lister(server):
+    """The `t=json` of a directory of 20,000 children."""
+    return once(server, asked(b"GET", "/%s?t=json" % put_text(server, children(20_000))))
+
+
+# Loads beside which a quick client is timed: what makes one, and what it is called.
+BESIDE = {
+    "puts": (putter, "puts of 16 MiB"),
+    "walks": (walker, "GETs along ten directories of 16 MB"),
+    "metadata": (getter, "GETs through 15.6 MB of metadata"),
+    "verifies": (verifier, "checks of 16 MiB with verify"),
+    "parts": (reader, "GETs of 1,000 bytes of two files of 16 MiB"),
+    "wide": (lister, "listings of 20,000 children"),
+}
+
+
+def loaded(program, name, count=1):
+    """One of these loads, by so many clients at once."""
+    maker, called = BESIDE[name]
+    server = served(program, 100)
+    load = maker(server)
+    quick = server.connect()
+    times("small GETs alone", [small(quick) for _ in range(2000)])
+    each = beside("%s, by %d" % (called, count), server, quick, load, count)
+    print("%s a second: %.2f; memory at most %d MB" % (called, each, server.memory("VmHWM") >> 20))
+    server.stop()
+
+
+def mixed(program):
+    """All of them at once, by a client each."""
+    server = served(program, 100)
+    loads = [maker(server) for maker, _ in BESIDE.values()]
+    quick = server.connect()
+    turn, mine = itertools.count(), threading.local()
+
+    def load():
+        if not hasattr(mine, "load"):
+            mine.load = loads[next(turn)]
+        mine.load()
+
+    each = beside("all of these", server, quick, load, len(loads), seconds=30)
+    print("all of these a second: %.2f; memory at most %d MB" % (each, server.memory("VmHWM") >> 20))
+    server.stop()
 
 
 def listings(program):
@@ -266,25 +361,6 @@ def listings(program):
     print("20 GETs of a listing that nobody takes: %.1f MB of memory beside, %d MB at most" % ((server.memory() - before) / 1e6, server.memory("VmHWM") >> 20))
     for stream in streams + [quick]:
         stream.close()
-    server.stop()
-
-
-def metadata(program):
-    server = served(program, 100)
-    members = b"{" + b",".join(b'"%06x":{}' % at for at in range(1_300_000)) + b"}"
-    cap = put_text(server, entry(b"child", members))
-    quick = server.connect()
-    times("small GETs alone", [small(quick) for _ in range(2000)])
-    asked = b"GET /uri/%s/child HTTP/1.1\r\nHost: g\r\nConnection: close\r\n\r\n" % cap.encode()
-
-    def get():
-        with server.connect() as stream:
-            stream.sendall(asked)
-            if not stream.recv(65536).startswith(b"HTTP/1.1 200"):
-                fail("a child was not found")
-
-    each = beside("GETs through a directory of %d bytes of metadata" % len(members), server, quick, get, 1)
-    print("such GETs a second: %.2f; memory at most %d MB" % (each, server.memory("VmHWM") >> 20))
     server.stop()
 
 
@@ -383,10 +459,10 @@ LOADS = {
     "million": lambda program: came(program, 1_000_000, 600),
     "pipelined": pipelined,
     "cut": cut,
-    "puts": lambda program: puts(program, 1),
-    "many_puts": lambda program: puts(program, 4),
     "listings": listings,
-    "metadata": metadata,
+    **{name: functools.partial(loaded, name=name) for name in BESIDE},
+    "many_puts": functools.partial(loaded, name="puts", count=4),
+    "mixed": mixed,
 }
 
 

@@ -1,9 +1,7 @@
 -- Caches that are fresh, and what keeps them so.
-use Rattle.std.proofs.Common.{◌≡◌, ◌≢◌, inl, inr, ℕ, ◌==◌, List, [], Bool, true, false, Option, Some, None, refl, sym, ap, subst, ◌∙◌, arith, IfSome, IfOk, Result, Ok, Err, Global, Contains}
+use Rattle.std.proofs.Common.{◌≡◌, ◌≢◌, inl, inr, ℕ, ◌==◌, List, [], Bool, true, false, Option, Some, None, refl, sym, ap, subst, ◌∙◌, arith, IfSome, IfOk, Result, Ok, Err, Contains}
 use Rattle.std.proofs.lemmas.Bool.Decides.{nat_tests}
 use Rattle.std.specs.Prelude.{if◌then◌else◌, MatchOption}
-use Rattle.std.specs.Rc.{rc_slice_items}
-use Rattle.std.specs.declared.rc.RcSlice.{RcSlice}
 use Rattle.lru.proofs.Splits.{Contains-nil}
 use Rattle.grid.specs.Stamps.{last_count, stamp_of}
 use Rattle.grid.specs.GridState.{GridState, stood, raised_at, IsHonest, NoneFailed}
@@ -84,8 +82,8 @@ fresh_kept_if None cache kept old new f bytes left stamped calm is read same fre
 fresh_kept_if (Some stamp) cache kept old new f bytes left stamped calm is read within fresh = fresh_kept cache kept old new f stamp bytes left stamped calm is read within fresh
 
 -- what a look-up found
-pub found_all : {E : Type 0} (P Q : List ℕ → Type 0) (r : Result (Option (RcSlice ℕ Global)) E) → ((bytes : List ℕ) → P bytes → Q bytes)
-    → IfOk r (λ o. IfSome o (λ b. P (rc_slice_items b))) → IfOk r (λ o. IfSome o (λ b. Q (rc_slice_items b)))
-found_all P Q (Err e) f h = tt
-found_all P Q (Ok None) f h = tt
-found_all P Q (Ok (Some b)) f h = f (rc_slice_items b) h
+pub found_all : {A E : Type 0} (bytes_of : A → List ℕ) (P Q : List ℕ → Type 0) (r : Result (Option A) E) → ((bytes : List ℕ) → P bytes → Q bytes)
+    → IfOk r (λ o. IfSome o (λ b. P (bytes_of b))) → IfOk r (λ o. IfSome o (λ b. Q (bytes_of b)))
+found_all bytes_of P Q (Err e) f h = tt
+found_all bytes_of P Q (Ok None) f h = tt
+found_all bytes_of P Q (Ok (Some b)) f h = f (bytes_of b) h

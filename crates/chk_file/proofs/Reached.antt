@@ -7,7 +7,8 @@ use Rattle.std.specs.FinMap.{get}
 use Rattle.std.proofs.lemmas.Bool.{eqb-true, eq-eqb, ne_eqb, lt-ltb, le-ltb}
 use Rattle.std.proofs.lemmas.Option.{slice_get_past}
 use Rattle.share_store.specs.Shares.{Shares}
-use Rattle.grid.specs.Found.{found_below, AllBut}
+use Rattle.share_store.specs.NumberedShares.{AllBut}
+use Rattle.grid.specs.Found.{found_below}
 use Rattle.grid.specs.FoundLaws.{FoundLaws}
 use Rattle.grid.specs.GridState.{GridState, maps_of, failures_at}
 use Rattle.grid.specs.Standing.{standing}

@@ -22,10 +22,24 @@ mod coding;
 mod encoder;
 /// What was made.
 mod made;
-/// Files that were read and are kept, and the upload that is prepared.
+/// Files that were read and are kept, and what is prepared.
 mod cache;
 /// Reading files.
 mod reader;
+/// Reading long files.
+mod long_reader;
+/// Long files that are prepared.
+mod read_ahead;
+/// Strings that are judged as shares of them.
+mod judging;
+/// Good shares of them.
+mod picked;
+/// Good shares that are decoded.
+mod decoding;
+/// Crypttexts whose root is compared.
+mod root_check;
+/// Files that are prepared.
+mod ready;
 /// Downloads.
 mod download;
 /// Bytes that are held whole.
@@ -34,7 +48,7 @@ mod whole;
 mod share_reader;
 /// What the stores have of a file, verified.
 mod verify;
-/// What was gathered, number by number.
+/// What was gathered or told, number by number.
 mod rows;
 /// Which of the shares that were gathered are read.
 mod chosen;

@@ -12,11 +12,11 @@ ghost use Rattle.chk_file.specs.Fit.{fit};
 ghost use Rattle.chk_file.specs.Bound.{Bound};
 ghost use Rattle.chk_file.specs.Cached.{IsCacheCurrent, IsWithinOr};
 
-use crate::cache::Cache;
+use crate::cache::{Cache, MOST_KEPT};
 use crate::cipher::apply_keystream;
 use crate::download::Download;
 use crate::fault::ReadFault;
-use crate::share_reader::ShareReader;
+use crate::long_reader::begin_long;
 use crate::verify::verify;
 use crate::whole::Whole;
 use caps::{ReadFields, storage_index};
@@ -25,9 +25,6 @@ use share_codec::Params;
 use share_store::Store;
 use std::alloc::{AllocError, Global};
 use std::rc::RcSlice;
-
-/// The most bytes of a file that is kept.
-const MOST_KEPT: u64 = 1_048_576;
 
 /// The bytes of the file that a read cap names.
 ///
@@ -101,7 +98,7 @@ pub fn begin<S: Store>(
         OfReached grid.old grid.new (index_of fields.now.key) (λ row. fit row fields.now ≡ None) }
 {
     if fields.size > MOST_KEPT {
-        return hold_shares(alloc, grid, fields);
+        return begin_long(alloc, grid, cache, fields);
     }
     match fetch(alloc, grid, cache, fields) {
         Ok(bytes) => Ok(whole(alloc, fields, bytes)),
@@ -270,38 +267,6 @@ fn read_stores<S: Store>(
 {
     match verify(alloc, grid, fields) {
         Ok((_, bytes)) => Ok(apply_keystream(fields.key, bytes)),
-        Err(fault) => Err(fault),
-    }
-}
-
-/// A download that holds k good shares of those that the stores have.
-fn hold_shares<S: Store>(
-    alloc: Global,
-    grid: &mut Grid<S>,
-    fields: &ReadFields,
-) -> Result<Download, ReadFault>
-    ensures leaves { Leaves grid.old grid.new }
-    ensures stamps { grid.new.stamps ≡ grid.old.stamps }
-    ensures unchanged { IsHonest grid.old → IsUnchanged grid.old grid.new }
-    ensures bound { IfOk result (λ download. Bound fields.now download.left) }
-    ensures fit { IsHonest grid.old → NoneFailed grid.old grid.new → IfOk result (λ download.
-        fit (table_of (stood grid.old) (index_of fields.now.key)) fields.now ≡ Some download.left) }
-    ensures each { IfOk result (λ download.
-        download.each ≡ segment_size (params_of fields.now.k fields.now.n fields.now.size)) }
-    ensures missing { IsHonest grid.old → NoneFailed grid.old grid.new →
-        IsErrOf result ReadFault.NotEnoughShares →
-        fit (table_of (stood grid.old) (index_of fields.now.key)) fields.now ≡ None }
-    ensures fit_reached { IsHonest grid.old → IfOk result (λ download.
-        OfReached grid.old grid.new
-        (index_of fields.now.key) (λ row. fit row fields.now ≡ Some download.left)) }
-    ensures missing_reached { IsHonest grid.old → IsErrOf result ReadFault.NotEnoughShares →
-        OfReached grid.old grid.new (index_of fields.now.key) (λ row. fit row fields.now ≡ None) }
-{
-    match verify(alloc, grid, fields) {
-        Ok((shares, _)) => {
-            let params = Params::new(fields.k, fields.n, fields.size);
-            Ok(Download::pinned(alloc, ShareReader::new(params, fields.key, shares)))
-        }
         Err(fault) => Err(fault),
     }
 }

@@ -13,6 +13,7 @@ use erasure::Code;
 use share_codec::{Params, Share};
 use std::alloc::{AllocError, Global};
 use std::marker::Model;
+use std::rc::Rc;
 
 /// A file of which k good shares are held, from a segment on. No store is asked for its bytes.
 #[derive(Debug, Drop)]
@@ -20,7 +21,7 @@ pub(crate) struct ShareReader {
     params: Params,
     code: Code,
     key: [u8; 16],
-    shares: Vec<Share>,
+    shares: Rc<Vec<Share>>,
     at: usize,
 }
 
@@ -35,26 +36,45 @@ impl Model for ShareReader {
     ghost Value = { DownloadValue };
 
     ghost view = { λ p.
-        download_left p.params (crypt p.key (crypttext_from p.params p.shares.items)) p.at };
+        download_left p.params (crypt p.key (crypttext_from p.params p.shares.value.items)) p.at };
 
-    ghost invariant = { λ p. AreTaken p.params p.shares.items × (p.at ≤ segment_count p.params)
+    ghost invariant = { λ p. AreTaken p.params p.shares.value.items × (p.at ≤ segment_count p.params)
         × (p.code.k ≡ p.params.k) × (p.code.n ≡ p.params.n) };
 }
 
 impl ShareReader {
     /// The whole file of which these are k good shares, under this key.
-    pub(crate) fn new(params: Params, key: [u8; 16], shares: Vec<Share>) -> Self
+    pub(crate) fn new(
+        alloc: Global,
+        params: Params,
+        key: [u8; 16],
+        shares: Vec<Share>,
+    ) -> Result<Self, AllocError>
         requires { AreTaken params shares.items }
-        ensures { result ≡ download_left params (crypt key (crypttext_from params shares.items)) 0 }
+        ensures { IfOk result (λ reader. reader
+            ≡ download_left params (crypt key (crypttext_from params shares.items)) 0) }
     {
         let code = Code::new(params.k, params.n).unwrap();
-        ShareReader {
+        Ok(ShareReader {
             params,
             code,
             key,
-            shares,
+            shares: Rc::new(alloc, shares)?,
             at: 0,
-        }
+        })
+    }
+
+    /// Another one of the same bytes. The shares are shared, not copied.
+    pub(crate) fn twin(&self) -> Result<Self, AllocError>
+        ensures { IfOk result (λ twin. twin ≡ self.now) }
+    {
+        Ok(ShareReader {
+            params: self.params,
+            code: Code::new(self.params.k, self.params.n).unwrap(),
+            key: self.key,
+            shares: self.shares.clone()?,
+            at: self.at,
+        })
     }
 
     /// The next segment, or none where no byte is left. After a refusal the same bytes are left.
@@ -75,7 +95,7 @@ impl ShareReader {
             &self.params,
             &self.code,
             self.key,
-            &self.shares,
+            self.shares.as_ref(),
             self.at,
         )?;
         self.at += 1;

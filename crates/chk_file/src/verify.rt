@@ -1,5 +1,5 @@
 //! What the stores have of a file, verified.
-ghost use Rattle.std.specs.Prelude.{◌≡◌, map, IfOk, IsErrOf, Some, None};
+ghost use Rattle.std.specs.Prelude.{◌≡◌, map, All, IfOk, IsErrOf, Some, None};
 ghost use Rattle.std.specs.Rc.{rc_slice_items};
 ghost use Rattle.aes_ctr.specs.Crypt.{crypt};
 ghost use Rattle.grid.specs.GridState.{stood, IsHonest, NoneFailed};
@@ -13,17 +13,19 @@ ghost use Rattle.chk_file.specs.Numbers.{params_of};
 ghost use Rattle.chk_file.specs.Taken.{AreTaken};
 ghost use Rattle.chk_file.specs.Fit.{fit, crypttext_from};
 ghost use Rattle.chk_file.specs.Bound.{Bound};
+ghost use Rattle.chk_file.specs.Ahead.{AreChosen, file_params};
 
 use crate::chosen::chosen;
 use crate::crypttext::crypttext;
 use crate::fault::ReadFault;
 use crate::laws::reached_rows;
+use crate::picked::file_params;
 use crate::rows::Rows;
 use aes_ctr::laws::{keystream_by_place, parts_agree, twice_is_unchanged};
 use caps::{ReadFields, storage_index};
 use grid::Grid;
 use grid::laws::found_laws;
-use share_codec::{Params, Share};
+use share_codec::{Share, ShareReading};
 use share_store::Store;
 use std::alloc::Global;
 use std::rc::RcSlice;
@@ -155,14 +157,37 @@ fn verify_found(
     keystream_by_place();
     twice_is_unchanged();
     parts_agree();
-    let params = Params::new(fields.k, fields.n, fields.size);
-    let rows = Rows::new(alloc, found, fields.n)?;
-    let shares = chosen(alloc, &rows, &params, &fields.ueb)?;
-    if shares.len() < params.k as usize {
-        return Err(ReadFault::NotEnoughShares);
-    }
+    let shares = match choose(alloc, found, &[], fields) {
+        Ok(shares) => shares,
+        Err(fault) => return Err(fault),
+    };
+    let params = file_params(fields);
     let Some(bytes) = crypttext(alloc, &params, &shares)? else {
         return Err(ReadFault::NotEnoughShares);
     };
     Ok((shares, bytes))
+}
+
+/// The good shares that are read of those that were gathered: the first k in the order of their numbers. Strings that
+/// were hashed before, in `readings`, aren't hashed again.
+pub(crate) fn choose(
+    alloc: Global,
+    found: &[(usize, u16, RcSlice<u8>)],
+    readings: &[ShareReading],
+    fields: &ReadFields,
+) -> Result<Vec<Share>, ReadFault>
+    requires { All (λ reading. reading.params ≡ file_params fields.now) readings.now }
+    ensures chosen { IfOk result (λ shares.
+        AreChosen fields.now (map (found_bytes rc_slice_items) found.now) shares.items) }
+    ensures missing { IsErrOf result ReadFault.NotEnoughShares →
+        fit_of (map (found_bytes rc_slice_items) found.now) fields.now ≡ None }
+{
+    share_codec::laws::good_shares_are_read();
+    let params = file_params(fields);
+    let rows = Rows::new(alloc, found, fields.n)?;
+    let shares = chosen(alloc, &rows, readings, &params, &fields.ueb)?;
+    if shares.len() < params.k as usize {
+        return Err(ReadFault::NotEnoughShares);
+    }
+    Ok(shares)
 }

@@ -3,5 +3,6 @@ pub mod Names
 pub mod Paths
 pub mod Steps
 pub mod Sealed
+pub mod Unread
 pub mod SettingsText
 pub mod Refusals

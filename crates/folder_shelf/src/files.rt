@@ -1,5 +1,5 @@
 //! Calls of a file system: whole files, and folders.
-ghost use Rattle.std.specs.Prelude.{◌≡◌, ◌++◌, None, map, string_bytes, IfOk, OnOk};
+ghost use Rattle.std.specs.Prelude.{◌≡◌, ◌++◌, None, map, string_bytes, IfOk, OnOk, OnErr};
 ghost use Rattle.std.specs.Option.{option_map};
 ghost use Rattle.folder_shelf.specs.Steps.{Steps, with_file_step};
 ghost use Rattle.folder_shelf.specs.Steps as step;
@@ -13,6 +13,9 @@ use std::{fs, io};
 
 /// How many bytes the file of a share has, at most: those of more than a share of the largest body, and a seal.
 pub const LONGEST_FILE: usize = 67_108_872;
+
+/// How many bytes a share has that is put, at most.
+pub const LONGEST_SHARE: usize = 67_108_864;
 
 /// The bytes of a whole file that has so many, at most. `None` where what has this name is no file or a longer one: it is
 /// looked at before it is opened, since a pipe would be waited for, and no more is read than that.
@@ -48,21 +51,29 @@ pub struct Paths {
     pub name: String,
 }
 
-/// What a shelf in a folder asks of a file system.
+/// What a shelf or a store in a folder asks of a file system.
 pub trait Disk {
     /// What was asked so far and answered, where that is known.
     ghost steps: { Self → Steps } = { λ _. None };
 
     /// The bytes of the file of this name, and `None` where what has it is no file, or one longer than a share's.
     fn read(&mut self, path: &str) -> io::Result<Option<Vec<u8>>>
-        ensures { IfOk result (λ text. steps self.new ≡ with_file_step (steps self.old)
-            (step.read path.now (option_map (λ t. t.items) text))) };
+        ensures read { IfOk result (λ text. steps self.new ≡ with_file_step (steps self.old)
+            (step.read path.now (option_map (λ t. t.items) text))) }
+        ensures unread { OnErr result (steps self.new ≡ with_file_step (steps self.old)
+            (step.unread path.now)) };
+
+    /// Whether a file of this name stands. What has the name and is no file is none.
+    fn stands(&mut self, path: &str) -> io::Result<bool>
+        ensures { IfOk result (λ found. steps self.new ≡ with_file_step (steps self.old)
+            (step.found path.now found)) };
 
     /// Writes a file of two parts, in the place of one that stands there: it is whole whenever it has its name, and has it
     /// from then on.
     fn write(&mut self, paths: &Paths, first: &[u8], second: &[u8]) -> io::Result<()>
         ensures { OnOk result (steps self.new ≡ with_file_step (steps self.old)
-            (step.wrote (string_bytes paths.now.name) (first.now ++ second.now))) };
+            (step.wrote (string_bytes paths.now.unfinished) (string_bytes paths.now.name)
+            (first.now ++ second.now))) };
 
     /// Takes a file away, where there is one.
     fn remove(&mut self, paths: &Paths) -> io::Result<()>
@@ -73,6 +84,11 @@ pub trait Disk {
     fn names_in(&mut self, folder: &str) -> io::Result<Vec<String>>
         ensures { IfOk result (λ names. steps self.new ≡ with_file_step (steps self.old)
             (step.named folder.now (map string_bytes names.items))) };
+
+    /// The names that a folder has are there for good, whoever gave them.
+    fn sync(&mut self, folder: &str) -> io::Result<()>
+        ensures { OnOk result (steps self.new ≡ with_file_step (steps self.old)
+            (step.synced folder.now)) };
 
     /// What it takes memory from.
     fn memory(&self) -> Global;
@@ -103,16 +119,47 @@ impl<R: Files + AllocGlobal + Clone + Drop> Disk for FileDisk<R> {
         self.names_of(folder)
     }
 
+    fn stands(&mut self, path: &str) -> io::Result<bool> {
+        match fs::symlink_metadata(&self.rt, path) {
+            Ok(found) => Ok(found.is_file()),
+            Err(error) if error.kind() == ErrorKind::NotFound => Ok(false),
+            Err(error) => Err(error),
+        }
+    }
+
+    fn sync(&mut self, folder: &str) -> io::Result<()> {
+        self.sync_folder(folder)
+    }
+
     fn memory(&self) -> Global {
         self.rt.alloc()
     }
 }
 
 impl<R: Files + AllocGlobal + Clone + Drop> FileDisk<R> {
+    /// The file system of this runtime, and whether what is written there is synced.
+    pub fn new(rt: R, synced: bool) -> FileDisk<R>
+        ensures synced { result.synced ≡ synced }
+    {
+        FileDisk { rt, synced }
+    }
+
     /// Writes a file of two parts under its unfinished name, syncs it, gives it the name by which it stands, in the
     /// place of a file that stands there, and syncs the folder of that name. So it is whole whenever it has that name,
-    /// and keeps the name from then on.
+    /// and keeps the name from then on. Where that fails what is unfinished is taken away, if it can be: it would take
+    /// room, on a full disk too, until that share is put again.
     pub(crate) fn write_whole(&self, paths: &Paths, first: &[u8], second: &[u8]) -> io::Result<()> {
+        match self.write_and_name(paths, first, second) {
+            Ok(()) => Ok(()),
+            Err(error) => {
+                let _ = fs::remove_file(&self.rt, paths.unfinished.as_str());
+                Err(error)
+            }
+        }
+    }
+
+    /// Writes a file of two parts, and gives it its name. Where that fails something unfinished may be left.
+    fn write_and_name(&self, paths: &Paths, first: &[u8], second: &[u8]) -> io::Result<()> {
         let mut file = self.begin(paths.beginnings.as_str(), paths.unfinished.as_str())?;
         file.write_all(first)?;
         file.write_all(second)?;

@@ -1,17 +1,17 @@
 //! The shelf.
 ghost use Rattle.std.specs.FinMap.{empty};
-ghost use Rattle.std.specs.Prelude.{◌≡◌, ◌≤◌, ◌<◌, ◌+◌, ◌-◌, ◌^◌, ◌==◌, ◌↔◌, ℕ, Some, false, length, string_bytes, IfOk, IfSome, OnOk, IsErrOf, if◌then◌else◌};
+ghost use Rattle.std.specs.Prelude.{◌≡◌, ◌≤◌, ◌<◌, ◌+◌, ◌-◌, ◌^◌, ◌==◌, ◌↔◌, ℕ, [], Some, false, length, string_bytes, IfOk, IfSome, OnOk, IsErrOf, if◌then◌else◌};
 ghost use Rattle.std.specs.Rc.{rc_slice_items};
 ghost use Rattle.share_shelf.specs.CrashStates.{IsQuiet};
-ghost use Rattle.folder_shelf.specs.Paths.{share_path};
+ghost use Rattle.folder_shelf.specs.Paths.{share_path, unfinished_path};
 ghost use Rattle.folder_shelf.specs.Sealed.{sealed};
 ghost use Rattle.folder_shelf.specs.Steps.{with_file_step};
 ghost use Rattle.folder_shelf.specs.Steps as step;
 
-use crate::file_text::{SEAL, seal_of, share_in};
-use crate::files::{Disk, FileDisk, LONGEST_FILE, Paths};
+use crate::file_text::seal_of;
+use crate::files::{Disk, FileDisk, LONGEST_SHARE, Paths};
 use crate::listing::list;
-use crate::names::{folder_of, name_of};
+use crate::share_files::{Unread, paths_of, read_share};
 use crate::{FolderFault, StoreSettings};
 use share_shelf::{Shelf, ShelfFault};
 use std::alloc::{AllocError, Global};
@@ -133,18 +133,12 @@ impl<D: Disk + Drop> FolderShelf<D> {
 
     /// The paths of a share's file.
     fn paths_of(&self, index: &[u8; 16], number: u16) -> Result<Paths, AllocError>
-        ensures { IfOk result (λ paths. string_bytes paths.name
+        ensures name { IfOk result (λ paths. string_bytes paths.name
             ≡ share_path (string_bytes self.now.top) index.now number) }
+        ensures unfinished { IfOk result (λ paths. string_bytes paths.unfinished
+            ≡ unfinished_path (string_bytes self.now.top) index.now number []) }
     {
-        let alloc = self.disk.memory();
-        let file = name_of(alloc, index, number)?;
-        let (top, folder) = (&self.top, folder_of(index));
-        Ok(Paths {
-            beginnings: format!(in alloc; "{top}/new")?,
-            unfinished: format!(in alloc; "{top}/new/{file}")?,
-            folder: format!(in alloc; "{top}/{folder}")?,
-            name: format!(in alloc; "{top}/{folder}/{file}")?,
-        })
+        paths_of(self.disk.memory(), self.top.as_str(), index, number, "")
     }
 }
 
@@ -185,23 +179,15 @@ impl<D: Disk + Drop> Shelf for FolderShelf<D> {
         ensures top { self.new.top ≡ self.old.top }
     {
         let paths = self.paths_of(&index, number)?;
-        match self.disk.read(paths.name.as_str()) {
-            Ok(text) => match share_in(text) {
-                Some(bytes) => Ok(Some(RcSlice::from_vec(bytes)?)),
-                None => {
-                    self.note_rotten(paths.name)?;
-                    Ok(None)
-                }
-            },
-            Err(error) => match error.kind() {
-                ErrorKind::NotFound => Ok(None),
-                ErrorKind::OutOfMemory => Err(ShelfFault::NoMemory),
-                ErrorKind::IsADirectory | ErrorKind::PermissionDenied => {
-                    self.note_rotten(paths.name)?;
-                    Ok(None)
-                }
-                _ => Err(self.fail()),
-            },
+        match read_share(&mut self.disk, paths.name.as_str()) {
+            Ok(bytes) => Ok(Some(RcSlice::from_vec(bytes)?)),
+            Err(Unread::NotThere) => Ok(None),
+            Err(Unread::Rotten) => {
+                self.note_rotten(paths.name)?;
+                Ok(None)
+            }
+            Err(Unread::NoMemory) => Err(ShelfFault::NoMemory),
+            Err(Unread::Failed) => Err(self.fail()),
         }
     }
 
@@ -212,11 +198,12 @@ impl<D: Disk + Drop> Shelf for FolderShelf<D> {
         ensures rises { self.old.failures ≤ self.new.failures }
         ensures failed { IsErrOf result ShelfFault.Failed ↔ (self.old.failures < self.new.failures) }
         ensures written { OnOk result (D.steps self.new.disk ≡ with_file_step (D.steps self.old.disk)
-            (step.wrote (share_path (string_bytes self.old.top) index number)
+            (step.wrote (unfinished_path (string_bytes self.old.top) index number [])
+            (share_path (string_bytes self.old.top) index number)
             (sealed (rc_slice_items bytes)))) }
         ensures top { self.new.top ≡ self.old.top }
     {
-        if bytes.len() > LONGEST_FILE - SEAL {
+        if bytes.len() > LONGEST_SHARE {
             return Err(self.fail());
         }
         let paths = self.paths_of(&index, number)?;

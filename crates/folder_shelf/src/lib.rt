@@ -22,6 +22,8 @@ mod sealed_settings;
 mod settings_file;
 /// Calls of a file system.
 mod files;
+/// The files of shares.
+mod share_files;
 /// How a folder is opened.
 mod opening;
 /// What stands in a folder's folders.
@@ -33,10 +35,11 @@ pub mod laws;
 
 pub use fault::FolderFault;
 pub use file_text::{seal_of, share_in, unsealed};
-pub use files::{Disk, FileDisk, LONGEST_FILE, Paths, read_file};
+pub use files::{Disk, FileDisk, LONGEST_FILE, LONGEST_SHARE, Paths, read_file};
 pub use folder_shelf::{FileShelf, FolderShelf};
 pub use names::{name_of, read_name};
 pub use opening::FolderLock;
 pub use sealed_settings::{TEXT as SETTINGS_TEXT, read_settings_as, settings_text_as};
 pub use settings::StoreSettings;
 pub use settings_file::{check_settings, read_settings, settings_text};
+pub use share_files::{Unread, path_of, paths_of, read_share};

@@ -14,6 +14,8 @@ mod codes;
 mod directories;
 /// Several messages hashed at once.
 mod hash_lanes;
+/// Shares and crypttexts that are judged in steps.
+mod readings;
 /// Replies of the Redis protocol.
 mod redis_texts;
 /// Shares.
@@ -46,6 +48,7 @@ impl Answers for Questions {
             "code" => codes::answer(alloc, case),
             "directory" => directories::answer(alloc, case),
             "lanes" => self.lanes.answer(alloc, case),
+            "reading" => readings::answer(alloc, case),
             "reply" => redis_texts::answer(alloc, case),
             "share" => self.shares.answer(alloc, case),
             "hash" => tagged_hashes::answer(alloc, case),

@@ -113,7 +113,7 @@ impl Shares {
 }
 
 /// The numbers of an encoding, of which k and n are the third and fourth word.
-fn params(case: &Case<'_>, size: u64) -> Result<Params, NoAnswer> {
+pub fn params(case: &Case<'_>, size: u64) -> Result<Params, NoAnswer> {
     let (k, n) = (small_number(case, 2)?, small_number(case, 3)?);
     if !is_sharing(k, n) {
         return Err(NoAnswer::Word(2));

@@ -28,8 +28,8 @@ abbrev pub long_number : List ℕ → Option ℕ
 long_number word = number_to (2 ^ 64 - 1) word
 
 -- the number of servers: 1 to 256
-abbrev pub servers_of : List ℕ → Option ℕ
-servers_of word = option_and_then (λ servers. if nat_le 1 servers then Some servers else None) (number_to 256 word)
+abbrev pub server_count : List ℕ → Option ℕ
+server_count word = option_and_then (λ servers. if nat_le 1 servers then Some servers else None) (number_to 256 word)
 
 -- the bytes that a base32 text spells
 abbrev pub spelled : {F : Type 0} → Result (List ℕ) F → Option (List ℕ)
@@ -59,7 +59,7 @@ abbrev pub grid_of : List (List ℕ) → Option Command
 grid_of (k ∷ n ∷ servers ∷ room ∷ secret ∷ []) =
     option_and_then (λ k. option_and_then (λ n. option_and_then (λ servers. option_and_then (λ room. option_map (λ secret.
     command.Grid (record { k = k; n = n; servers = servers; room = room; secret = secret }))
-    (secret_word secret)) (long_number room)) (servers_of servers)) (short_number n)) (short_number k)
+    (secret_word secret)) (long_number room)) (server_count servers)) (short_number n)) (short_number k)
 grid_of arguments = None
 
 -- TEXT, which is all that stands after a space, spaces too

@@ -5,7 +5,7 @@
 //! it out in `calls.rt`.
 ghost use Rattle.std.specs.Prelude.{◌≡◌, [], ◌∷◌, None, IfOk};
 ghost use Rattle.std.specs.Option.{option_map};
-ghost use Rattle.gate_tasks.specs.Command.{words, servers_of, secret_word, index_word, share_words, grid_of, restore_of, open_of, bytes_command, end_of, take_of, lose_of, spoil_of, command_of, command_of_words, asked_with, short_number, long_number};
+ghost use Rattle.gate_tasks.specs.Command.{words, server_count, secret_word, index_word, share_words, grid_of, restore_of, open_of, bytes_command, end_of, take_of, lose_of, spoil_of, command_of, command_of_words, asked_with, short_number, long_number};
 
 use crate::spelling::read_spelled;
 use crate::text::unescape;
@@ -180,7 +180,7 @@ fn read_short(word: &[u8]) -> Option<u16>
 
 /// The number of servers, 1 to 256.
 fn read_servers(word: &[u8]) -> Option<u16>
-    ensures { result ≡ servers_of word.now }
+    ensures { result ≡ server_count word.now }
 {
     let number = read_number(word, 256)?;
     if number == 0 {

@@ -3,6 +3,7 @@
 use super::rows::{are_told, with_counted};
 use gate_core::Gateway;
 use share_store::MemStore;
+use std::alloc::Global;
 use std::test::Fail;
 
 /// The longest length of a body.
@@ -32,10 +33,14 @@ fn a_body_of_the_limit_is_stored(rt: HostRuntime) -> Result<(), Fail> {
     let alloc = rt.alloc();
     let request = with_counted(alloc, PUT, LONGEST)?;
     let found = with_counted(alloc, FOUND, LONGEST)?;
+    is_kept(&mut gateway(alloc)?, &request, &found)
+}
+
+/// A gateway over one store in memory, with room for one such file.
+fn gateway(alloc: Global) -> Result<Gateway<MemStore>, Fail> {
     let mut stores = Vec::new(alloc);
     stores.push(MemStore::new(alloc, 60_000_000))?;
-    let mut gateway = Gateway::new(alloc, 3, 10, stores, b"")?;
-    is_kept(&mut gateway, &request, &found)
+    Ok(Gateway::new(alloc, 3, 10, stores, b"")?)
 }
 
 /// A body of the longest length comes in pieces of 65,536 bytes, and its file is found; one byte more is refused.
@@ -55,9 +60,7 @@ fn an_upload_that_is_prepared_is_stored(rt: HostRuntime) -> Result<(), Fail> {
     let alloc = rt.alloc();
     let request = with_counted(alloc, PUT, LONGEST)?;
     let found = with_counted(alloc, FOUND, LONGEST)?;
-    let mut stores = Vec::new(alloc);
-    stores.push(MemStore::new(alloc, 60_000_000))?;
-    let mut gateway = Gateway::new(alloc, 3, 10, stores, b"")?;
+    let mut gateway = gateway(alloc)?;
     let (first, last) = request.split_at(request.len().saturating_sub(65_536));
     are_brought(&mut gateway, first)?;
 
@@ -94,4 +97,31 @@ fn steps_left(gateway: &mut Gateway<MemStore>, id: u64, last: &[u8]) -> usize {
         }
     }
     0
+}
+
+#[test]
+fn a_read_that_is_prepared_is_given(rt: HostRuntime) -> Result<(), Fail> {
+    let alloc = rt.alloc();
+    let request = with_counted(alloc, PUT, LONGEST)?;
+    let found = with_counted(alloc, FOUND, LONGEST)?;
+    assert!(rt; is_read_ahead(&mut gateway(alloc)?, &request, &found)?);
+    Ok(())
+}
+
+/// Whether a GET of the file is prepared in steps, while one on another connection waits, and needs none once another one
+/// was answered. Both are given the file.
+fn is_read_ahead(
+    gateway: &mut Gateway<MemStore>,
+    request: &[u8],
+    found: &[u8],
+) -> Result<bool, Fail> {
+    are_brought(gateway, request)?;
+    are_told(gateway, &[(1, b"", STORED), (2, b"", STORED)])?;
+    let both_wait = gateway.prepare(1, GET) && gateway.prepare(2, GET);
+    let steps = steps_left(gateway, 1, GET);
+    are_told(gateway, &[(1, GET, found)])?;
+    gateway.let_go_of(1);
+    let is_next = gateway.prepare(2, GET);
+    are_told(gateway, &[(2, GET, found)])?;
+    Ok(both_wait && steps > 50 && !is_next)
 }

@@ -1,15 +1,14 @@
 -- What is gathered of a server's store.
-use Rattle.std.proofs.Common.{◌≡◌, ◌⊎◌, inl, inr, ◌<◌, ◌≤◌, ◌+◌, ℕ, zero, suc, Bool, true, false, cond, List, [], ◌∷◌, ◌++◌, length, map, take, Some, None, slice_get, get_or, All, nat_eq, refl, sym, ap, subst, ◌∙◌, arith}
+use Rattle.std.proofs.Common.{◌≡◌, inr, ◌<◌, ◌≤◌, ℕ, zero, suc, Bool, true, false, cond, List, [], ◌∷◌, length, Some, None, slice_get, get_or, All, nat_eq, refl, sym, ap, subst, ◌∙◌, arith}
 use Rattle.std.proofs.lemmas.Option.{slice_get_read}
-use Rattle.std.proofs.lemmas.List.{map-append}
 use Rattle.std.proofs.lemmas.List.Elements.{All-map, All-append, All-nil}
 use Rattle.std.specs.Cmp.Lexicographic.{pointwise}
 use Rattle.share_store.specs.Shares.{Shares, ShareEntry}
 use Rattle.share_store.specs.Numbers.{of_index}
+use Rattle.share_store.specs.NumberedShares.{AllBut}
 use Rattle.grid.specs.Standing.{standing}
-use Rattle.grid.specs.Found.{entries_at, found_in, found_below, AllBut}
+use Rattle.grid.specs.Found.{entries_at, found_in, found_below}
 use Rattle.grid.proofs.Entries.{entry_stands, same_bytes}
-use Rattle.grid.proofs.Standing.{take_more}
 
 -- a share of one index is one of the store, under that index
 pub record IsOfIndex (index : List ℕ) (es : List ShareEntry) (e : ShareEntry) : Type 0 where
@@ -54,35 +53,12 @@ pub all_stand : (maps : List Shares) (index : List ℕ) (n : ℕ) → All (λ f.
 all_stand maps index zero = All-nil (λ f. standing maps f.0 (index, f.1) ≡ Some f.2)
 all_stand maps index (suc n) = All-append (λ f. standing maps f.0 (index, f.1) ≡ Some f.2) (found_below maps index n) (found_in n index (entries_at maps n)) (all_stand maps index n) (all_stand_in maps n index)
 
--- one more share was looked at
-pub rows_more : (server : ℕ) (es : List ShareEntry) (i : ℕ) (e : ShareEntry) → slice_get es i ≡ Some e → map (row server) (take (i + 1) es) ≡ map (row server) (take i es) ++ row server e ∷ []
-rows_more server es i e at = ap (map (row server)) (take_more es i e at) ∙ map-append (row server) (take i es) (e ∷ [])
-
--- the entry of a number
-pub entry_of_number : (es : List ShareEntry) (i n : ℕ) → slice_get (map (λ (e : ShareEntry). e.0.1) es) i ≡ Some n → (e : ShareEntry) × (slice_get es i ≡ Some e) × (e.0.1 ≡ n)
-entry_of_number [] i n at = cc
-entry_of_number (x ∷ es) zero n at = (x, refl, cc)
-entry_of_number (x ∷ es) (suc i) n at = entry_of_number es i n at
-
-pub rows_missing : (P : ℕ × ℕ × List ℕ → Type 0) (server : ℕ) (es : List ShareEntry) → ((e : ShareEntry) → P (row server e)) → AllBut P (map (row server) es) []
-rows_missing P server [] f = refl
-rows_missing P server (e ∷ es) f = inl (f e, rows_missing P server es f)
-
--- a count that doesn't fall stays or rises
-pub by_calm : (a b : ℕ) → a ≤ b → (a < b → ⊥) → b ≡ a
-by_calm a b le never = grind arith
-
-pub by_rise : (a b : ℕ) → a ≤ b → (b ≡ a → ⊥) → a < b
-by_rise a b le never = grind arith
-
-pub rises_or_stays : (a b : ℕ) → a ≤ b → (Q : Type 0) → (a < b → Q) → (b ≡ a → Q) → Q
-rises_or_stays a b le Q rose calm = by_case (grind arith)
-  where
-    by_case : (b ≡ a) ⊎ (a < b) → Q
-    by_case (inl e) = calm e
-    by_case (inr lt) = rose lt
-
 pub past_end : (es : List ShareEntry) (i : ℕ) → None ≡ slice_get es i → length es ≤ i
 past_end [] i none = omega arith
 past_end (e ∷ es) zero none = cc
 past_end (e ∷ es) (suc i) none = omega (arith, past_end es i none)
+
+-- where none is missing, all are given
+pub all_but_none : {A : Type 0} (P : A → Type 0) (all : List A) → AllBut P all all
+all_but_none P [] = refl
+all_but_none P (x ∷ all) = inr (all, refl, all_but_none P all)

@@ -10,8 +10,6 @@ pub mod ImageRuns
 pub mod ImageSteps
 pub mod ImageWrites
 pub mod Layouts
-pub mod Looks
-pub mod Missing
 pub mod Puts
 pub mod ReadBack
 pub mod ReadExact
@@ -23,4 +21,3 @@ pub mod Raising
 pub mod StampLemmas
 pub mod Standing
 pub mod Turns
-pub mod Within

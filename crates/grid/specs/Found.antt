@@ -1,5 +1,5 @@
 -- The shares of one storage index, server by server.
-use Rattle.std.specs.Prelude.{◌≡◌, ◌⊎◌, ℕ, zero, suc, List, [], ◌∷◌, ◌++◌, map, filter, nat_lt, slice_get, Option, None, Some}
+use Rattle.std.specs.Prelude.{ℕ, zero, suc, List, [], ◌++◌, map, slice_get}
 use Rattle.std.specs.Option.{option_map_or}
 use Rattle.std.specs.FinMap.{entries}
 use Rattle.share_store.specs.Shares.{Shares, ShareEntry}
@@ -18,16 +18,14 @@ abbrev pub found_below : List Shares → List ℕ → ℕ → List (ℕ × ℕ �
 found_below maps index zero = []
 found_below maps index (suc n) = found_below maps index n ++ found_in n index (entries_at maps n)
 
--- those of numbers below a limit, where there is one
-abbrev pub below_limit : {A : Type 0} → (A → ℕ) → Option ℕ → List A → List A
-below_limit number None all = all
-below_limit number (Some limit) all = filter (λ x. nat_lt (number x) limit) all
-
 -- a found share as its numbers and bytes
 abbrev pub found_bytes : {A : Type 0} → (A → List ℕ) → ℕ × ℕ × A → ℕ × ℕ × List ℕ
 found_bytes bytes found = (found.0, found.1, bytes found.2)
 
--- all of these in their order, less some of those that may be missing
-abbrev pub AllBut : {A : Type 0} → (A → Type 0) → List A → List A → Type 0
-AllBut may_miss [] given = given ≡ []
-AllBut {A} may_miss (x ∷ all) given = (may_miss x × AllBut may_miss all given) ⊎ ((rest : List A) × (given ≡ x ∷ rest) × AllBut may_miss all rest)
+-- a share with its number, as a server's
+abbrev pub of_server : {A : Type 0} → ℕ → ℕ × A → ℕ × ℕ × A
+of_server server share = (server, share.0, share.1)
+
+-- where a found share stands: its server and its number
+abbrev pub found_place : ℕ × ℕ × List ℕ → ℕ × ℕ
+found_place found = (found.0, found.1)

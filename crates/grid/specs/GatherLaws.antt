@@ -2,7 +2,8 @@
 use Rattle.std.specs.Prelude.{◌≡◌, ◌<◌, ◌==◌, ℕ, List, All, filter, Some}
 use Rattle.share_store.specs.Shares.{Shares}
 use Rattle.grid.specs.Standing.{standing}
-use Rattle.grid.specs.Found.{found_below, AllBut}
+use Rattle.share_store.specs.NumberedShares.{AllBut}
+use Rattle.grid.specs.Found.{found_below}
 
 -- Where only shares of servers whose count rose may be missing: all were given where none rose, and all of a server
 -- were given where its own didn't. Whatever is found stands.

@@ -1,8 +1,9 @@
 //! A grid of stores.
-ghost use Rattle.std.specs.Prelude.{◌≡◌, ◌<◌, ◌≤◌, ◌↔◌, ◌⊎◌, Err, ◌++◌, ℕ, [], length, map, filter, All, IfOk, IfErr, OnOk, OnErr, IsErrOf, None, Some, is_some, nat_lt, unwrap_or, vec_len, IsTrue, slice_get};
+ghost use Rattle.std.specs.Prelude.{◌≡◌, ◌<◌, ◌≤◌, ◌↔◌, ◌⊎◌, Err, ◌++◌, ℕ, [], length, map, All, IfOk, IfErr, OnOk, OnErr, IsErrOf, None, Some, is_some, nat_lt, unwrap_or, vec_len, IsTrue, slice_get};
 ghost use Rattle.std.specs.Rc.{rc_slice_items};
 ghost use Rattle.std.specs.FinMap as finite;
 ghost use Rattle.share_store.specs.Looked.{Looked};
+ghost use Rattle.share_store.specs.NumberedShares.{AllBut, below_limit, numbered_bytes};
 ghost use Rattle.share_store.specs.Put.{put_once};
 ghost use Rattle.share_store.specs.Stored.{entry_of};
 ghost use Rattle.grid.specs.GridState.{states, stores_seen, maps_of, stood, room_at, held_at, size_at, failures_at, failures_in, raised_at, IsHonest, NoneFailed};
@@ -15,7 +16,7 @@ ghost use Rattle.grid.specs.Placement.{placed};
 ghost use Rattle.grid.specs.Changed.{ArePut, PutStopsAt, IsLost, IsSpoiled};
 ghost use Rattle.grid.specs.NewBytes.{HasRoom};
 ghost use Rattle.grid.specs.Refusals.{IsPutRefusal, IsChangeRefusal};
-ghost use Rattle.grid.specs.Found.{entries_at, found_in, found_below, below_limit, AllBut, found_bytes};
+ghost use Rattle.grid.specs.Found.{entries_at, found_in, found_below, found_bytes, found_place, of_server};
 ghost use Rattle.grid.specs.OneStore.{IsPutHere};
 
 use crate::GridFault;
@@ -346,7 +347,89 @@ impl<S: Store> Grid<S> {
         self.gather_within(index, Some(limit))
     }
 
-    /// The same, where there may be a limit.
+    /// The shares of the numbers below a limit that stores have in memory, each with its server and number: a guess of what
+    /// [`Grid::gather_below`] will give, with which work on them can begin before. Nothing is promised of it. Refused where
+    /// there was no memory for the list.
+    pub fn peek_below(
+        &self,
+        index: [u8; 16],
+        limit: u16,
+    ) -> Result<Vec<(usize, u16, RcSlice<u8>)>, AllocError> {
+        let mut found = Vec::new(*self.stores.allocator());
+        for (server, store) in self.stores.iter().enumerate() {
+            for number in 0..limit {
+                if let Some(bytes) = store.peek(index, number) {
+                    found.push((server, number, bytes))?;
+                }
+            }
+        }
+        Ok(found)
+    }
+
+    /// Where shares stand under a storage index: the server and the number of each, server by server, in the order of
+    /// the numbers. No store is asked for bytes. Over honest stores these are the places of shares that stand, and none
+    /// is left out but those at servers whose store failed in the call. Refused where there was no memory for them.
+    pub fn places(&mut self, index: [u8; 16]) -> Result<Vec<(usize, u16)>, AllocError>
+        ensures leaves { Leaves self.old self.new }
+        ensures stamps { self.new.stamps ≡ self.old.stamps }
+        ensures unchanged { IsHonest self.old → IsUnchanged self.old self.new }
+        ensures found { IsHonest self.old → IfOk result (λ places. (given : _)
+            × (places.items ≡ map found_place given)
+            × AllBut (λ f. failures_at self.old f.0 < failures_at self.new f.0)
+            (found_below (maps_of self.old) index (length self.old.stores)) given) }
+        ensures all { IsHonest self.old → NoneFailed self.old self.new → IfOk result (λ places.
+            places.items
+            ≡ map found_place (found_below (maps_of self.old) index (length self.old.stores))) }
+    {
+        let mut places = Vec::new(*self.stores.allocator());
+        for server in 0..self.servers() {
+            self.places_at(server, index, &mut places)?;
+        }
+        Ok(places)
+    }
+
+    /// Adds the places under a storage index at one server.
+    fn places_at(
+        &mut self,
+        server: usize,
+        index: [u8; 16],
+        places: &mut Vec<(usize, u16)>,
+    ) -> Result<(), AllocError>
+        requires { server < length self.old.stores }
+        ensures leaves { Leaves self.old self.new }
+        ensures stamps { self.new.stamps ≡ self.old.stamps }
+        ensures unchanged { IsHonest self.old → IsUnchanged self.old self.new }
+        ensures found { IsHonest self.old → OnOk result ((given : _)
+            × (places.new.items ≡ places.old.items ++ map found_place given)
+            × AllBut (λ f. failures_at self.old f.0 < failures_at self.new f.0)
+            (found_in server index (entries_at (maps_of self.old) server)) given) }
+    {
+        places_in(&mut self.stores[server], server, index, places)
+    }
+
+    /// Tells every store what it will be asked for, below the limit if there is one, so that those on other machines
+    /// have it come at the same time.
+    fn prefetch_all(&mut self, index: [u8; 16], limit: Option<u16>)
+        ensures leaves { Leaves self.old self.new }
+        ensures stamps { self.new.stamps ≡ self.old.stamps }
+        ensures unchanged { IsHonest self.old → IsUnchanged self.old self.new }
+    {
+        for server in 0..self.servers() {
+            self.prefetch_at(server, index, limit);
+        }
+    }
+
+    /// Tells one server's store what it will be asked for.
+    fn prefetch_at(&mut self, server: usize, index: [u8; 16], limit: Option<u16>)
+        requires { server < length self.old.stores }
+        ensures leaves { Leaves self.old self.new }
+        ensures stamps { self.new.stamps ≡ self.old.stamps }
+        ensures unchanged { IsHonest self.old → IsUnchanged self.old self.new }
+    {
+        self.stores[server].prefetch(index, limit);
+    }
+
+    /// The same as [`Grid::gather`], where there may be a limit. Every store is told before the first is asked.
     fn gather_within(
         &mut self,
         index: [u8; 16],
@@ -368,6 +451,7 @@ impl<S: Store> Grid<S> {
             All (λ f. stood self.old f.0 (index, f.1) ≡ Some f.2)
             (map (found_bytes rc_slice_items) found.items)) }
     {
+        self.prefetch_all(index, limit);
         let mut found = Vec::new(*self.stores.allocator());
         for server in 0..self.servers() {
             self.gather_at(server, index, limit, &mut found)?;
@@ -446,36 +530,58 @@ fn gather_in<S: Store>(
         (below_limit (λ f. f.1) limit
         (found_in server index (finite.entries (S.shares store.old)))) given) }
 {
-    let stored = store.numbers(index)?;
-    let numbers = below(stored, limit);
-    for &number in &numbers {
-        match store.get(index, number)? {
-            Some(bytes) => found.push((server, number, bytes))?,
-            None => {}
-        }
+    let shares = store.gather(index, limit)?;
+    add_shares(server, shares, found)
+}
+
+/// Adds these shares, each with its number, as a server's.
+fn add_shares(
+    server: usize,
+    shares: Vec<(u16, RcSlice<u8>)>,
+    found: &mut Vec<(usize, u16, RcSlice<u8>)>,
+) -> Result<(), AllocError>
+    ensures { OnOk result (map (found_bytes rc_slice_items) found.new.items
+        ≡ map (found_bytes rc_slice_items) found.old.items
+        ++ map (of_server server) (map (numbered_bytes rc_slice_items) shares.items)) }
+{
+    for (number, bytes) in shares {
+        found.push((server, number, bytes))?;
     }
     Ok(())
 }
 
-/// Those of these numbers that are below the limit, if there is one.
-fn below(numbers: Vec<u16>, limit: Option<u16>) -> Vec<u16>
-    ensures { result.items ≡ below_limit (λ number. number) limit numbers.items }
+/// Adds the places under a storage index in one store, as a server's.
+fn places_in<S: Store>(
+    store: &mut S,
+    server: usize,
+    index: [u8; 16],
+    places: &mut Vec<(usize, u16)>,
+) -> Result<(), AllocError>
+    ensures looked { Looked S.honest S.shares S.room S.failures store.old store.new }
+    ensures same_history { IsTrue (S.honest store.old) →
+        S.history store.new ≡ S.history store.old }
+    ensures found { IsTrue (S.honest store.old) → OnOk result ((given : _)
+        × (places.new.items ≡ places.old.items ++ map found_place given)
+        × AllBut (λ f. (f.0 ≡ server) × (S.failures store.old < S.failures store.new))
+        (found_in server index (finite.entries (S.shares store.old))) given) }
 {
-    match limit {
-        None => numbers,
-        Some(limit) => {
-            let mut kept = numbers;
-            keep_below(&mut kept, limit);
-            kept
-        }
-    }
+    let numbers = store.numbers(index)?;
+    add_places(server, numbers, places)
 }
 
-/// Takes away the numbers that aren't below a limit.
-fn keep_below(numbers: &mut Vec<u16>, limit: u16)
-    ensures { numbers.new.items ≡ filter (λ number. nat_lt number limit) numbers.old.items }
+/// Adds these numbers, as a server's.
+fn add_places(
+    server: usize,
+    numbers: Vec<u16>,
+    places: &mut Vec<(usize, u16)>,
+) -> Result<(), AllocError>
+    ensures { OnOk result (places.new.items
+        ≡ places.old.items ++ map (λ number. (server, number)) numbers.items) }
 {
-    numbers.retain(|number| *number < limit);
+    for number in numbers {
+        places.push((server, number))?;
+    }
+    Ok(())
 }
 
 impl Grid<MemStore> {

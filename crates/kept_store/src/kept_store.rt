@@ -252,6 +252,10 @@ impl<H: Shelf> Store for KeptStore<H> {
         self.memory.get(index, number)
     }
 
+    fn peek(&self, index: [u8; 16], number: u16) -> Option<RcSlice<u8>> {
+        self.memory.peek(index, number)
+    }
+
     fn nth(&mut self, at: u64) -> Result<Option<Share>, AllocError>
         ensures looked { Looked ⟦<KeptStore<H> as Store>⟧.honest ⟦<KeptStore<H> as Store>⟧.shares
             ⟦<KeptStore<H> as Store>⟧.room ⟦<KeptStore<H> as Store>⟧.failures

@@ -1,15 +1,17 @@
 -- Commands and replies, one more.
-use Rattle.std.proofs.Common.{◌≡◌, inl, inr, ℕ, zero, suc, ◌+◌, ◌-◌, ◌<◌, ◌≤◌, cond, take, drop, get_or, zero-add, List, [], ◌∷◌, ◌++◌, length, Bool, true, false, refl, sym, ap, subst, ◌∙◌, append-nil, append_assoc, arith}
+use Rattle.std.proofs.Common.{◌≡◌, inl, inr, ℕ, zero, suc, ◌+◌, ◌-◌, ◌<◌, ◌≤◌, cond, take, drop, get_or, zero-add, List, [], ◌∷◌, ◌++◌, length, Bool, true, false, Option, Some, None, All, IfSome, refl, sym, ap, subst, ◌∙◌, append-nil, append_assoc, arith}
 use Rattle.std.proofs.lemmas.List.{map-id, take_more, take_all, length-take-le, length-drop, take-append-le}
 use Rattle.std.proofs.lemmas.List.FromFn.{map-range_with_len_more}
+use Rattle.std.proofs.lemmas.List.Elements.{All-push}
 use Rattle.std.proofs.lemmas.Grind.{flat_map-append}
 use Rattle.std.specs.List.{range_with_len}
 use Rattle.std.specs.Prelude.{flat_map}
 use Rattle.resp.specs.declared.reply.Reply.{Reply}
 use Rattle.resp.specs.Spelled.{SpellsAll}
 use Rattle.redis_store.specs.Keys.{key}
-use Rattle.redis_store.specs.Commands.{exists_command, exists_below}
-use Rattle.redis_store.specs.Answers.{SaysWhether, SayWhich}
+use Rattle.redis_store.specs.Commands.{exists_command, exists_below, get_command, get_below}
+use Rattle.redis_store.specs.Replies.{GivesShare}
+use Rattle.redis_store.specs.Answers.{SaysWhether, SayWhich, GiveShares, numbered_share}
 
 range_next : (n : ℕ) → range_with_len 0 (n + 1) ≡ range_with_len 0 n ++ n ∷ []
 range_next n =
@@ -102,3 +104,51 @@ slice_taken start len came bytes is =
 -- the question for one number more
 pub exists_more : (grid index : List ℕ) (n : ℕ) → exists_below grid index (n + 1) ≡ exists_below grid index n ++ exists_command (key grid index n)
 exists_more grid index n = flat_more (λ number. exists_command (key grid index number)) n
+
+pub gets_more : (grid index : List ℕ) (n : ℕ) → get_below grid index (n + 1) ≡ get_below grid index n ++ get_command (key grid index n)
+gets_more grid index n = flat_more (λ number. get_command (key grid index number)) n
+
+-- a reply that gives a share, more
+one_given : (number : ℕ) (answers : List Reply) (answer : Reply) (shares : List (ℕ × List ℕ)) (bytes : List ℕ) → GiveShares number answers shares → GivesShare answer (Some bytes) → GiveShares number (answers ++ answer ∷ []) (shares ++ (number + length answers, bytes) ∷ [])
+one_given number [] answer shares bytes none one =
+    inl (bytes, one, ([], ap (λ (l : List (ℕ × List ℕ)). l ++ (number + 0, bytes) ∷ []) none ∙ ap (λ n. (n, bytes) ∷ []) (omega arith), refl))
+one_given number (a ∷ answers) answer shares bytes given one =
+    elim given as (λ s. GiveShares number ((a ∷ answers) ++ answer ∷ []) (shares ++ (number + length (a ∷ answers), bytes) ∷ [])) [
+      | inl here ↦
+          let next = one_given (suc number) answers answer here.2.0 bytes here.2.2 one in
+          let same : suc number + length answers ≡ number + length (a ∷ answers) = omega arith in
+          inl (
+            here.0,
+            here.1,
+            (
+              here.2.0 ++ (number + length (a ∷ answers), bytes) ∷ [],
+              ap (λ (l : List (ℕ × List ℕ)). l ++ (number + length (a ∷ answers), bytes) ∷ []) here.2.1,
+              subst (λ n. GiveShares (suc number) (answers ++ answer ∷ []) (here.2.0 ++ (n, bytes) ∷ [])) same next,
+            ),
+          )
+      | inr there ↦
+          let next = one_given (suc number) answers answer shares bytes there.1 one in
+          let same : suc number + length answers ≡ number + length (a ∷ answers) = omega arith in
+          inr (there.0, subst (λ n. GiveShares (suc number) (answers ++ answer ∷ []) (shares ++ (n, bytes) ∷ [])) same next)
+    ]
+
+-- and one that gives none
+none_given : (number : ℕ) (answers : List Reply) (answer : Reply) (shares : List (ℕ × List ℕ)) → GiveShares number answers shares → GivesShare answer None → GiveShares number (answers ++ answer ∷ []) shares
+none_given number [] answer shares none one = inr (one, none)
+none_given number (a ∷ answers) answer shares given one =
+    elim given as (λ s. GiveShares number ((a ∷ answers) ++ answer ∷ []) shares) [
+      | inl here ↦ inl (here.0, here.1, (here.2.0, here.2.1, none_given (suc number) answers answer here.2.0 here.2.2 one))
+      | inr there ↦ inr (there.0, none_given (suc number) answers answer shares there.1 one)
+    ]
+
+-- the shares of one reply more
+pub given_more : (answers : List Reply) (shares : List (ℕ × List ℕ)) (answer : Reply) (share : Option (List ℕ)) → GiveShares 0 answers shares → GivesShare answer share → GiveShares 0 (answers ++ answer ∷ []) (shares ++ numbered_share (length answers) share)
+given_more answers shares answer (Some bytes) before one =
+    subst (λ n. GiveShares 0 (answers ++ answer ∷ []) (shares ++ (n, bytes) ∷ [])) (zero-add (length answers)) (one_given 0 answers answer shares bytes before one)
+given_more answers shares answer None before one =
+    subst (λ (l : List (ℕ × List ℕ)). GiveShares 0 (answers ++ answer ∷ []) l) (sym (append-nil shares)) (none_given 0 answers answer shares before one)
+
+-- and each of them has bytes
+pub some_more : (shares : List (ℕ × List ℕ)) (number : ℕ) (share : Option (List ℕ)) → All (λ s. 0 < length s.1) shares → IfSome share (λ bytes. 0 < length bytes) → All (λ s. 0 < length s.1) (shares ++ numbered_share number share)
+some_more shares number (Some bytes) all some = All-push (λ (s : ℕ × List ℕ). 0 < length s.1) shares (number, bytes) all some
+some_more shares number None all some = subst (All (λ (s : ℕ × List ℕ). 0 < length s.1)) (sym (append-nil shares)) all

@@ -1,12 +1,15 @@
 -- What was told and what came, as far as it is known.
-use Rattle.std.proofs.Common.{◌≡◌, ℕ, List, [], ◌∷◌, ◌++◌, length, take, drop, Option, None, Some, refl, sym, ap, subst, ◌∙◌, append-nil, append_assoc, ◌≤◌, ◌+◌, ◌-◌, arith, Ok}
+use Rattle.std.proofs.Common.{◌≡◌, ℕ, List, [], ◌∷◌, ◌++◌, length, take, drop, None, Some, refl, sym, ap, subst, ◌∙◌, append-nil, append_assoc, ◌≤◌, ◌+◌, ◌-◌, arith, true, Result, Ok, Err, IfOk}
 use Rattle.std.proofs.lemmas.List.{length-append, length-drop, length-take-le, take_all, take_at, take-take, take-append-drop}
 use Rattle.resp.specs.declared.limits.Limits.{Limits}
 use Rattle.resp.specs.declared.reply.Reply.{Reply}
 use Rattle.resp.specs.Command.{line_end}
 use Rattle.resp.specs.Spelled.{SpellsReply}
 use Rattle.resp.specs.Verdict.{IsReadAs}
+use Rattle.redis_store.specs.declared.connection.Greeting.{Greeting}
 use Rattle.redis_store.specs.Exchanges.{Talk, with_command, with_heard, with_exchange}
+use Rattle.redis_store.specs.Told.{IsToldIn}
+use Rattle.redis_store.specs.Ahead.{before_last, IsToldLast}
 
 -- ---- exchanges
 
@@ -27,6 +30,25 @@ heard_twice (Some (last ∷ all)) front back = ap (λ (l : List ℕ). Some ((las
 heard_exchange : (a : Talk) (told came part : List ℕ) → with_heard (with_exchange a told came) part ≡ with_exchange a told (came ++ part)
 heard_exchange None told came part = refl
 heard_exchange (Some all) told came part = refl
+
+-- what came to what was told last, told ahead of its call
+pub heard_ahead : (a : Talk) (told came : List ℕ) → with_heard (with_command a told) came ≡ with_exchange a told came
+heard_ahead None told came = refl
+heard_ahead (Some all) told came = refl
+
+pub told_before : {A E : Type 0} (result : Result A E) (Spells : A → List ℕ → Type 0) (first : Greeting) (old new : Talk) (commands : List ℕ) → IsToldLast old commands
+    → IfOk result (λ x. (came : List ℕ) × Spells x came × (new ≡ with_heard old came))
+    → IfOk result (λ x. (came : List ℕ) × Spells x came × IsToldIn true first (before_last old) new commands came)
+told_before (Ok x) Spells first old new commands last heard = (
+  heard.0,
+  heard.1,
+  record {
+    ready = before_last old;
+    at_hand = refl;
+    told = heard.2 ∙ ap (λ (t : Talk). with_heard t heard.0) last ∙ heard_ahead (before_last old) commands heard.0;
+  },
+)
+told_before (Err e) Spells first old new commands last heard = tt
 
 -- more came in the exchange at hand
 pub more_came : (a b c : Talk) (told old part new : List ℕ) → b ≡ with_exchange a told old → c ≡ with_heard b part → new ≡ old ++ part → c ≡ with_exchange a told new

@@ -1,6 +1,6 @@
 -- What replies say.
-use Rattle.std.specs.Prelude.{◌≡◌, ◌⊎◌, ℕ, suc, pos, List, [], ◌∷◌, Bool, true, false, codes}
-use Rattle.redis_store.specs.Replies.{IsError, IsErrorOf, IsFullError}
+use Rattle.std.specs.Prelude.{◌≡◌, ◌⊎◌, ℕ, suc, pos, List, [], ◌∷◌, Bool, true, false, codes, Option, Some, None}
+use Rattle.redis_store.specs.Replies.{GivesShare, IsError, IsErrorOf, IsFullError}
 use Rattle.redis_store.specs.declared.fault.ServerFault.{ServerFault}
 use Rattle.redis_store.specs.declared.fault.ServerFault.TheVariants.{Refused, Full, Replica, OtherReply}
 use Rattle.resp.specs.declared.reply.Item.TheVariants as item
@@ -18,6 +18,18 @@ SayWhich number [] numbers = numbers ≡ []
 SayWhich number (answer ∷ answers) numbers =
     (SaysWhether true answer × ((rest : List ℕ) × (numbers ≡ number ∷ rest) × SayWhich (suc number) answers rest))
     ⊎ (SaysWhether false answer × SayWhich (suc number) answers numbers)
+
+-- a share with its number, or none
+abbrev pub numbered_share : ℕ → Option (List ℕ) → List (ℕ × List ℕ)
+numbered_share number None = []
+numbered_share number (Some bytes) = (number, bytes) ∷ []
+
+-- these are the shares that the replies give, each with its number, from this one on; the other replies give none
+abbrev pub GiveShares : ℕ → List Reply → List (ℕ × List ℕ) → Type 0
+GiveShares number [] shares = shares ≡ []
+GiveShares number (answer ∷ answers) shares =
+    ((bytes : List ℕ) × GivesShare answer (Some bytes) × ((rest : List (ℕ × List ℕ)) × (shares ≡ (number, bytes) ∷ rest) × GiveShares (suc number) answers rest))
+    ⊎ (GivesShare answer None × GiveShares (suc number) answers shares)
 
 -- `-READONLY ..` or `-MASTERDOWN ..`: the server is a replica
 abbrev pub IsReplicaError : Reply → Type 0

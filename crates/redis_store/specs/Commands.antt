@@ -1,5 +1,5 @@
 -- The commands that a server is told (Redis: AUTH, GET, DEL, SETNX, EXISTS).
-use Rattle.std.specs.Prelude.{ℕ, List, [], ◌∷◌, codes}
+use Rattle.std.specs.Prelude.{ℕ, List, [], ◌∷◌, codes, min, Option, None, Some}
 use Rattle.std.specs.List.{flat_map, range_with_len}
 use Rattle.resp.specs.Command.{command}
 use Rattle.redis_store.specs.Keys.{key}
@@ -23,3 +23,12 @@ exists_command name = command (codes "EXISTS" ∷ name ∷ [])
 -- of each number below a limit, whether a share stands under it: a command each, one behind the other
 abbrev pub exists_below : List ℕ → List ℕ → ℕ → List ℕ
 exists_below grid index limit = flat_map (λ number. exists_command (key grid index number)) (range_with_len 0 limit)
+
+-- of each number below a limit, the bytes of its share: a command each, one behind the other
+abbrev pub get_below : List ℕ → List ℕ → ℕ → List ℕ
+get_below grid index limit = flat_map (λ number. get_command (key grid index number)) (range_with_len 0 limit)
+
+-- how many numbers are asked for: those of a grid that are below the limit, if there is one
+abbrev pub asked_below : Option ℕ → ℕ → ℕ
+asked_below None made = made
+asked_below (Some limit) made = min limit made

@@ -1,4 +1,4 @@
--- Read GridText and Strange for whose a server is and Keys for where a share stands, then Exchanges and Told: what a
+-- Read GridText and Strange for whose a server is and Keys for where a share stands, then Exchanges, Told and Ahead: what a
 -- connection was told and what came. Commands, Replies and Answers are its bytes. AfterExchange says how a connection is left.
 pub mod Keys
 pub mod GridText
@@ -8,4 +8,5 @@ pub mod Replies
 pub mod Exchanges
 pub mod Answers
 pub mod Told
+pub mod Ahead
 pub mod AfterExchange

@@ -8,7 +8,7 @@ use Rattle.redis_store.specs.Replies.{GivesShare, IsErrorOf}
 use Rattle.redis_store.specs.Commands.{get_command}
 use Rattle.redis_store.specs.Exchanges.{Talk, with_exchange, short_limits, value_limits, IsGreeted}
 use Rattle.redis_store.specs.declared.connection.Greeting.{Greeting}
-use Rattle.redis_store.specs.Answers.{SaysWhether, SayWhich}
+use Rattle.redis_store.specs.Answers.{SaysWhether, SayWhich, GiveShares}
 use Rattle.redis_store.specs.Commands.{put_command}
 use Rattle.redis_store.specs.GridText.{grid_text}
 use Rattle.redis_store.specs.AfterExchange.{IsOfLink}
@@ -99,6 +99,15 @@ pub record IsShareGivenBy (is_open : Bool) (first : Greeting) (old new : Talk) (
   pub gives : GivesShare answer share
   pub spelled : SpellsReply (value_limits longest) answer came
   pub told : IsToldIn is_open first old new command came
+
+-- It was told so many commands in one exchange, one for each number from 0 on, and gave these shares of them.
+pub record AreSharesGivenBy (is_open : Bool) (first : Greeting) (old new : Talk) (longest : ℕ) (commands : List ℕ) (count : ℕ) (shares : List (ℕ × List ℕ)) : Type 0 where
+  pub answers : List Reply
+  pub came : List ℕ
+  pub many : length answers ≡ count
+  pub give : GiveShares 0 answers shares
+  pub spelled : SpellsAll (SpellsReply (value_limits longest)) answers came
+  pub told : IsToldIn is_open first old new commands came
 
 -- It was told a command, and an error reply of this kind came.
 pub record IsRefusedBy (is_open : Bool) (first : Greeting) (old new : Talk) (command kind : List ℕ) : Type 0 where

@@ -1,15 +1,19 @@
 //! What replies say.
-ghost use Rattle.std.specs.Prelude.{◌≡◌, ◌↔◌, ◌+◌, ◌++◌, ◌∷◌, ◌<◌, ◌^◌, ℕ, Bool, List, Option, [], IsTrue, IfSome, IfNone, IfOk, IfErr, OnOk, length, if◌then◌else◌};
+ghost use Rattle.std.specs.Prelude.{◌≡◌, ◌↔◌, ◌+◌, ◌++◌, ◌∷◌, ◌<◌, ◌^◌, ℕ, Bool, List, Option, [], All, IsTrue, IfSome, IfNone, IfOk, IfErr, OnOk, length, map, vec_len, if◌then◌else◌};
 ghost use Rattle.resp.specs.declared.reply.Item.TheVariants as item;
 ghost use Rattle.resp.specs.declared.reply.Reply.TheVariants as replies;
 ghost use Rattle.redis_store.specs.Replies.{IsOkReply, IsValue, IsOtherKind, GivesShare};
-ghost use Rattle.redis_store.specs.Answers.{SaysWhether, SayWhich, IsFaultOf};
+ghost use Rattle.redis_store.specs.Answers.{SaysWhether, SayWhich, GiveShares, numbered_share, IsFaultOf};
+ghost use Rattle.share_store.specs.NumberedShares.{numbered_bytes};
+ghost use Rattle.std.specs.Option.{option_map};
+ghost use Rattle.std.specs.Rc.{rc_slice_items};
 ghost use Rattle.redis_store.specs.AfterExchange.{IsOfReply};
 
 use crate::ServerFault;
 use octets::Bytes;
 use resp::{Item, Reply};
 use std::alloc::{AllocError, Global};
+use std::rc::RcSlice;
 
 /// Whether it is `OK`.
 pub(crate) fn is_done(reply: &Reply) -> bool
@@ -62,6 +66,56 @@ pub(crate) fn numbers_in(alloc: Global, replies: &[Reply]) -> Result<Vec<u16>, S
         number += 1;
     }
     Ok(numbers)
+}
+
+/// The shares that these replies give, each with its number, from 0 on. Or what is wrong with the first reply that gives
+/// neither a share nor none.
+pub(crate) fn shares_in(
+    alloc: Global,
+    replies: Vec<Reply>,
+) -> Result<Vec<(u16, RcSlice<u8>)>, ServerFault>
+    requires { vec_len replies < 2 ^ 16 }
+    ensures given { IfOk result (λ shares.
+        GiveShares 0 replies.items (map (numbered_bytes rc_slice_items) shares.items)) }
+    ensures some { IfOk result (λ shares. All (λ share. 0 < length share.1)
+        (map (numbered_bytes rc_slice_items) shares.items)) }
+    ensures of_reply { IfErr result (λ fault. IsOfReply fault) }
+{
+    let mut shares = Vec::new(alloc);
+    let mut number = 0;
+    for reply in replies {
+        let share = share_in(reply)?;
+        push_share(&mut shares, number, lent(share)?)?;
+        number += 1;
+    }
+    Ok(shares)
+}
+
+/// Puts a share behind the others, with its number, if there is one.
+fn push_share(
+    shares: &mut Vec<(u16, RcSlice<u8>)>,
+    number: u16,
+    share: Option<RcSlice<u8>>,
+) -> Result<(), AllocError>
+    ensures { OnOk result (map (numbered_bytes rc_slice_items) shares.new.items
+        ≡ map (numbered_bytes rc_slice_items) shares.old.items
+        ++ numbered_share number (option_map rc_slice_items share)) }
+{
+    if let Some(bytes) = share {
+        shares.push((number, bytes))?;
+    }
+    Ok(())
+}
+
+/// A share's bytes as they are lent out.
+pub(crate) fn lent(share: Option<Bytes>) -> Result<Option<RcSlice<u8>>, ServerFault>
+    ensures same { IfOk result (λ lent. option_map rc_slice_items lent ≡ share) }
+    ensures fault { IfErr result (λ fault. fault ≡ ServerFault.NoMemory) }
+{
+    match share {
+        Some(bytes) => Ok(Some(RcSlice::from_vec(bytes.into_vec())?)),
+        None => Ok(None),
+    }
 }
 
 /// Puts a number behind the others, if that is said.

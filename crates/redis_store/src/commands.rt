@@ -1,7 +1,7 @@
 //! Commands.
 ghost use Rattle.std.specs.Prelude.{◌≡◌, ◌++◌, ℕ, List, length, IfOk};
 ghost use Rattle.resp.specs.Command.{line_end};
-ghost use Rattle.redis_store.specs.Commands.{auth_command, get_command, delete_command, put_command, exists_command, exists_below};
+ghost use Rattle.redis_store.specs.Commands.{auth_command, get_command, delete_command, put_command, exists_command, exists_below, get_below};
 
 use crate::keys::spell_key;
 use resp::{command, command_head};
@@ -42,6 +42,25 @@ pub(crate) fn exist_below(
     for number in 0..limit {
         let name = spell_key(alloc, grid, index, number)?;
         let one = exists(alloc, &name)?;
+        commands.extend_from_slice(&one)?;
+    }
+    Ok(commands)
+}
+
+/// Asks for the bytes of the share of each number below a limit: a command each.
+#[tactic(auto, using(crate::proofs::Lists::gets_more))]
+pub(crate) fn get_each_below(
+    alloc: Global,
+    grid: &[u8],
+    index: &[u8; 16],
+    limit: u16,
+) -> Result<Vec<u8>, AllocError>
+    ensures { IfOk result (λ bytes. bytes.items ≡ get_below grid.now index.now limit) }
+{
+    let mut commands = Vec::new(alloc);
+    for number in 0..limit {
+        let name = spell_key(alloc, grid, index, number)?;
+        let one = get(alloc, &name)?;
         commands.extend_from_slice(&one)?;
     }
     Ok(commands)

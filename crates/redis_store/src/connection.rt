@@ -1,14 +1,16 @@
 //! A connection that is made anew where it is needed.
-ghost use Rattle.std.specs.Prelude.{◌≡◌, ◌<◌, ◌++◌, ◌⊎◌, ℕ, List, Bool, true, false, vec_len, IfOk, IfErr, OnOk};
+ghost use Rattle.std.specs.Prelude.{◌≡◌, ◌<◌, ◌++◌, ◌⊎◌, ◌↔◌, ℕ, List, Bool, None, Some, true, false, vec_len, IsTrue, IfSome, IfOk, IfErr, OnOk};
+ghost use Rattle.std.specs.Option.{ForSome};
 ghost use Rattle.resp.specs.Command.{line_end};
 ghost use Rattle.resp.specs.Spelled.{SpellsReply, SpellsAll};
 ghost use Rattle.resp.specs.declared.reply.Reply.{Reply};
 ghost use Rattle.redis_store.specs.Replies.{IsOkReply, IsError, IsValue};
-ghost use Rattle.redis_store.specs.Exchanges.{short_limits, with_exchange, IsGreeted};
+ghost use Rattle.redis_store.specs.Exchanges.{short_limits, with_command, with_heard, with_exchange, IsGreeted};
+ghost use Rattle.redis_store.specs.Ahead.{ahead, before_last, IsToldLast};
 ghost use Rattle.redis_store.specs.Answers.{SaysWhether};
 ghost use Rattle.redis_store.specs.Commands.{auth_command, get_command, put_command};
 ghost use Rattle.redis_store.specs.GridText.{grid_text};
-ghost use Rattle.redis_store.specs.AfterExchange.{IsRestBegun, IsBreak, IsErrorReply, IsLeftAfter, IsOfLink, IsOfReply};
+ghost use Rattle.redis_store.specs.AfterExchange.{IsRestBegun, IsWell, IsBreak, IsErrorReply, IsLeftAfter, IsOfLink, IsOfReply};
 ghost use Rattle.redis_store.specs.Told.{found_reply, IsAtHand, IsOpened, IsToldIn, IsToldOf};
 
 use crate::ServerFault;
@@ -16,7 +18,7 @@ use crate::answers::{bytes_in, fault_of, is_done, said_in};
 use crate::commands::{auth, get, put};
 use crate::link::Link;
 use crate::settings_key::{check_grid, grid_text};
-use crate::talk::{talk, talk_each, talk_long};
+use crate::talk::{hear_all, talk, talk_each, talk_long};
 use folder_shelf::StoreSettings;
 use octets::Bytes;
 use resp::{Limits, Reply};
@@ -55,6 +57,15 @@ pub(crate) struct Rest {
     pub(crate) until: u64,
 }
 
+/// Commands that were told ahead: their replies are awaited.
+#[derive(Drop)]
+pub(crate) struct Awaited {
+    /// The commands, one behind the other.
+    pub(crate) commands: Bytes,
+    /// How many they are.
+    pub(crate) count: u16,
+}
+
 /// A connection to a server, or the way to one.
 #[derive(Drop)]
 pub(crate) struct Connection<L: Link + Drop> {
@@ -64,18 +75,19 @@ pub(crate) struct Connection<L: Link + Drop> {
     pub(crate) rest: Rest,
     /// Whether one is open, of which all that it was told is answered.
     pub(crate) is_open: bool,
+    /// What was told last over one that isn't answered yet.
+    pub(crate) awaited: Option<Awaited>,
+    ghost told: { ForSome awaited (λ told. IsToldLast (L.talk link) told.commands) },
+    ghost busy: { ForSome awaited (λ _. is_open ≡ false) },
 }
 
 impl<L: Link + Drop> Connection<L> {
     /// The way to a server. It is not gone yet.
     pub(crate) fn new(alloc: Global, link: L, first: Greeting) -> Self
-        ensures { result ≡ record {
-          alloc = alloc;
-          link = link;
-          first = first;
-          rest = record { seconds = 1; until = 0 };
-          is_open = false;
-        } }
+        ensures link { result.link ≡ link }
+        ensures first { result.first ≡ first }
+        ensures rest { result.rest ≡ record { seconds = 1; until = 0 } }
+        ensures closed { (result.is_open ≡ false) × (result.awaited ≡ None) }
     {
         Connection {
             alloc,
@@ -86,6 +98,7 @@ impl<L: Link + Drop> Connection<L> {
                 until: 0,
             },
             is_open: false,
+            awaited: None,
         }
     }
 
@@ -138,12 +151,14 @@ impl<L: Link + Drop> Connection<L> {
     /// Tells several commands in one exchange, and gives a reply to each.
     pub(crate) fn ask_each(
         &mut self,
+        limits: Limits,
         commands: &[u8],
         count: u16,
     ) -> Result<Vec<Reply>, ServerFault>
+        requires { 0 < limits.line }
         ensures open { OnOk result (self.new.is_open ≡ true) }
         ensures told { IfOk result (λ replies. (came : List ℕ)
-            × SpellsAll (SpellsReply short_limits) replies.items came
+            × SpellsAll (SpellsReply limits) replies.items came
             × IsToldIn self.old.is_open self.old.first
             (L.talk self.old.link) (L.talk self.new.link) commands.now came) }
         ensures count { IfOk result (λ replies. vec_len replies ≡ count) }
@@ -154,7 +169,7 @@ impl<L: Link + Drop> Connection<L> {
         ensures first { self.new.first ≡ self.old.first }
     {
         self.ready()?;
-        match talk_each(self.alloc, &mut self.link, SHORT, commands, count) {
+        match talk_each(self.alloc, &mut self.link, limits, commands, count) {
             Ok(replies) => Ok(replies),
             Err(fault) => {
                 self.let_go(fault);
@@ -163,8 +178,103 @@ impl<L: Link + Drop> Connection<L> {
         }
     }
 
-    /// Opens a connection where none is open. Nothing is done where the server is left alone.
+    /// Tells several commands ahead, and waits for nothing. Until their replies are taken the connection is open for
+    /// nothing else. Where they can't be told it is let go, as if it had been lost: the next call makes another.
+    pub(crate) fn tell_ahead(&mut self, commands: Bytes, count: u16)
+        requires { self.old.is_open ≡ true }
+        ensures closed { self.new.is_open ≡ false }
+        ensures ahead { IfSome self.new.awaited (λ told.
+            (Some told ≡ ahead commands count)
+            × (L.talk self.new.link ≡ with_command (L.talk self.old.link) commands)) }
+        ensures rest { self.new.rest ≡ self.old.rest }
+        ensures first { self.new.first ≡ self.old.first }
+    {
+        self.awaited = None;
+        self.is_open = false;
+        match self.link.write_all(&[commands.as_slice()]) {
+            Ok(()) => {
+                self.awaited = Some(Awaited { commands, count });
+            }
+            Err(_fault) => self.link.close(),
+        }
+    }
+
+    /// Whether it is just these commands whose replies are awaited.
+    fn awaits(&self, commands: &[u8], count: u16) -> bool
+        ensures { IsTrue result ↔ (self.now.awaited ≡ ahead commands.now count) }
+    {
+        match &self.awaited {
+            None => false,
+            Some(ahead) => ahead.commands.as_slice() == commands && ahead.count == count,
+        }
+    }
+
+    /// The replies to several commands that were told ahead, just these and nothing behind them. Else they are told now,
+    /// in one exchange.
+    pub(crate) fn take_each(
+        &mut self,
+        limits: Limits,
+        commands: &[u8],
+        count: u16,
+    ) -> Result<Vec<Reply>, ServerFault>
+        requires { 0 < limits.line }
+        ensures open { OnOk result (self.new.is_open ≡ true) }
+        ensures told { (self.old.awaited ≡ ahead commands.now count → ⊥) →
+            IfOk result (λ replies. (came : List ℕ)
+            × SpellsAll (SpellsReply limits) replies.items came
+            × IsToldIn self.old.is_open self.old.first
+            (L.talk self.old.link) (L.talk self.new.link) commands.now came) }
+        ensures told_ahead { self.old.awaited ≡ ahead commands.now count →
+            IfOk result (λ replies. (came : List ℕ)
+            × SpellsAll (SpellsReply limits) replies.items came
+            × IsToldIn true self.old.first
+            (before_last (L.talk self.old.link)) (L.talk self.new.link) commands.now came) }
+        ensures count { IfOk result (λ replies. vec_len replies ≡ count) }
+        ensures rest { OnOk result (self.new.rest ≡ self.old.rest) }
+        ensures left { IfErr result (λ fault.
+            IsLeftAfter fault self.old.rest self.new.is_open self.new.rest) }
+        ensures not_refused { IfErr result (λ fault. IsErrorReply fault → ⊥) }
+        ensures first { self.new.first ≡ self.old.first }
+    {
+        if self.awaits(commands, count) {
+            self.hear_ahead(limits, count)
+        } else {
+            self.ask_each(limits, commands, count)
+        }
+    }
+
+    /// The replies to what was told ahead, in the time of an exchange from now on.
+    fn hear_ahead(&mut self, limits: Limits, count: u16) -> Result<Vec<Reply>, ServerFault>
+        requires { 0 < limits.line }
+        ensures open { OnOk result (self.new.is_open ≡ true) }
+        ensures heard { IfOk result (λ replies. (came : List ℕ)
+            × SpellsAll (SpellsReply limits) replies.items came
+            × (L.talk self.new.link ≡ with_heard (L.talk self.old.link) came)) }
+        ensures count { IfOk result (λ replies. vec_len replies ≡ count) }
+        ensures rest { OnOk result (self.new.rest ≡ self.old.rest) }
+        ensures left { IfErr result (λ fault.
+            IsLeftAfter fault self.old.rest self.new.is_open self.new.rest) }
+        ensures not_refused { IfErr result (λ fault. IsErrorReply fault → ⊥) }
+        ensures first { self.new.first ≡ self.old.first }
+    {
+        self.awaited = None;
+        self.link.give_time();
+        match hear_all(self.alloc, &mut self.link, limits, count) {
+            Ok(replies) => {
+                self.is_open = true;
+                Ok(replies)
+            }
+            Err(fault) => {
+                self.let_go(fault);
+                Err(fault)
+            }
+        }
+    }
+
+    /// Opens a connection where none is open. Nothing is done where the server is left alone. Replies that were awaited
+    /// aren't any more.
     pub(crate) fn ready(&mut self) -> Result<(), ServerFault>
+        ensures none_awaited { self.new.awaited ≡ None }
         ensures open { OnOk result (self.new.is_open ≡ true) }
         ensures at_hand { OnOk result (IsAtHand self.old.is_open self.old.first
             (L.talk self.old.link) (L.talk self.new.link)) }
@@ -177,6 +287,7 @@ impl<L: Link + Drop> Connection<L> {
         if self.is_open {
             return Ok(());
         }
+        self.awaited = None;
         if self.link.seconds() < self.rest.until {
             return Err(ServerFault::Resting);
         }
@@ -194,7 +305,10 @@ impl<L: Link + Drop> Connection<L> {
 
     /// An answer came to what was told: no rest is begun, and the next one is of a second.
     pub(crate) fn well(&mut self)
-        ensures { self.new ≡ record self.old { rest = record self.old.rest { seconds = 1 } } }
+        ensures well { IsWell self.old.rest self.new.rest }
+        ensures link { self.new.link ≡ self.old.link }
+        ensures open { self.new.is_open ≡ self.old.is_open }
+        ensures first { self.new.first ≡ self.old.first }
     {
         self.rest.seconds = FIRST_REST;
     }
@@ -212,8 +326,7 @@ impl<L: Link + Drop> Connection<L> {
         match fault {
             ServerFault::Refused | ServerFault::Full => self.well(),
             ServerFault::Replica => {
-                self.link.close();
-                self.is_open = false;
+                self.close();
                 self.well();
             }
             ServerFault::OtherReply => self.let_go(fault),
@@ -226,19 +339,31 @@ impl<L: Link + Drop> Connection<L> {
     fn let_go(&mut self, fault: ServerFault)
         requires { IsBreak fault }
         ensures left { IsLeftAfter fault self.old.rest self.new.is_open self.new.rest }
+        ensures none_awaited { self.new.awaited ≡ None }
         ensures first { self.new.first ≡ self.old.first }
     {
-        self.link.close();
-        self.is_open = false;
+        self.close();
         if fault != ServerFault::NoMemory {
             self.begin_rest();
         }
+    }
+
+    /// Lets the connection go, and what was awaited over it.
+    fn close(&mut self)
+        ensures closed { (self.new.is_open ≡ false) × (self.new.awaited ≡ None) }
+        ensures rest { self.new.rest ≡ self.old.rest }
+        ensures first { self.new.first ≡ self.old.first }
+    {
+        self.awaited = None;
+        self.is_open = false;
+        self.link.close();
     }
 
     /// Leaves the server alone for a while.
     fn begin_rest(&mut self)
         ensures begun { IsRestBegun self.old.rest self.new.rest }
         ensures open { self.new.is_open ≡ self.old.is_open }
+        ensures awaited { self.new.awaited ≡ self.old.awaited }
         ensures first { self.new.first ≡ self.old.first }
     {
         self.rest.until = self.link.seconds().saturating_add(self.rest.seconds);
@@ -255,6 +380,7 @@ impl<L: Link + Drop> Connection<L> {
             first: _,
             rest: _,
             is_open: _,
+            awaited: _,
         } = self;
         link
     }

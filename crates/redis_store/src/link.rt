@@ -28,6 +28,10 @@ pub trait Link {
         ensures heard { IfOk result (λ count.
             talk self.new ≡ with_heard (talk self.old) (take count room.new)) };
 
+    /// Gives the exchange at hand its time anew, from now on: its reply is only waited for now.
+    fn give_time(&mut self)
+        ensures { talk self.new ≡ talk self.old };
+
     /// Lets the connection go, where there is one.
     fn close(&mut self);
 

@@ -123,6 +123,12 @@ impl<R: Net + Clock + Drop> Link for PacedLink<R> {
         Ok(count)
     }
 
+    fn give_time(&mut self) {
+        if let Ok(now) = self.rt.monotonic() {
+            self.began = now;
+        }
+    }
+
     fn close(&mut self) {
         self.stream = None;
     }

@@ -1,21 +1,23 @@
 //! The store.
 ghost use Rattle.std.specs.FinMap as map;
-ghost use Rattle.std.specs.Prelude.{◌≡◌, ◌≤◌, ◌<◌, ◌+◌, ◌↔◌, ℕ, List, [], None, Some, false, true, length, codes, OnOk, OnErr, IfOk, IfErr, IfSome, IsOkAnd, IsErrOf, IsSomeAnd};
+ghost use Rattle.std.specs.Prelude.{◌≡◌, ◌≤◌, ◌<◌, ◌+◌, ◌↔◌, ℕ, List, [], None, Some, false, true, length, All, codes, map as mapped, OnOk, OnErr, IfOk, IfErr, IfSome, IsOkAnd, IsErrOf, IsSomeAnd};
 ghost use Rattle.std.specs.Option.{option_map};
 ghost use Rattle.std.specs.Rc.{rc_slice_items};
 ghost use Rattle.resp.specs.Spelled.{SpellsReply};
+ghost use Rattle.share_store.specs.NumberedShares.{numbered_bytes};
 ghost use Rattle.redis_store.specs.Replies.{IsErrorOf};
 ghost use Rattle.redis_store.specs.Keys.{key};
-ghost use Rattle.redis_store.specs.Exchanges.{short_limits};
+ghost use Rattle.redis_store.specs.Exchanges.{short_limits, with_command};
+ghost use Rattle.redis_store.specs.Ahead.{ahead, before_last};
 ghost use Rattle.redis_store.specs.Answers.{SaysWhether};
-ghost use Rattle.redis_store.specs.Commands.{get_command, delete_command, put_command, exists_command, exists_below};
+ghost use Rattle.redis_store.specs.Commands.{get_command, delete_command, put_command, exists_command, exists_below, get_below, asked_below};
 ghost use Rattle.redis_store.specs.GridText.{grid_name};
 ghost use Rattle.redis_store.specs.AfterExchange.{IsErrorReply, IsLeftAfter, IsWell};
-ghost use Rattle.redis_store.specs.Told.{IsAtHand, IsToldIn, IsSaidBy, AreSaidBy, IsShareGivenBy, IsRefusedBy};
+ghost use Rattle.redis_store.specs.Told.{IsAtHand, IsToldIn, IsSaidBy, AreSaidBy, IsShareGivenBy, AreSharesGivenBy, IsRefusedBy};
 
 use crate::ServerFault;
-use crate::answers::{numbers_in, said_in, share_in};
-use crate::commands::{delete, exist_below, exists, get, put, put_head};
+use crate::answers::{lent, numbers_in, said_in, share_in, shares_in};
+use crate::commands::{delete, exist_below, exists, get, get_each_below, put, put_head};
 use crate::connection::{Connection, Greeting, SHORT};
 use crate::keys::spell_key;
 use crate::link::Link;
@@ -242,11 +244,60 @@ impl<L: Link + Drop> RedisStore<L> {
         let alloc = self.connection.alloc;
         let made = self.connection.first.settings.made;
         let commands = exist_below(alloc, self.grid.as_slice(), index, made)?;
-        let replies = self.connection.ask_each(&commands, made)?;
+        let replies = self.connection.ask_each(SHORT, &commands, made)?;
         match numbers_in(alloc, &replies) {
             Ok(numbers) => {
                 self.connection.well();
                 Ok(numbers)
+            }
+            Err(fault) => {
+                self.connection.reject(fault);
+                Err(fault)
+            }
+        }
+    }
+
+    /// The shares under an index whose numbers are below a limit, each with its number: one exchange asks for all, which
+    /// may be begun.
+    fn fetch_below(
+        &mut self,
+        index: &[u8; 16],
+        limit: u16,
+    ) -> Result<Vec<(u16, RcSlice<u8>)>, ServerFault>
+        ensures given { (self.old.connection.awaited
+            ≡ ahead (get_below self.old.grid index.now limit) limit → ⊥) → IfOk result (λ shares. AreSharesGivenBy
+            self.old.connection.is_open self.old.connection.first
+            (L.talk self.old.connection.link) (L.talk self.new.connection.link)
+            self.old.longest (get_below self.old.grid index.now limit) limit
+            (mapped (numbered_bytes rc_slice_items) shares.items)) }
+        ensures given_ahead { self.old.connection.awaited
+            ≡ ahead (get_below self.old.grid index.now limit) limit → IfOk result (λ shares. AreSharesGivenBy
+            true self.old.connection.first
+            (before_last (L.talk self.old.connection.link)) (L.talk self.new.connection.link)
+            self.old.longest (get_below self.old.grid index.now limit) limit
+            (mapped (numbered_bytes rc_slice_items) shares.items)) }
+        ensures some { IfOk result (λ shares. All (λ share. 0 < length share.1)
+            (mapped (numbered_bytes rc_slice_items) shares.items)) }
+        ensures well { OnOk result ((self.new.connection.is_open ≡ true)
+            × IsWell self.old.connection.rest self.new.connection.rest) }
+        ensures left { IfErr result (λ fault. IsLeftAfter fault self.old.connection.rest
+            self.new.connection.is_open self.new.connection.rest) }
+        ensures same { (self.new.grid ≡ self.old.grid) × (self.new.longest ≡ self.old.longest)
+            × (self.new.connection.first ≡ self.old.connection.first) }
+        ensures failures { self.new.failures ≡ self.old.failures }
+    {
+        let alloc = self.connection.alloc;
+        let commands = get_each_below(alloc, self.grid.as_slice(), index, limit)?;
+        let limits = Limits {
+            line: 512,
+            bulk: self.longest,
+            elements: 0,
+        };
+        let replies = self.connection.take_each(limits, &commands, limit)?;
+        match shares_in(alloc, replies) {
+            Ok(shares) => {
+                self.connection.well();
+                Ok(shares)
             }
             Err(fault) => {
                 self.connection.reject(fault);
@@ -359,14 +410,13 @@ impl<L: Link + Drop> RedisStore<L> {
     }
 }
 
-/// A share's bytes as they are lent out.
-fn lent(share: Option<Bytes>) -> Result<Option<RcSlice<u8>>, ServerFault>
-    ensures same { IfOk result (λ lent. option_map rc_slice_items lent ≡ share) }
-    ensures fault { IfErr result (λ fault. fault ≡ ServerFault.NoMemory) }
+/// How many numbers are asked for: the first ones of the grid's, below the limit if there is one.
+fn asked(limit: Option<u16>, made: u16) -> u16
+    ensures { result ≡ asked_below limit made }
 {
-    match share {
-        Some(bytes) => Ok(Some(RcSlice::from_vec(bytes.into_vec())?)),
-        None => Ok(None),
+    match limit {
+        None => made,
+        Some(limit) => limit.min(made),
     }
 }
 
@@ -467,6 +517,89 @@ impl<L: Link + Drop> Store for RedisStore<L> {
                 self.count(fault)?;
                 Ok(None)
             }
+        }
+    }
+
+    /// `GET key` of each number below the number of shares, and below the limit if there is one, in one exchange.
+    fn gather(
+        &mut self,
+        index: [u8; 16],
+        limit: Option<u16>,
+    ) -> Result<Vec<(u16, RcSlice<u8>)>, AllocError>
+        ensures rises { self.old.failures ≤ self.new.failures }
+        ensures failed { self.old.failures < self.new.failures →
+            IsOkAnd result (λ shares. shares.items ≡ []) }
+        ensures given { (self.old.connection.awaited
+            ≡ ahead (get_below self.old.grid index
+            (asked_below limit self.old.connection.first.settings.made))
+            (asked_below limit self.old.connection.first.settings.made) → ⊥) → IfOk result (λ shares. self.new.failures ≡ self.old.failures →
+            AreSharesGivenBy
+            self.old.connection.is_open self.old.connection.first
+            (L.talk self.old.connection.link) (L.talk self.new.connection.link)
+            self.old.longest (get_below self.old.grid index
+            (asked_below limit self.old.connection.first.settings.made))
+            (asked_below limit self.old.connection.first.settings.made)
+            (mapped (numbered_bytes rc_slice_items) shares.items)) }
+        ensures given_ahead { self.old.connection.awaited
+            ≡ ahead (get_below self.old.grid index
+            (asked_below limit self.old.connection.first.settings.made))
+            (asked_below limit self.old.connection.first.settings.made) → IfOk result (λ shares. self.new.failures ≡ self.old.failures →
+            AreSharesGivenBy
+            true self.old.connection.first
+            (before_last (L.talk self.old.connection.link)) (L.talk self.new.connection.link)
+            self.old.longest (get_below self.old.grid index
+            (asked_below limit self.old.connection.first.settings.made))
+            (asked_below limit self.old.connection.first.settings.made)
+            (mapped (numbered_bytes rc_slice_items) shares.items)) }
+        ensures some { IfOk result (λ shares. All (λ share. 0 < length share.1)
+            (mapped (numbered_bytes rc_slice_items) shares.items)) }
+        ensures well { OnOk result (self.new.failures ≡ self.old.failures →
+            (self.new.connection.is_open ≡ true)
+            × IsWell self.old.connection.rest self.new.connection.rest) }
+        ensures left { self.old.failures < self.new.failures →
+            IsSomeAnd self.new.last_fault (λ fault. IsLeftAfter fault
+            self.old.connection.rest self.new.connection.is_open self.new.connection.rest) }
+        ensures same { (self.new.grid ≡ self.old.grid) × (self.new.longest ≡ self.old.longest)
+            × (self.new.connection.first ≡ self.old.connection.first) }
+    {
+        let count = asked(limit, self.connection.first.settings.made);
+        match self.fetch_below(&index, count) {
+            Ok(shares) => Ok(shares),
+            Err(ServerFault::NoMemory) => Err(AllocError),
+            Err(fault) => {
+                self.count(fault)?;
+                Ok(Vec::new(self.connection.alloc))
+            }
+        }
+    }
+
+    /// The commands of `gather` with these arguments, where a connection is open, and no wait for what they give.
+    fn prefetch(&mut self, index: [u8; 16], limit: Option<u16>)
+        ensures failures { self.new.failures ≡ self.old.failures }
+        ensures last_fault { self.new.last_fault ≡ self.old.last_fault }
+        ensures closed { self.old.connection.is_open ≡ false →
+            self.new.connection ≡ self.old.connection }
+        ensures open { self.new.connection.is_open ≡ true →
+            L.talk self.new.connection.link ≡ L.talk self.old.connection.link }
+        ensures ahead { self.old.connection.is_open ≡ true →
+            IfSome self.new.connection.awaited (λ told. (Some told
+            ≡ ahead (get_below self.old.grid index
+            (asked_below limit self.old.connection.first.settings.made))
+            (asked_below limit self.old.connection.first.settings.made))
+            × (L.talk self.new.connection.link
+            ≡ with_command (L.talk self.old.connection.link) told.commands)) }
+        ensures rest { self.new.connection.rest ≡ self.old.connection.rest }
+        ensures same { (self.new.grid ≡ self.old.grid) × (self.new.longest ≡ self.old.longest)
+            × (self.new.connection.first ≡ self.old.connection.first) }
+    {
+        if !self.connection.is_open {
+            return;
+        }
+        let alloc = self.connection.alloc;
+        let made = self.connection.first.settings.made;
+        let count = asked(limit, made);
+        if let Ok(commands) = get_each_below(alloc, self.grid.as_slice(), &index, count) {
+            self.connection.tell_ahead(Bytes::from_vec(commands), count);
         }
     }
 

@@ -98,11 +98,28 @@ pub(crate) fn talk_each<L: Link>(
     ensures of_link { IfErr result (λ fault. IsOfLink fault) }
 {
     link.write_all(&[commands])?;
+    hear_all(alloc, link, limits, count)
+}
+
+/// Reads so many replies, which are all that comes.
+pub(crate) fn hear_all<L: Link>(
+    alloc: Global,
+    link: &mut L,
+    limits: Limits,
+    count: u16,
+) -> Result<Vec<Reply>, ServerFault>
+    requires { 0 < limits.line }
+    ensures heard { IfOk result (λ replies. (came : List ℕ)
+        × SpellsAll (SpellsReply limits) replies.items came
+        × (L.talk link.new ≡ with_heard (L.talk link.old) came)) }
+    ensures count { IfOk result (λ replies. vec_len replies ≡ count) }
+    ensures of_link { IfErr result (λ fault. IsOfLink fault) }
+{
     let mut came = Vec::new(alloc);
     hear_each(alloc, link, limits, &mut came, count)
 }
 
-/// Reads so many replies, which are all that comes.
+/// The same, and what came.
 fn hear_each<L: Link>(
     alloc: Global,
     link: &mut L,

@@ -3,7 +3,7 @@ use Rattle.std.specs.Prelude.{◌≡◌, ℕ, Bool, List, Option, Some, None, Al
 use Rattle.std.specs.List.{list_any}
 use Rattle.server_options.specs.Folders.{IsStoreFolder}
 use Rattle.server_options.specs.declared.store_names.StoreWanted.{StoreWanted}
-use Rattle.server_options.specs.declared.store_names.StoreWanted.TheVariants.{Folder, Disk, Missing}
+use Rattle.server_options.specs.declared.store_names.StoreWanted.TheVariants.{Folder, Disk, Shared, Missing}
 
 -- the path of the folder in which a store's shares are, where that is missing
 abbrev pub missing_folder_of : StoreWanted → Option (List ℕ)
@@ -22,6 +22,7 @@ has_path paths path = list_any (λ one. bytes_eq one path) paths
 abbrev pub or_missing : List (List ℕ) → StoreWanted → StoreWanted
 or_missing missing (Folder path room) = if has_path missing path.now then Missing path else Folder path room
 or_missing missing (Disk path room) = if has_path missing path.now then Missing path else Disk path room
+or_missing missing (Shared path) = if has_path missing path.now then Missing path else Shared path
 or_missing missing named = named
 
 -- These are the stores that were named, each in its place, but missing ones where their folders have one of these paths; and

@@ -78,7 +78,7 @@ fn with_stores<'a>(alloc: Global, command: Command<'a>) -> Result<Command<'a>, A
             alloc,
             "store",
             "STORE",
-            "a store: dir:PATH or dir:PATH:BYTES keeps its shares in a folder too, dir:PATH:BYTES,disk there alone, redis:HOST:PORT[/NAME][:BYTES] on a Redis server, mem:BYTES in memory; one for each server, in their order. BYTES are as in --room",
+            "a store: dir:PATH or dir:PATH:BYTES keeps its shares in a folder too, dir:PATH:BYTES,disk there alone, dir:PATH,shared there alone and beside other programs that serve it so, redis:HOST:PORT[/NAME][:BYTES] on a Redis server, mem:BYTES in memory; one for each server, in their order. BYTES are as in --room",
         )
         .action(ArgAction::Append))?
         .arg(

@@ -16,6 +16,8 @@ pub enum StoreWanted<'a> {
     Folder(&'a str, u64),
     /// One that has its shares in this folder alone.
     Disk(&'a str, u64),
+    /// One that has its shares in this folder alone, which other programs may serve at the same time.
+    Shared(&'a str),
     /// One that has its shares on a Redis server alone.
     Redis(RedisPlace<'a>, u64),
     /// One whose shares are in this folder, which is missing: the server is to be served without.
@@ -40,6 +42,7 @@ impl<'a> StoreWanted<'a> {
             StoreWanted::Memory(_) => None,
             StoreWanted::Folder(folder, _) => Some(*folder),
             StoreWanted::Disk(folder, _) => Some(*folder),
+            StoreWanted::Shared(folder) => Some(*folder),
             StoreWanted::Redis(_, _) => None,
             StoreWanted::Missing(_) => None,
         }
@@ -64,6 +67,9 @@ impl<'a> StoreWanted<'a> {
                 StoreWanted::Missing(*folder)
             }
             StoreWanted::Disk(folder, _) if is_among(missing, *folder) => {
+                StoreWanted::Missing(*folder)
+            }
+            StoreWanted::Shared(folder) if is_among(missing, *folder) => {
                 StoreWanted::Missing(*folder)
             }
             _ => *self,
@@ -121,9 +127,10 @@ fn is_path(path: &str, other: &str) -> bool
     path == other
 }
 
-/// A store by its name: `mem:BYTES`, `dir:PATH`, `dir:PATH:BYTES`, `dir:PATH:BYTES,disk` or
-/// `redis:HOST:PORT[/NAME][:BYTES]`. A path with a colon in it, or with `,disk` at its end, wants the bytes behind it. A
-/// host with a colon in it stands in brackets, and a NAME has no colon. BYTES are what [`read_size`] reads.
+/// A store by its name: `mem:BYTES`, `dir:PATH`, `dir:PATH:BYTES`, `dir:PATH:BYTES,disk`, `dir:PATH,shared` or
+/// `redis:HOST:PORT[/NAME][:BYTES]`. A path with a colon in it, or with `,disk` or `,shared` at its end, wants the bytes
+/// behind it; a shared one has no bytes, and so no colon. A host with a colon in it stands in brackets, and a NAME has no
+/// colon. BYTES are what [`read_size`] reads.
 pub fn read_store(name: &str, room: u64) -> Option<StoreWanted<'_>>
     ensures { IfSome result IsPresent }
 {
@@ -167,6 +174,9 @@ fn read_folder(folder: &str, room: u64) -> Option<StoreWanted<'_>>
             None => None,
         };
     }
+    if let Some(path) = folder.strip_suffix(",shared") {
+        return read_shared(path);
+    }
     if folder.contains(':') {
         return match read_sized(folder) {
             Some((path, room)) => Some(StoreWanted::Folder(path, room)),
@@ -177,6 +187,18 @@ fn read_folder(folder: &str, room: u64) -> Option<StoreWanted<'_>>
         None
     } else {
         Some(StoreWanted::Folder(folder, room))
+    }
+}
+
+/// A store in a folder that others may serve, by its path. Nobody knows its room, so none is given: a path with a colon
+/// names none.
+fn read_shared(path: &str) -> Option<StoreWanted<'_>>
+    ensures { IfSome result IsPresent }
+{
+    if path.is_empty() || path.contains(':') {
+        None
+    } else {
+        Some(StoreWanted::Shared(path))
     }
 }
 

@@ -49,6 +49,31 @@ impl<K: Store, D: Store> Store for EitherStore<K, D> {
         }
     }
 
+    fn gather(
+        &mut self,
+        index: [u8; 16],
+        limit: Option<u16>,
+    ) -> Result<Vec<(u16, RcSlice<u8>)>, AllocError> {
+        match self {
+            EitherStore::First(store) => store.gather(index, limit),
+            EitherStore::Second(store) => store.gather(index, limit),
+        }
+    }
+
+    fn peek(&self, index: [u8; 16], number: u16) -> Option<RcSlice<u8>> {
+        match self {
+            EitherStore::First(store) => store.peek(index, number),
+            EitherStore::Second(store) => store.peek(index, number),
+        }
+    }
+
+    fn prefetch(&mut self, index: [u8; 16], limit: Option<u16>) {
+        match self {
+            EitherStore::First(store) => store.prefetch(index, limit),
+            EitherStore::Second(store) => store.prefetch(index, limit),
+        }
+    }
+
     fn nth(&mut self, at: u64) -> Result<Option<Share>, AllocError> {
         match self {
             EitherStore::First(store) => store.nth(at),

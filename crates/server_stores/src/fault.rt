@@ -26,7 +26,7 @@ pub enum ProgramFault {
     #[error("--shares wants K,N with 1 <= K <= N <= 256, as in 3,10")]
     Shares,
     /// `--store` names no store, the same names on a Redis server twice, or stands too often.
-    #[error("--store wants dir:PATH, dir:PATH:BYTES, dir:PATH:BYTES,disk, redis:HOST:PORT[/NAME][:BYTES], each NAME once, or mem:BYTES, and stands 256 times at most")]
+    #[error("--store wants dir:PATH, dir:PATH:BYTES, dir:PATH:BYTES,disk, dir:PATH,shared, redis:HOST:PORT[/NAME][:BYTES], each NAME once, or mem:BYTES, and stands 256 times at most")]
     Stores,
     /// `--room` is no size.
     #[error("--room wants BYTES: digits, and K, M, G or T behind them for powers of 1,024")]

@@ -1,4 +1,6 @@
 //! Folders of servers: what stands in them before they are opened, and opening them.
+ghost use Rattle.std.specs.Prelude.{◌≡◌, IfOk, Ok};
+
 use crate::difference::judge;
 use crate::fault::ProgramFault;
 use crate::locked_shelf::LockedShelf;
@@ -345,12 +347,23 @@ fn open_roomy<R: Files<File = File> + AllocGlobal + Clone + Drop>(
     folder: &str,
     opening: &Opening,
 ) -> Result<OurShelf<R>, ProgramFault> {
-    match open_shelf(rt, folder, opening) {
-        Ok(shelf) => {
+    roomy(rt, folder, open_shelf(rt, folder, opening))
+}
+
+/// What was opened in a folder, if its disk has room. Where it hasn't, that is why it was not opened.
+pub fn roomy<R: Files + AllocGlobal, T: Drop>(
+    rt: &R,
+    folder: &str,
+    opened: Result<T, FolderFault>,
+) -> Result<T, ProgramFault>
+    ensures { IfOk result (λ given. opened ≡ Ok given) }
+{
+    match opened {
+        Ok(opened) => {
             if is_full(rt, folder)? {
                 Err(ProgramFault::DiskFull)
             } else {
-                Ok(shelf)
+                Ok(opened)
             }
         }
         Err(FolderFault::Failed) => {

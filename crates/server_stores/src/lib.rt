@@ -21,6 +21,8 @@ pub mod places;
 pub mod small_files;
 /// Stores on Redis servers.
 mod redis_stores;
+/// Folders that other processes serve at the same time.
+mod shared_folders;
 /// The stores of the gateway.
 mod stores;
 /// A store that forgets what it is put.

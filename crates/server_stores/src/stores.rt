@@ -2,7 +2,7 @@
 ghost use Rattle.std.specs.Prelude.{◌≡◌, ℕ, true, List, Option, IfOk, OnOk};
 ghost use Rattle.std.specs.Option.{option_map};
 ghost use Rattle.share_store.specs.Schedule.{failing_call, fails_for_good};
-ghost use Rattle.server_stores.specs.Kinds.{AreOfKinds, IsOfKind, IsOneMore, IsOnRedis, IsOutOfReach};
+ghost use Rattle.server_stores.specs.Kinds.{AreOfKinds, IsInSharedFolder, IsOfKind, IsOneMore, IsOnRedis, IsOutOfReach};
 ghost use Rattle.server_stores.specs.Opened.{IsOpenedAs};
 
 use crate::either_store::EitherStore;
@@ -13,30 +13,35 @@ use crate::folders::{
 };
 use crate::missing_store::unreachable_store;
 use crate::redis_stores::{OnRedis, RedisOpening, open_on_redis, read_password};
+use crate::shared_folders::open_shared;
 use folder_shelf::StoreSettings;
 use log::Log;
 use server_options::{Options, RedisPlace, StoreWanted};
 use share_store::{FailAt, MemStore};
+use shared_folder::FileFolder;
 use std::fs::File;
 use std::net::{Net, SocketAddr, ToSocketAddrs};
+use std::random::RandomSource;
 use std::rt::Files;
 use std::time::Clock;
 
-/// A server's store: in memory alone, in memory and in a folder, on a disk alone, on a Redis server, or out of reach.
+/// A server's store: in memory alone, in memory and in a folder, on a disk alone, on a Redis server, in a folder that
+/// others serve too, or out of reach.
 pub type ServerStore<R> = EitherStore<
     MemStore,
-    EitherStore<FolderStore<R>, EitherStore<DiskStore<R>, EitherStore<OnRedis<R>, FailAt>>>,
+    EitherStore<
+        FolderStore<R>,
+        EitherStore<DiskStore<R>, EitherStore<OnRedis<R>, EitherStore<FileFolder<R>, FailAt>>>,
+    >,
 >;
 
 /// The stores that are wanted, one for each, opened in their order: the settings are those of the grid's first server.
 /// Each folder is looked at before one is opened, so that none is begun where another is refused, or by mistake. Of one
 /// that is missing nothing is read, made or written.
 /// `Stores` where they are more than servers can be numbered.
-pub fn open_stores<R: Files<File = File> + AllocGlobal + Net + Clock + Clone + Drop + Log + Eprint>(
-    rt: &R,
-    options: &Options<'_>,
-    first: &StoreSettings,
-) -> Result<Vec<ServerStore<R>>, ProgramFault>
+pub fn open_stores<
+    R: Files<File = File> + AllocGlobal + Net + Clock + RandomSource + Clone + Drop + Log + Eprint,
+>(rt: &R, options: &Options<'_>, first: &StoreSettings) -> Result<Vec<ServerStore<R>>, ProgramFault>
     ensures { IfOk result (λ stores. (password : Option (List ℕ))
         × AreOfKinds 0 options.now.stores.items stores.items (λ server place on_redis. IsOpenedAs
         place.name.now (record first.now { place = server }) password
@@ -64,7 +69,9 @@ pub fn open_stores<R: Files<File = File> + AllocGlobal + Net + Clock + Clone + D
 }
 
 /// Opens one store and puts it behind the others.
-fn open_behind<R: Files<File = File> + AllocGlobal + Net + Clock + Clone + Drop + Log + Eprint>(
+fn open_behind<
+    R: Files<File = File> + AllocGlobal + Net + Clock + RandomSource + Clone + Drop + Log + Eprint,
+>(
     rt: &R,
     wanted: &StoreWanted<'_>,
     asked: &Asked<'_>,
@@ -200,11 +207,9 @@ impl<'a> Asked<'a> {
 }
 
 /// Opens one store, of the kind that is wanted.
-fn open_wanted<R: Files<File = File> + AllocGlobal + Net + Clock + Clone + Drop + Log + Eprint>(
-    rt: &R,
-    wanted: &StoreWanted<'_>,
-    asked: &Asked<'_>,
-) -> Result<ServerStore<R>, ProgramFault>
+fn open_wanted<
+    R: Files<File = File> + AllocGlobal + Net + Clock + RandomSource + Clone + Drop + Log + Eprint,
+>(rt: &R, wanted: &StoreWanted<'_>, asked: &Asked<'_>) -> Result<ServerStore<R>, ProgramFault>
     ensures { IfOk result (λ store. IsOfKind wanted.now store (λ place on_redis. IsOpenedAs
         place.name.now asked.now.settings (option_map (λ password. password.now) asked.now.password)
         on_redis.grid on_redis.longest on_redis.connection.first)) }
@@ -221,8 +226,23 @@ fn open_wanted<R: Files<File = File> + AllocGlobal + Net + Clock + Clone + Drop 
             Ok(store) => Ok(EitherStore::Second(EitherStore::Second(EitherStore::First(store)))),
             Err(fault) => Err(fault),
         },
+        StoreWanted::Shared(folder) => open_beside_others(rt, *folder, asked),
         StoreWanted::Redis(place, _) => open_redis(rt, &asked.on_redis(*place)),
         StoreWanted::Missing(_) => Ok(out_of_reach(unreachable_store(rt.alloc()))),
+    }
+}
+
+/// Opens one store in a folder that others serve too.
+fn open_beside_others<
+    R: Files<File = File> + AllocGlobal + Net + Clock + RandomSource + Clone + Drop + Log + Eprint,
+>(rt: &R, folder: &str, asked: &Asked<'_>) -> Result<ServerStore<R>, ProgramFault>
+    ensures { IfOk result IsInSharedFolder }
+{
+    match open_shared(rt, folder, &asked.settings, asked.synced) {
+        Ok(store) => Ok(EitherStore::Second(EitherStore::Second(EitherStore::Second(
+            EitherStore::Second(EitherStore::First(store)),
+        )))),
+        Err(fault) => Err(fault),
     }
 }
 
@@ -252,5 +272,7 @@ fn out_of_reach<R: Files<File = File> + AllocGlobal + Net + Clock + Clone + Drop
     requires for_good { fails_for_good store ≡ true }
     ensures { IsOutOfReach result }
 {
-    EitherStore::Second(EitherStore::Second(EitherStore::Second(EitherStore::Second(store))))
+    EitherStore::Second(EitherStore::Second(EitherStore::Second(EitherStore::Second(
+        EitherStore::Second(store),
+    ))))
 }

@@ -6,7 +6,7 @@ use Rattle.share_store.specs.declared.fail_at.FailAt.{FailAt}
 use Rattle.server_stores.specs.declared.either_store.EitherStore.{EitherStore}
 use Rattle.server_stores.specs.Kinds.{AreOfKinds}
 
-pub as_many : {M F D N : Type 0} (server : ℕ) (wanted : List StoreWanted) (stores : List (EitherStore M (EitherStore F (EitherStore D (EitherStore N FailAt))))) (IsOpened : ℕ → RedisPlace → N → Type 0)
+pub as_many : {M F D N S : Type 0} (server : ℕ) (wanted : List StoreWanted) (stores : List (EitherStore M (EitherStore F (EitherStore D (EitherStore N (EitherStore S FailAt)))))) (IsOpened : ℕ → RedisPlace → N → Type 0)
     → AreOfKinds server wanted stores IsOpened → length stores ≡ length wanted
 as_many server [] stores IsOpened are = ap length are
 as_many server (one ∷ wanted) [] IsOpened are = absurd are

@@ -56,6 +56,7 @@ use std::fs::File;
 use std::io::ErrorKind;
 use std::net::{Net, SocketAddr, ToSocketAddrs};
 use std::os::fd::AsRawFd;
+use std::random::RandomSource;
 use std::rt::{Env, Files};
 use std::time::{Clock, CpuClock, Duration};
 
@@ -72,6 +73,7 @@ pub fn run<
         + Clock
         + CpuClock
         + Net
+        + RandomSource
         + Log
         + Clone
         + Drop,
@@ -163,6 +165,7 @@ fn serve<
         + Clock
         + CpuClock
         + Net
+        + RandomSource
         + Log
         + Clone
         + Drop,
@@ -295,11 +298,9 @@ fn limits_of(options: &Options<'_>) -> Limits
 }
 
 /// A gateway over the stores that are wanted, with the secret that its file has, these pages, and replies for browsers.
-fn open_gateway<R: AllocGlobal + Files<File = File> + Net + Clock + Clone + Drop + Log + Eprint>(
-    rt: &R,
-    options: &Options<'_>,
-    pages: Pages,
-) -> Result<Gateway<ServerStore<R>>, ProgramFault>
+fn open_gateway<
+    R: AllocGlobal + Files<File = File> + Net + Clock + RandomSource + Clone + Drop + Log + Eprint,
+>(rt: &R, options: &Options<'_>, pages: Pages) -> Result<Gateway<ServerStore<R>>, ProgramFault>
     ensures needed { IfOk result (λ gateway. gateway.settings.k ≡ options.now.shares.needed) }
     ensures made { IfOk result (λ gateway. gateway.settings.n ≡ options.now.shares.made) }
     ensures servers { IfOk result (λ gateway.
@@ -319,7 +320,9 @@ fn open_gateway<R: AllocGlobal + Files<File = File> + Net + Clock + Clone + Drop
 }
 
 /// The same with a secret, which is that of the file that is asked for.
-fn open_under<R: AllocGlobal + Files<File = File> + Net + Clock + Clone + Drop + Log + Eprint>(
+fn open_under<
+    R: AllocGlobal + Files<File = File> + Net + Clock + RandomSource + Clone + Drop + Log + Eprint,
+>(
     rt: &R,
     options: &Options<'_>,
     secret: &Secret<'_>,

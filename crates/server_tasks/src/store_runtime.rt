@@ -8,6 +8,7 @@ use std::fs::{Metadata, OpenOptions, Permissions};
 use std::io;
 use std::net::{Net, SocketAddr};
 use std::path::PathBuf;
+use std::random::RandomSource;
 use std::rt::Files;
 use std::time::{Clock, Duration};
 
@@ -77,6 +78,12 @@ impl<R: Clock, L> Clock for StoreRuntime<R, L> {
 
     fn sleep(&self, duration: Duration) {
         self.rt.sleep(duration)
+    }
+}
+
+impl<R: RandomSource, L> RandomSource for StoreRuntime<R, L> {
+    fn fill_bytes(&self, buf: &mut [u8]) -> io::Result<()> {
+        self.rt.fill_bytes(buf)
     }
 }
 

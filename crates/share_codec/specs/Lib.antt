@@ -13,3 +13,4 @@ pub mod Uses
 pub mod Parts
 pub mod Drafts
 pub mod Maker
+pub mod Readings

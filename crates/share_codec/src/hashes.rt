@@ -3,18 +3,20 @@ ghost use Rattle.std.specs.Prelude.{◌≡◌, ◌≤◌, ◌<◌, ◌+◌, ◌*
 ghost use Rattle.std.specs.Simd.{first_chunks};
 ghost use Rattle.share_codec.specs.Shares.{segment_hashes, roots_of};
 ghost use Rattle.share_codec.specs.Tags.{block_hash, segment_hash};
+ghost use Rattle.share_codec.specs.Maker.{AreFirstHashes};
+ghost use Rattle.tag_hash.specs.Tagged.{tagged};
 
-use crate::cut::cut;
+use crate::cut::{cut, cut_next};
 use crate::laws;
 use crate::params::Params;
 use std::alloc::{AllocError, Global};
 use tag_hash::tagged_all;
 
 /// The tag of the hash of a block.
-const BLOCK_TAG: &[u8; 16] = b"webgate_block_v1";
+pub(crate) const BLOCK_TAG: &[u8; 16] = b"webgate_block_v1";
 
 /// The tag of the hash of a segment of the crypttext.
-const SEGMENT_TAG: &[u8; 28] = b"webgate_crypttext_segment_v1";
+pub(crate) const SEGMENT_TAG: &[u8; 28] = b"webgate_crypttext_segment_v1";
 
 /// The hashes of a share's blocks in a row, `count` of `size` bytes, of which the last may be shorter.
 pub(crate) fn block_hashes(
@@ -29,6 +31,28 @@ pub(crate) fn block_hashes(
 {
     let blocks = cut(alloc, blocks, size, count)?;
     hashes_of(alloc, &blocks)
+}
+
+/// Appends the hashes of the next of `count` pieces in a row, at most `most`. Also where memory is refused, they are those
+/// of the first pieces.
+pub(crate) fn push_next(
+    hashes: &mut Vec<[u8; 32]>,
+    tag: &[u8],
+    bytes: &[u8],
+    size: usize,
+    count: usize,
+    most: usize,
+) -> Result<(), AllocError>
+    requires fits { count * size ≤ length bytes.now + size }
+    requires first { AreFirstHashes hashes.old.items
+        (map (tagged tag.now) (first_chunks size count bytes.now)) }
+    ensures first { AreFirstHashes hashes.new.items
+        (map (tagged tag.now) (first_chunks size count bytes.now)) }
+{
+    let alloc = *hashes.allocator();
+    let pieces = cut_next(alloc, bytes, size, count, hashes.len(), most)?;
+    let next = tagged_all(alloc, tag, &pieces)?;
+    hashes.extend_from_slice(&next)
 }
 
 /// The hashes of blocks.

@@ -63,6 +63,13 @@ impl<'a> ShareView<'a> {
         }
     }
 
+    /// How many blocks it has.
+    pub(crate) fn block_count(&self) -> usize
+        ensures { result ≡ length self.now.blocks }
+    {
+        self.block_count
+    }
+
     /// The hashes of its blocks.
     pub(crate) fn block_hashes(&self, alloc: Global) -> Result<Vec<[u8; 32]>, AllocError>
         ensures { IfOk result (λ hashes. hashes.items ≡ map block_hash self.now.blocks) }

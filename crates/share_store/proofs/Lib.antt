@@ -1,5 +1,8 @@
 pub mod Edits
+pub mod Gathering
 pub mod Levels
+pub mod Looks
+pub mod Missing
 pub mod Nth
 pub mod Parts
 pub mod Places
@@ -10,3 +13,4 @@ pub mod Sorted
 pub mod Stands
 pub mod Toggles
 pub mod Toggling
+pub mod Within

@@ -3,24 +3,28 @@ use crate::shelf_calls::calls;
 use case_lines::{Case, NoAnswer, debug, done, fixed};
 use failures::{opens, puts};
 use folder_shelf::{
-    FileShelf, FolderShelf, StoreSettings, name_of, read_name, read_settings, seal_of,
+    FileDisk, FileShelf, FolderShelf, StoreSettings, name_of, read_name, read_settings, seal_of,
     settings_text,
 };
 use mem_files::MemFiles;
+use shared_folder::SharedFolder;
 use std::alloc::Global;
 use std::fs;
 use std::io::Write;
 
 /// Places of failure, one after the other.
 mod failures;
+/// Stores that use one folder at the same time.
+mod shared;
 /// A file system in memory.
 mod mem_files;
 
-/// A file system in memory, and the shelf that was opened last in a folder of it.
+/// A file system in memory, and the shelf that was opened last in a folder of it, and all stores that were.
 #[derive(Drop)]
 pub struct Folder {
     files: MemFiles,
     shelf: Option<FileShelf<MemFiles>>,
+    stores: Vec<SharedFolder<FileDisk<MemFiles>, ()>>,
 }
 
 /// The storage index of bytes from this one on.
@@ -56,6 +60,10 @@ pub fn answer(
         "reads-settings" => reads_settings(alloc, case),
         "puts-that-fail" => puts(alloc, case),
         "opens-that-fail" => opens(alloc, case.number(2)?),
+        "shared-puts-that-fail" => shared::puts(alloc, case.number(2)?),
+        "shared-finds" => shared::finds(alloc, case.number(2)?),
+        "shared-starts-that-fail" => shared::starts(alloc, case.number(2)?),
+        "shared-starts-at-once" => shared::starts_at_once(alloc, case.number(2)?),
         _ => on_files(alloc, held, case),
     }
 }
@@ -106,7 +114,11 @@ fn reads_settings(alloc: Global, case: &Case<'_>) -> Result<String, NoAnswer> {
 fn on_files(alloc: Global, held: &mut Option<Folder>, case: &Case<'_>) -> Result<String, NoAnswer> {
     if case.word(1)? == "new" {
         let files = MemFiles::new(alloc)?;
-        *held = Some(Folder { files, shelf: None });
+        *held = Some(Folder {
+            files,
+            shelf: None,
+            stores: Vec::new(alloc),
+        });
         return fixed(alloc, "ok");
     }
     match held {
@@ -127,6 +139,8 @@ fn asked(alloc: Global, folder: &mut Folder, case: &Case<'_>) -> Result<String, 
             debug(alloc, &found.is_ok())
         }
         "open" => open(alloc, folder, case),
+        "share" => share(alloc, folder, case),
+        "with" => with(alloc, folder, case),
         _ => match &mut folder.shelf {
             Some(shelf) => of_shelf(alloc, shelf, case),
             None => Err(NoAnswer::Question),
@@ -152,6 +166,28 @@ fn open(alloc: Global, folder: &mut Folder, case: &Case<'_>) -> Result<String, N
             fixed(alloc, "ok")
         }
         Err(fault) => debug(alloc, &fault),
+    }
+}
+
+/// Opens one more store in the folder at place 2, with the settings behind it.
+fn share(alloc: Global, folder: &mut Folder, case: &Case<'_>) -> Result<String, NoAnswer> {
+    let path = case.word(2)?;
+    let settings = settings_at(alloc, case, 3)?;
+    let process = folder.stores.len().min(255) as u8;
+    match shared::opened_in(&folder.files, path, settings, process) {
+        Ok(store) => {
+            folder.stores.push(store)?;
+            fixed(alloc, "ok")
+        }
+        Err(fault) => debug(alloc, &fault),
+    }
+}
+
+/// The answers of the store of the number at place 2 to the calls behind it, and `fault`, in which it failed last.
+fn with(alloc: Global, folder: &mut Folder, case: &Case<'_>) -> Result<String, NoAnswer> {
+    match folder.stores.get_mut(case.small(2)? as usize) {
+        Some(store) => shared::calls(alloc, store, case, 3),
+        None => Err(NoAnswer::Word(2)),
     }
 }
 

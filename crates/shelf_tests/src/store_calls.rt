@@ -1,11 +1,15 @@
-//! Calls of any store: `has NUMBER`, `numbers`, `get NUMBER`, `nth PLACE`, `put NUMBER BYTES`, `lose NUMBER`,
-//! `toggle NUMBER PLACE` and `failures`.
+//! Calls of any store: `has NUMBER`, `numbers`, `get NUMBER`, `gather LIMIT`, `prefetch LIMIT`, `prefetch-another LIMIT`
+//! (under another index), `nth PLACE`, `put NUMBER BYTES`, `lose NUMBER`, `toggle NUMBER PLACE` and `failures`.
 use crate::shelf_calls::share_at;
 use crate::shelves::INDEX;
 use crate::texts::{add, given};
 use case_lines::{Case, NoAnswer, debug, fixed, shown, told};
 use share_store::Store;
 use std::alloc::Global;
+use std::rc::RcSlice;
+
+/// The storage index of no share.
+const ANOTHER: [u8; 16] = [8; 16];
 
 /// The answers of a store to the calls that stand from a place on, each with how many bytes the store holds then, and
 /// how many it has room for in all.
@@ -44,6 +48,9 @@ pub fn call<S: Store>(
         "failures" => debug(alloc, &store.failures()),
         "has" => has(alloc, store, case, at),
         "get" => get(alloc, store, case, at),
+        "gather" => gather(alloc, store, case, at),
+        "prefetch" => prefetch(alloc, store, INDEX, number_of(case, at)?),
+        "prefetch-another" => prefetch(alloc, store, ANOTHER, number_of(case, at)?),
         "nth" => nth(alloc, store, case, at),
         "put" => put(alloc, store, case, at),
         "lose" => lose(alloc, store, case, at),
@@ -78,6 +85,46 @@ fn get<S: Store>(
 ) -> Result<String, NoAnswer> {
     let number = number_of(case, at)?;
     given(alloc, store.get(INDEX, number))
+}
+
+/// The shares of numbers below a limit, each as its number and its bytes.
+fn gather<S: Store>(
+    alloc: Global,
+    store: &mut S,
+    case: &Case<'_>,
+    at: usize,
+) -> Result<String, NoAnswer> {
+    let limit = number_of(case, at)?;
+    match store.gather(INDEX, Some(limit)) {
+        Ok(shares) => listed(alloc, &shares),
+        Err(fault) => debug(alloc, &fault),
+    }
+}
+
+/// `ok`, once the store was told that shares of numbers below a limit will be gathered.
+fn prefetch<S: Store>(
+    alloc: Global,
+    store: &mut S,
+    index: [u8; 16],
+    limit: u16,
+) -> Result<String, NoAnswer> {
+    store.prefetch(index, Some(limit));
+    fixed(alloc, "ok")
+}
+
+/// Shares as text: each as its number, a sign and its bytes, between brackets.
+fn listed(alloc: Global, shares: &[(u16, RcSlice<u8>)]) -> Result<String, NoAnswer> {
+    let mut text = String::from_str(alloc, "[")?;
+    for (number, bytes) in shares {
+        if text.len() > 1 {
+            text.push_str(" ")?;
+        }
+        let bytes = shown(alloc, bytes.as_slice())?;
+        let share = format!(in alloc; "{number}={bytes}")?;
+        text.push_str(&share)?;
+    }
+    text.push_str("]")?;
+    Ok(text)
 }
 
 /// The bytes of the share at a place among all.

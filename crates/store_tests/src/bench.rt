@@ -1,5 +1,7 @@
-//! What the cases are about: one store, one grid, one image, and the files that were stored last.
+//! What the cases are about: one store, one grid, one image, and the files that were stored last; and another grid, of
+//! stores in memory, with its files.
 use crate::files::{self, Files};
+use crate::memory::Memory;
 use crate::{grids, images, liars, stores};
 use case_lines::{Answers, Case, NoAnswer};
 use grid::Grid;
@@ -17,6 +19,8 @@ pub struct Bench {
     pub left: Vec<FailAt>,
     /// The files of the grid.
     pub files: Files,
+    /// The grid of stores in memory, with its files.
+    pub memory: Memory,
 }
 
 impl Bench {
@@ -27,6 +31,7 @@ impl Bench {
             grid: None,
             left: Vec::new(alloc),
             files: Files::new(alloc),
+            memory: Memory::new(alloc),
         }
     }
 }
@@ -41,6 +46,7 @@ impl Answers for Bench {
                 Some(grid) => files::answer(alloc, grid, &mut self.files, case),
                 None => Err(NoAnswer::Question),
             },
+            "memory" => self.memory.answer(alloc, case),
             "liar" => liars::answer(alloc, case),
             _ => Err(NoAnswer::Question),
         }

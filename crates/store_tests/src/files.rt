@@ -72,6 +72,7 @@ fn of_file<S: Store>(
         "read-forged" => got(alloc, grid, &mut files.cache, &forged(&fields, case)?, case),
         "begin" => begun(alloc, grid, files, &fields),
         "begin-anew" => begin_anew(alloc, grid, &fields),
+        "ahead" => ahead(alloc, grid, &mut files.cache, &fields, case),
         "lose" => told(alloc, grid.lose(0, index, case.small(3)?)),
         "spoil" => told(alloc, grid.spoil(0, index, case.small(3)?, case.number(4)?)),
         "check" => checked(alloc, grid, cap, case),
@@ -131,6 +132,26 @@ fn prepared(alloc: Global, files: &mut Files, case: &Case<'_>) -> Result<String,
         }
     }
     Err(NoAnswer::Question)
+}
+
+/// Prepares the reading of a file by a step, and then by at most as many more as the word at place 3 says. Whether some were
+/// left after the first, and whether some are left.
+fn ahead<S: Store>(
+    alloc: Global,
+    grid: &Grid<S>,
+    cache: &mut Option<Cache>,
+    fields: &ReadFields,
+    case: &Case<'_>,
+) -> Result<String, NoAnswer> {
+    let cache = held(alloc, cache)?;
+    let was_left = cache.read_ahead(alloc, grid, fields);
+    let mut is_left = was_left;
+    for _ in 0..case.number(3)? {
+        if is_left {
+            is_left = cache.read_ahead(alloc, grid, fields);
+        }
+    }
+    debug(alloc, &(was_left, is_left))
 }
 
 /// A cap of the same file with the k, n and size that stand after the file's place.

@@ -12,6 +12,8 @@ mod grids;
 mod images;
 /// A store that lies.
 mod liars;
+/// Files that are prepared before they are read.
+mod memory;
 /// A store of shares.
 mod stores;
 /// Answers as text.

@@ -31,6 +31,10 @@ struct State {
     synced: Vec<Name>,
     /// After how many more calls one fails.
     fails_after: u64,
+    /// A path, and the file that another process gives that name where none has it.
+    arriving: Option<(String, Vec<u8>)>,
+    /// After how many more calls that is.
+    arrives_after: u64,
 }
 
 /// A file system in memory, of which clones are the same one.
@@ -60,11 +64,31 @@ fn folder_of(path: &str) -> &str {
 impl State {
     /// Counts a call, and fails where it is the one that fails.
     fn step(&mut self) -> io::Result<()> {
+        if self.arrives_after == 0 {
+            self.arrive()?;
+        } else {
+            self.arrives_after -= 1;
+        }
         if self.fails_after == 0 {
             self.fails_after = u64::MAX;
             return Err(io::Error::from(ErrorKind::Other));
         }
         self.fails_after -= 1;
+        Ok(())
+    }
+
+    /// Another process gives a file its name, unless one has it.
+    fn arrive(&mut self) -> io::Result<()> {
+        if let Some((path, bytes)) = self.arriving.take() {
+            if self.node_of(path.as_str()).is_err() {
+                let node = self.nodes.len();
+                self.nodes.push(Node {
+                    synced: bytes.clone()?,
+                    bytes,
+                })?;
+                self.names.push(Name { path, node })?;
+            }
+        }
         Ok(())
     }
 
@@ -136,9 +160,10 @@ impl State {
 }
 
 impl MemFiles {
-    /// A file system with one folder, `/d`, in which nothing is.
+    /// A file system with one folder, `/d`, in that of all, in which nothing is.
     pub(super) fn new(alloc: Global) -> Result<MemFiles, AllocError> {
         let mut folders = Vec::new(alloc);
+        folders.push(String::from_str(alloc, "/")?)?;
         folders.push(String::from_str(alloc, "/d")?)?;
         let state = RefCell::new(State {
             nodes: Vec::new(alloc),
@@ -146,6 +171,8 @@ impl MemFiles {
             names: Vec::new(alloc),
             synced: Vec::new(alloc),
             fails_after: u64::MAX,
+            arriving: None,
+            arrives_after: u64::MAX,
         });
         Ok(MemFiles {
             alloc,
@@ -156,6 +183,16 @@ impl MemFiles {
     /// After so many more calls one fails.
     pub(super) fn fail_after(&self, calls: u64) -> io::Result<()> {
         self.state.try_borrow_mut()?.fails_after = calls;
+        Ok(())
+    }
+
+    /// After so many more calls another process gives a file of these bytes this name, unless one has it then.
+    pub(super) fn arrive_after(&self, calls: u64, path: &str, bytes: &[u8]) -> io::Result<()> {
+        let mut guard = self.state.try_borrow_mut()?;
+        let state = &mut *guard;
+        let path = String::from_str(self.alloc, path)?;
+        state.arriving = Some((path, Vec::from_slice(self.alloc, bytes)?));
+        state.arrives_after = calls;
         Ok(())
     }
 
@@ -292,6 +329,19 @@ impl Files for MemFiles {
         }
         state.forget(to);
         state.forget(from);
+        state.names.push(Name { path, node })?;
+        Ok(())
+    }
+
+    fn hard_link(&self, original: &str, link: &str) -> io::Result<()> {
+        let mut guard = self.state.try_borrow_mut()?;
+        let state = &mut *guard;
+        state.step()?;
+        let node = state.node_of(original)?;
+        if state.is_folder(link) || state.node_of(link).is_ok() {
+            return Err(io::Error::from(ErrorKind::AlreadyExists));
+        }
+        let path = String::from_str(self.alloc, link)?;
         state.names.push(Name { path, node })?;
         Ok(())
     }

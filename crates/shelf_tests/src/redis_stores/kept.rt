@@ -213,6 +213,8 @@ impl Link for KeepingServer {
         Ok(count)
     }
 
+    fn give_time(&mut self) {}
+
     fn close(&mut self) {}
 
     /// An hour has gone by each time.

@@ -88,6 +88,8 @@ impl Link for Played {
         Ok(count)
     }
 
+    fn give_time(&mut self) {}
+
     fn close(&mut self) {
         let _full = self.told.push(b'.');
     }

@@ -1,6 +1,6 @@
 use Rattle.std.proofs.Common.{◌≡◌, [], map}
-use Rattle.chk_file.specs.Gathered.{places_of, by_number}
+use Rattle.std.specs.List.{range_with_len}
 use Rattle.chk_file.proofs.rows.empty_rows.Given as goal
 
 abbrev pub invariant-loop : goal.invariant-loop
-invariant-loop l = map (λ row. places_of row.items) l.rows.items ≡ by_number l.counter []
+invariant-loop g l = map (λ row. row.items) l.rows.items ≡ map (λ _. []) (range_with_len 0 l.counter)

@@ -3,7 +3,8 @@ use Rattle.std.specs.Rc.{rc_slice_items}
 use Rattle.std.proofs.lemmas.List.{length-map}
 use Rattle.aes_ctr.specs.Crypt.{crypt}
 use Rattle.grid.specs.GridState.{GridState, StoreState, maps_of, stood, failures_at}
-use Rattle.grid.specs.Found.{found_bytes, found_below, AllBut}
+use Rattle.share_store.specs.NumberedShares.{AllBut}
+use Rattle.grid.specs.Found.{found_bytes, found_below}
 use Rattle.grid.specs.FoundLaws.{FoundLaws}
 use Rattle.caps.specs.Fields.{ReadValue}
 use Rattle.caps.specs.StorageIndex.{index_of}

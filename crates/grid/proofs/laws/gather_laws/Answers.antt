@@ -1,7 +1,7 @@
 use Rattle.std.proofs.Common.{◌<◌, ◌≡◌, ◌==◌, arith, subst}
 use Rattle.std.proofs.lemmas.Bool.{eqb-true}
 use Rattle.grid.proofs.Gather.{all_stand}
-use Rattle.grid.proofs.Missing.{none_missing, all_that_pass}
+use Rattle.share_store.proofs.Missing.{none_missing, all_that_pass}
 use Rattle.grid.proofs.laws.gather_laws.Goals as goal
 
 pub returns : goal.returns

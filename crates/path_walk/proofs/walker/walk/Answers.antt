@@ -9,7 +9,7 @@ use Rattle.grid.specs.Standing.{standing}
 use Rattle.chk_file.specs.Look.{look_in}
 use Rattle.path_walk.specs.Walk.{FileLookup, then_on, child_below, walked}
 use Rattle.path_walk.specs.Way.{NamesLeadTo, WalkStops}
-use Rattle.grid.proofs.Turns.{leaves_both, unchanged_both, calm_first, calm_second}
+use Rattle.grid.proofs.Turns.{leaves_both, unchanged_both, unchanged_then, calm_first, calm_second}
 use Rattle.path_walk.proofs.walker.walk.Goals as goal
 
 -- a fault that is passed on
@@ -49,6 +49,9 @@ loop-name-preserved g c =
 
 pub returns-in_err-here-2-clause-leaves : goal.returns-in_err-here-2-clause-leaves
 returns-in_err-here-2-clause-leaves g c = leaves_both c.args.grid.now c.loop-name.grid c.child_below.new.grid c.loop-name.invariant.leaves c.in_err-here-2.ensures.leaves
+
+pub returns-in_err-here-2-clause-unchanged : goal.returns-in_err-here-2-clause-unchanged
+returns-in_err-here-2-clause-unchanged g c = unchanged_then c.loop-name.invariant.leaves c.loop-name.invariant.unchanged c.in_err-here-2.ensures.unchanged
 
 pub returns-in_err-here-2-clause-fresh : goal.returns-in_err-here-2-clause-fresh
 returns-in_err-here-2-clause-fresh g c fresh = c.in_err-here-2.ensures.fresh (c.loop-name.invariant.fresh fresh)

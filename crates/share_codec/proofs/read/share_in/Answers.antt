@@ -1,7 +1,6 @@
-use Rattle.std.proofs.Common.{◌≡◌, ◌≤◌, ◌+◌, ◌-◌, length, arith, ap, sym, ◌∙◌}
+use Rattle.std.proofs.Common.{length, arith, ap, sym, ◌∙◌}
 use Rattle.std.specs.Rc.{rc_slice_items}
-use Rattle.std.specs.List.{slice_range}
-use Rattle.share_codec.specs.Segments.{blocks_size, cut_blocks}
+use Rattle.share_codec.specs.Segments.{cut_blocks}
 use Rattle.share_codec.proofs.BlocksAt.{held_at, long_enough}
 use Rattle.share_codec.proofs.read.share_in.Goals as goal
 

@@ -13,7 +13,7 @@ use Rattle.chk_file.proofs.share_reader.ShareReader.next.Goals as goal
 pub returns-then-self-segment_count-clause-given : goal.returns-then-self-segment_count-clause-given
 returns-then-self-segment_count-clause-given c =
     let p : ParamsValue = c.self.inside.params in
-    let shares : List GoodShare = c.self.inside.shares.items in
+    let shares : List GoodShare = c.self.inside.shares.value.items in
     let taken = c.self.invariant.0 in
     let code = c.decoded_blocks_are_the_given.ensures in
     let crypttext : List ℕ = crypttext_from p shares in

@@ -14,7 +14,7 @@ use Rattle.chk_file.proofs.share_reader.ShareReader.skip.Goals as goal
 begins : (c : goal.After-segment_size-each) → (c.self.inside.at + c.args.bytes / c.segment_size-each.result) * segment_size c.self.inside.params < c.self.inside.params.size
 begins c =
     let p : ParamsValue = c.self.inside.params in
-    let shares : List GoodShare = c.self.inside.shares.items in
+    let shares : List GoodShare = c.self.inside.shares.value.items in
     let taken = c.self.invariant.0 in
     let code = c.decoded_blocks_are_the_given.ensures in
     let crypttext : List ℕ = crypttext_from p shares in

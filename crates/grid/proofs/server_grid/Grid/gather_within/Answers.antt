@@ -2,11 +2,12 @@ use Rattle.std.proofs.Common.{◌≡◌, ◌∙◌, ◌<◌, ◌+◌, ◌++◌, 
 use Rattle.std.specs.Rc.{rc_slice_items}
 use Rattle.share_store.specs.Shares.{Shares}
 use Rattle.grid.specs.GridState.{stood, maps_of, failures_at}
-use Rattle.grid.specs.Found.{AllBut, found_in, found_below, below_limit, entries_at, found_bytes}
+use Rattle.share_store.specs.NumberedShares.{AllBut, below_limit}
+use Rattle.grid.specs.Found.{found_in, found_below, entries_at, found_bytes}
 use Rattle.grid.proofs.Gather.{all_stand}
-use Rattle.grid.proofs.Missing.{more_may_miss, all_but_both, none_missing, given_too}
-use Rattle.grid.proofs.Turns.{leaves_none, leaves_both, unchanged_none, unchanged_then}
-use Rattle.grid.proofs.Within.{within_none, within_append, all_within}
+use Rattle.share_store.proofs.Missing.{more_may_miss, all_but_both, none_missing, given_too}
+use Rattle.grid.proofs.Turns.{leaves_both, unchanged_then}
+use Rattle.share_store.proofs.Within.{within_none, within_append, all_within}
 use Rattle.grid.proofs.server_grid.Grid.gather_within.Goals as goal
 
 abbrev number : ℕ × ℕ × List ℕ → ℕ
@@ -14,13 +15,13 @@ number f = f.1
 
 pub loop-server-init : goal.loop-server-init
 loop-server-init g c =
-    let old = c.args.self.now in
-    let P : ℕ × ℕ × List ℕ → Type 0 = λ f. failures_at old f.0 < failures_at old f.0 in
+    let told = c.prefetch_all.ensures in
+    let P : ℕ × ℕ × List ℕ → Type 0 = λ f. failures_at c.args.self.now f.0 < failures_at c.prefetch_all.new.self f.0 in
     let none : map (found_bytes rc_slice_items) c.new-found.result.items ≡ [] = ap (map (found_bytes rc_slice_items)) c.new-found.ensures.items in
     record {
-      leaves = leaves_none old;
-      stamps = refl;
-      unchanged = λ all. unchanged_none old;
+      leaves = told.leaves;
+      stamps = told.stamps;
+      unchanged = told.unchanged;
       found = λ all.
           subst (λ (given : List (ℕ × ℕ × List ℕ)). AllBut P (below_limit number c.args.limit []) given) (sym none)
           (subst (λ (low : List (ℕ × ℕ × List ℕ)). AllBut P low []) (sym (within_none number c.args.limit)) refl);

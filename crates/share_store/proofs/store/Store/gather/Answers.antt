@@ -1,0 +1,95 @@
+use Rattle.std.proofs.Common.{◌≡◌, inl, inr, ◌<◌, ◌+◌, ◌++◌, ◌∙◌, ℕ, List, [], ◌∷◌, refl, sym, ap, subst, arith, map, take, length, append-nil, Some, None, slice_get, get_or}
+use Rattle.std.proofs.lemmas.List.{map-append, length-map, take_all}
+use Rattle.std.proofs.lemmas.Option.{slice_get-get_or}
+use Rattle.std.proofs.lemmas.Simd.{map-map}
+use Rattle.std.specs.FinMap.{entries, get}
+use Rattle.std.specs.Option.{option_map}
+use Rattle.std.specs.Rc.{rc_slice_items}
+use Rattle.share_store.specs.Shares.{ShareEntry}
+use Rattle.share_store.specs.Numbers.{of_index}
+use Rattle.share_store.specs.NumberedShares.{AllBut, below_limit, numbered_bytes, shares_for}
+use Rattle.share_store.proofs.Gathering.{numbered, stands_at, one_more, share_of_number, by_calm, by_rise, rises_or_stays}
+use Rattle.share_store.proofs.Looks.{looked_both}
+use Rattle.share_store.proofs.Missing.{more_may_miss, all_but_both, all_missing}
+use Rattle.share_store.proofs.Within.{within_none, within_map, within_at}
+use Rattle.share_store.proofs.store.Store.gather.Goals as goal
+use Rattle.share_store.proofs.store.Store.gather.Goals.{in-Some+in_ok-push-in-Some, in-None}
+
+pub loop-number-preserved : goal.loop-number-preserved
+loop-number-preserved g c =
+    let store = g.Self.Store in
+    let inv = c.loop-number.invariant in
+    let got = c.in_ok-bytes.ensures in
+    let old = c.args.self.now in
+    let mid = c.loop-number.self in
+    let new = c.get.new.self in
+    let items = c.deref-number-items.result.now in
+    let i = c.loop-number.number-index in
+    let n = get_or items i 0 in
+    record {
+      looked = looked_both inv.looked got.looked;
+      same_history = λ honest. got.same_history (inv.looked.still_honest honest) ∙ inv.same_history honest;
+      risen = λ rose. omega (arith, inv.risen rose, got.looked.rises);
+      found = λ honest ss nums stands.
+          let P : ℕ × List ℕ → Type 0 = λ _. store.failures old < store.failures mid in
+          let Q : ℕ × List ℕ → Type 0 = λ _. store.failures old < store.failures new in
+          let so_far = map (numbered_bytes rc_slice_items) c.loop-number.found.items in
+          let seen = take i ss in
+          let share = share_of_number ss i n (ap (λ l. slice_get l i) (sym nums) ∙ slice_get-get_or items i 0 c.loop-number-test.true) in
+          let s = share.0 in
+          let stood_mid : get (store.shares mid) (c.args.index, n) ≡ Some s.1 =
+          ap (λ m. get m (c.args.index, n)) (inv.looked.same_shares honest) ∙ ap (λ k. get (store.shares old) (c.args.index, k)) (sym share.2) ∙ stands i s share.1 in
+          let weaker : AllBut Q seen so_far = more_may_miss P Q seen so_far (λ f missed. omega (arith, missed, got.looked.rises)) (inv.found honest ss nums stands) in
+          let next : take (i + 1) ss ≡ seen ++ s ∷ [] = one_more ss i s share.1 in
+          elim c.match-branch-3.branch [
+            | in-Some+in_ok-push-in-Some w ↦
+                let bytes = w.in-Some.bytes in
+                let calm : store.failures new ≡ store.failures mid = by_calm (store.failures mid) (store.failures new) got.looked.rises
+                (λ rose. let none = got.failed rose in let is = w.in-Some.is in cc) in
+                let same : Some (rc_slice_items bytes) ≡ Some s.1 = sym (ap (option_map rc_slice_items) w.in-Some.is) ∙ got.found (inv.looked.still_honest honest) calm ∙ stood_mid in
+                let is : rc_slice_items bytes ≡ s.1 = cc in
+                let pushed : (n, rc_slice_items bytes) ≡ s = λ j. (sym share.2 j, is j) in
+                let now_found : map (numbered_bytes rc_slice_items) c.match-branch-3.found.items ≡ so_far ++ s ∷ [] = ap (λ v. map (numbered_bytes rc_slice_items) v.items) w.found-is
+                ∙ ap (map (numbered_bytes rc_slice_items)) w.in_ok-push-in-Some.ensures.items
+                ∙ map-append (numbered_bytes rc_slice_items) c.loop-number.found.items _
+                ∙ ap (λ f. so_far ++ f ∷ []) pushed in
+                subst (λ l. AllBut Q l (map (numbered_bytes rc_slice_items) c.match-branch-3.found.items)) (sym next)
+                (subst (AllBut Q (seen ++ s ∷ [])) (sym now_found)
+                (all_but_both Q seen (s ∷ []) so_far (s ∷ []) weaker (inr ([], refl, refl))))
+            | in-None w ↦
+                let rose : store.failures mid < store.failures new = by_rise (store.failures mid) (store.failures new) got.looked.rises
+                (λ calm. let none : None ≡ Some s.1 = sym (ap (option_map rc_slice_items) w.in-None.is) ∙ got.found (inv.looked.still_honest honest) calm ∙ stood_mid in cc) in
+                let now_found : map (numbered_bytes rc_slice_items) c.match-branch-3.found.items ≡ so_far = ap (λ v. map (numbered_bytes rc_slice_items) v.items) w.found-is in
+                subst (λ l. AllBut Q l (map (numbered_bytes rc_slice_items) c.match-branch-3.found.items)) (sym next)
+                (subst (AllBut Q (seen ++ s ∷ [])) (append-nil so_far ∙ sym now_found)
+                (all_but_both Q seen (s ∷ []) so_far [] weaker (inl (omega (arith, rose, inv.looked.rises), refl))))
+          ];
+    }
+
+pub returns-clause-found : goal.returns-clause-found
+returns-clause-found g c honest =
+    let store = g.Self.Store in
+    let inv = c.loop-number.invariant in
+    let old = c.args.self.now in
+    let items = c.deref-number-items.result.now in
+    let i = c.loop-number.number-index in
+    let stored = c.in_ok-stored.ensures in
+    let entries_there : List ShareEntry = of_index c.args.index (entries (store.shares old)) in
+    let whole = shares_for (store.shares old) c.args.index in
+    let ss = below_limit (λ (s : ℕ × List ℕ). s.0) c.args.limit whole in
+    let P : ℕ × List ℕ → Type 0 = λ _. store.failures old < store.failures c.loop-number.self in
+    let found = map (numbered_bytes rc_slice_items) c.loop-number.found.items in
+    let kept : items ≡ below_limit (λ (n : ℕ). n) c.args.limit c.in_ok-stored.stored.items = c.deref-number-items.ensures.value ∙ c.below-numbers.ensures in
+    rises_or_stays (store.failures old) (store.failures c.numbers.new.self) stored.looked.rises _
+    (λ rose.
+    let none : items ≡ [] = kept ∙ ap (below_limit (λ (n : ℕ). n) c.args.limit) (stored.failed rose) ∙ within_none (λ (n : ℕ). n) c.args.limit in
+    let nothing : found ≡ [] = subst (λ (l : List (ℕ × List ℕ)). AllBut P l found) (take_all i [] (omega arith)) (inv.found honest [] none (λ k s at. cc)) in
+    subst (AllBut P ss) (sym nothing) (all_missing P ss (λ _. inv.risen rose)))
+    (λ calm.
+    let nums : items ≡ map (λ (s : ℕ × List ℕ). s.0) ss =
+    kept ∙ ap (below_limit (λ (n : ℕ). n) c.args.limit) (stored.found honest calm ∙ sym (map-map (λ (s : ℕ × List ℕ). s.0) numbered entries_there)) ∙ within_map (λ (n : ℕ). n) (λ (s : ℕ × List ℕ). s.0) c.args.limit whole in
+    let so_far =
+    inv.found honest ss nums
+    (λ k s at. let there = within_at (λ (x : ℕ × List ℕ). x.0) c.args.limit whole k s at in stands_at (store.shares old) c.args.index there.0 s there.1) in
+    let all_looked : take i ss ≡ ss = take_all i ss (omega (arith, ap length nums, length-map ss (λ (s : ℕ × List ℕ). s.0), c.loop-number-test.false)) in
+    subst (λ (l : List (ℕ × List ℕ)). AllBut P l found) all_looked so_far)
