@@ -359,14 +359,8 @@ fn stores_are_named(rt: HostRuntime) {
         ("dir:a:b:12,disk", Some(StoreWanted::Disk("a:b", 12))),
         ("dir:a,disk:12", Some(StoreWanted::Folder("a,disk", 12))),
         ("dir:/a/b,shared", Some(StoreWanted::Shared("/a/b"))),
-        (
-            "dir:a,disk,shared",
-            Some(StoreWanted::Shared("a,disk")),
-        ),
-        (
-            "dir:a,shared:12",
-            Some(StoreWanted::Folder("a,shared", 12)),
-        ),
+        ("dir:a,disk,shared", Some(StoreWanted::Shared("a,disk"))),
+        ("dir:a,shared:12", Some(StoreWanted::Folder("a,shared", 12))),
         ("dir:a:12,shared", None),
         ("dir:a:b,shared", None),
         ("dir:,shared", None),
