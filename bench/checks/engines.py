@@ -209,8 +209,10 @@ def one_server(options, folder, faults):
     engine.start()
     running = wozhinnam(options.program, "--shares", "1,1", "--store", "redis:127.0.0.1:%d/one" % engine.port)
     client = Client(running.address)
-    # The first is longer than what the gateway keeps of files that were read, so each read asks the server; the second isn't.
-    bodies = [random.Random(text).randbytes(size) for text, size in (("long", 1_500_000), ("short", 20_000))]
+    # Two are longer than what the gateway keeps whole, and of the one that was begun last alone it keeps shares: they are read
+    # by turns, so each read of them asks the server. The third is kept.
+    lengths = (("long", 1_500_000), ("longer", 1_600_000), ("short", 20_000))
+    bodies = [random.Random(text).randbytes(size) for text, size in lengths]
     caps = []
     for body in bodies:
         status, cap = client.put(body)
