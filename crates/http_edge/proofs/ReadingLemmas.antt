@@ -4,7 +4,8 @@ use Rattle.std.specs.Prelude.{nat_le, nat_lt}
 use Rattle.std.specs.Char.{digit_value, is_digit}
 use Rattle.std.proofs.Math.Dec.{eqb}
 use Rattle.std.proofs.lemmas.Bool.Decides.{nat_tests}
-use Rattle.std.proofs.lemmas.List.{take-append-drop, length-take-le, drop-drop}
+use Rattle.std.proofs.lemmas.List.{take-append-drop, length-take-le, drop-drop, length-replicate}
+use Rattle.std.proofs.Math.ListN.{replicate}
 use Rattle.httparse.specs.Grammar.{is_ows}
 use Rattle.http_edge.specs.Judge.{most_body_bytes}
 use Rattle.http_edge.specs.Chunks.{most_chunk_line_bytes, most_trailer_bytes}
@@ -272,20 +273,40 @@ some_byte n content place (b ∷ bytes) s other some is =
     read_byte n content place b bytes ∙ ap (λ (x : Step). resume (n + 1) x (with_byte place content b) bytes) (sym is)
     ∙ ap (λ (c : List ℕ). resume (n + 1) s c bytes) (kept_byte place content b other)
 
-pub byte_place : (content : List ℕ) (place : Place) (b : ℕ) (s : Step) → ((m : ℕ) → place ≡ Data m → ⊥) → IsFramingPlace (length content) place
-    → s ≡ step (length content) place b → IsFramingStep (length content) s
-byte_place content place b s other at is =
-    subst (IsFramingStep (length content)) (sym is)
-    (subst (λ (c : List ℕ). IsFramingStep (length c) (step (length content) place b)) (kept_byte place content b other) (step_place content place b at))
+pub byte_place : (count : ℕ) (place : Place) (b : ℕ) (s : Step) → ((m : ℕ) → place ≡ Data m → ⊥) → IsFramingPlace count place
+    → s ≡ step count place b → IsFramingStep count s
+byte_place count place b s other at is =
+    let content : List ℕ = replicate count 0 in
+    let long : length content ≡ count = length-replicate count 0 in
+    subst (IsFramingStep count) (sym is)
+    (subst (λ (m : ℕ). IsFramingStep m (step m place b)) long
+    (subst (λ (c : List ℕ). IsFramingStep (length c) (step (length content) place b)) (kept_byte place content b other)
+    (step_place content place b (subst (λ (m : ℕ). IsFramingPlace m place) (sym long) at))))
+
+-- the same with content that stands before
+
+pub some_data_after : (front content new : List ℕ) (n : ℕ) (place next : Place) (missing taken : ℕ) (bytes : List ℕ) → place ≡ Data missing
+    → 0 < taken → taken ≤ missing → taken ≤ length bytes → new ≡ content ++ take taken bytes → next ≡ after_data missing taken
+    → read n (front ++ content) place bytes ≡ read (n + taken) (front ++ new) next (drop taken bytes)
+some_data_after front content new n place next missing taken bytes at some below place_within pushed then =
+    some_data n (front ++ content) (front ++ new) place next missing taken bytes at some below place_within
+    (ap (λ (c : List ℕ). front ++ c) pushed ∙ sym (append_assoc front content (take taken bytes))) then
+
+pub some_byte_after : (front content : List ℕ) (before n : ℕ) (place : Place) (bytes : List ℕ) (s : Step) → length front ≡ before
+    → ((m : ℕ) → place ≡ Data m → ⊥) → 0 < length bytes → s ≡ step (before + length content) place (get_or bytes 0 0)
+    → read n (front ++ content) place bytes ≡ resume (n + 1) s (front ++ content) (drop 1 bytes)
+some_byte_after front content before n place bytes s long other some is =
+    some_byte n (front ++ content) place bytes s other some
+    (is ∙ ap (λ (m : ℕ). step m place (get_or bytes 0 0)) (sym (length-append front content ∙ ap (λ (m : ℕ). m + length content) long)))
 
 -- what was read before, and what was then
-pub read_more : (was content new : List ℕ) (start place : Place) (bytes rest : List ℕ) (at taken : ℕ) (s : Step)
-    → read 0 was start bytes ≡ read at content place (drop at bytes) → rest ≡ drop at bytes
-    → ((n : ℕ) → read n content place rest ≡ resume (n + taken) s new (drop taken rest))
-    → read 0 was start bytes ≡ resume (at + taken) s new (drop (at + taken) bytes)
-read_more was content new start place bytes rest at taken s before cut this =
-    before ∙ ap (read at content place) (sym cut) ∙ this at
-    ∙ ap (λ (x : List ℕ). resume (at + taken) s new x) (ap (drop taken) cut ∙ drop-drop taken at bytes)
+pub read_more : (front was content new : List ℕ) (start place : Place) (bytes rest : List ℕ) (at taken : ℕ) (s : Step)
+    → read 0 (front ++ was) start bytes ≡ read at (front ++ content) place (drop at bytes) → rest ≡ drop at bytes
+    → read at (front ++ content) place rest ≡ resume (at + taken) s (front ++ new) (drop taken rest)
+    → read 0 (front ++ was) start bytes ≡ resume (at + taken) s (front ++ new) (drop (at + taken) bytes)
+read_more front was content new start place bytes rest at taken s before cut this =
+    before ∙ ap (read at (front ++ content) place) (sym cut) ∙ this
+    ∙ ap (λ (x : List ℕ). resume (at + taken) s (front ++ new) x) (ap (drop taken) cut ∙ drop-drop taken at bytes)
 
 -- ---- where a fault stands
 

@@ -200,16 +200,19 @@ fn after_data(missing: usize, taken: usize) -> Place
 }
 
 /// Takes the bytes of a chunk that stand, or one byte of what is round them: what it comes to, and how many were taken.
+/// So many bytes of the content stand before those in the vector.
 pub fn read_some(
+    before: usize,
     content: &mut Vec<u8>,
     place: Place,
     bytes: &[u8],
 ) -> Result<(Step, usize), AllocError>
-    requires place { IsFramingPlace (length content.old.items) place }
+    requires place { IsFramingPlace (before + length content.old.items) place }
     requires some { 0 < length bytes.now }
-    ensures read { IfOk result (λ done. (n : ℕ) → read n content.old.items place bytes.now
-        ≡ resume (n + done.1) done.0 content.new.items (drop done.1 bytes.now)) }
-    ensures place { IfOk result (λ done. IsFramingStep (length content.new.items) done.0) }
+    ensures read { IfOk result (λ done. (n : ℕ) (front : List ℕ) → length front ≡ before
+        → read n (front ++ content.old.items) place bytes.now
+        ≡ resume (n + done.1) done.0 (front ++ content.new.items) (drop done.1 bytes.now)) }
+    ensures place { IfOk result (λ done. IsFramingStep (before + length content.new.items) done.0) }
     ensures some { IfOk result (λ done. (0 < done.1) × (done.1 ≤ length bytes.now)) }
 {
     if let Place::Data { missing } = place {
@@ -218,26 +221,29 @@ pub fn read_some(
         content.extend_from_slice(data)?;
         return Ok((Step::Next(after_data(missing, taken)), taken));
     }
-    Ok((step(content.len(), place, bytes[0]), 1))
+    Ok((step(before + content.len(), place, bytes[0]), 1))
 }
 
-/// Takes bytes up to the end of the body, a fault, or the last of them: what they come to, and how many were taken.
+/// Takes bytes up to the end of the body, a fault, or the last of them: what they come to, and how many were taken. So
+/// many bytes of the content stand before those in the vector.
 pub fn read_chunks(
+    before: usize,
     content: &mut Vec<u8>,
     place: Place,
     bytes: &[u8],
 ) -> Result<(Step, usize), AllocError>
-    requires place { IsFramingPlace (length content.old.items) place }
-    ensures read { IfOk result (λ done. read 0 content.old.items place bytes.now
-        ≡ resume done.1 done.0 content.new.items (drop done.1 bytes.now)) }
-    ensures place { IfOk result (λ done. IsFramingStep (length content.new.items) done.0) }
+    requires place { IsFramingPlace (before + length content.old.items) place }
+    ensures read { IfOk result (λ done. (front : List ℕ) → length front ≡ before
+        → read 0 (front ++ content.old.items) place bytes.now
+        ≡ resume done.1 done.0 (front ++ content.new.items) (drop done.1 bytes.now)) }
+    ensures place { IfOk result (λ done. IsFramingStep (before + length content.new.items) done.0) }
     ensures taken { IfOk result (λ done. IsTakenByStep done.0 done.1 (length bytes.now)) }
 {
     let mut place = place;
     let mut at = 0;
     while at < bytes.len() {
         let (_, rest) = bytes.split_at(at);
-        let (step, taken) = read_some(content, place, rest)?;
+        let (step, taken) = read_some(before, content, place, rest)?;
         at += taken;
         match step {
             Step::Next(next) => place = next,

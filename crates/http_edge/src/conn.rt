@@ -4,14 +4,17 @@ ghost use Rattle.std.specs.List.{list_any};
 ghost use Rattle.http_edge.specs.Judge.{closes};
 ghost use Rattle.http_edge.specs.Frame.{frame};
 ghost use Rattle.http_edge.specs.Kept.{kept_bytes};
+ghost use Rattle.http_edge.specs.BodyEnd.{IsBodyEnd};
 ghost use Rattle.http_edge.specs.FramingState.{part_of, body_of, closed, is_closed, rest, frame_from, rest_from};
 ghost use Rattle.http_edge.specs.State.{IsSettled, Takes, item_list};
 ghost use Rattle.http_edge.specs.declared.verdict.Awaited.{Awaited};
 
+use crate::chunks::read_chunks;
 use crate::item::Item;
 use crate::line::split_line;
+use crate::place::Step;
 use crate::state::{State, after_body, after_chunks, after_line};
-use crate::verdict::Awaited;
+use crate::verdict::{Awaited, Chunked};
 use std::alloc::{AllocError, Global};
 use std::marker::Model;
 use std::mem;
@@ -21,6 +24,16 @@ use std::mem;
 pub struct Conn {
     alloc: Global,
     state: State,
+}
+
+/// A request whose chunked body a piece would end. Its body is the content that is kept, and then what the piece adds.
+#[derive(Drop)]
+pub struct LastChunks<'a> {
+    pub request: &'a Chunked,
+    /// The content that is kept.
+    pub content: &'a [u8],
+    /// What the piece adds to it.
+    pub added: Vec<u8>,
 }
 
 impl Model for Conn {
@@ -97,8 +110,8 @@ impl Conn {
         }
     }
 
-    /// A request whose body isn't whole yet and has the length that its head tells, and the first bytes of that body. None
-    /// where none is under way. Takes no memory.
+    /// A request whose body isn't whole yet and has the length that its head tells, and the first bytes of that body.
+    /// None where none is under way. Takes no memory.
     pub fn under_way(&self) -> Option<(&Awaited, &[u8])>
         ensures some { IfSome result (λ request. self.now ≡ body_of request.0.now request.1.now) }
         ensures none { IfNone result ((awaited : Awaited) (body : List ℕ) → self.now ≢ body_of awaited body) }
@@ -108,6 +121,28 @@ impl Conn {
             State::Head(_) => None,
             State::Chunks(_, _, _) => None,
             State::Closed => None,
+        }
+    }
+
+    /// The request under way whose chunked body the piece would end: the content that is kept, and what the piece would
+    /// add to it. The connection stays as it is, and what is kept isn't copied. None where no body in chunks is under
+    /// way, where the piece doesn't end it or has a fault, and where memory is refused. It asks for memory once, for as
+    /// many bytes as the piece has.
+    pub fn last_chunks(&self, piece: &[u8]) -> Option<LastChunks<'_>>
+        ensures some { IfSome result (λ last.
+            IsBodyEnd self.now last.request.now last.content.now piece.now last.added.items) }
+    {
+        let State::Chunks(request, content, place) = &self.state else {
+            return None;
+        };
+        let mut added = Vec::with_capacity(self.alloc, piece.len()).ok()?;
+        match read_chunks(content.len(), &mut added, *place, piece) {
+            Ok((Step::Ended, _)) => Some(LastChunks {
+                request,
+                content,
+                added,
+            }),
+            _ => None,
         }
     }
 

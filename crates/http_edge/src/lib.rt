@@ -31,7 +31,7 @@ mod reply_field;
 /// The bytes of a reply.
 mod reply;
 
-pub use conn::Conn;
+pub use conn::{Conn, LastChunks};
 pub use field::{Field, Fields};
 pub use item::{FramingFault, Head, Item};
 pub use place::Place;
