@@ -1,7 +1,7 @@
 #!/usr/bin/env python3
 """Loads on `wozhinnam serve`, the built program, on the loopback, with times and memory; each takes a minute or two at most.
 
-usage: bench/times/loads.py PROGRAM [open|readers|many_readers|slow_readers|untaken|came|million|pipelined|cut|listings|puts|many_puts|walks|metadata|verifies|parts|wide|mixed ..]
+usage: bench/times/loads.py PROGRAM [open|readers|many_readers|slow_readers|untaken|came|million|pipelined|cut|listings|puts|many_puts|chunks|walks|metadata|makes|verifies|parts|wide|mixed ..]
 
 open          10,000 connections, a reply on each
 readers       8 readers of 4 MiB beside small GETs; many_readers: 200 of them; slow_readers: 200 that take 10 KB a second
@@ -13,8 +13,10 @@ listings      20 GETs of the `t=json` of a directory of names that JSON escapes 
 
 Beside small GETs, each by a client that asks again and again:
 puts          puts of 16 MiB; many_puts: by four clients
-walks         GETs of a small file behind ten directories of 16 MB each
-metadata      GETs through a directory whose one child has 1.3 million members of metadata
+chunks        puts of 16 MiB in chunks of 65,536 bytes
+walks         GETs of small files behind ten directories of 16 MB each, each of another name in the last one
+metadata      GETs of names that a directory doesn't have whose one child has 1.3 million members of metadata
+makes         such a directory, made of children JSON
 verifies      checks with verify of a file of 16 MiB
 parts         GETs of 1,000 bytes of two files of 16 MiB, by turns
 wide          the `t=json` of a directory of 20,000 children
@@ -249,6 +251,13 @@ def putter(server):
     return once(server, asked(b"PUT", "", len(body)), body)
 
 
+def chunk_putter(server):
+    """Puts of 16 MiB in chunks of 65,536 bytes."""
+    body = random.Random(15).randbytes(16 << 20)
+    chunks = b"".join(b"10000\r\n" + body[at:at + 65536] + b"\r\n" for at in range(0, len(body), 65536))
+    return once(server, b"PUT /uri HTTP/1.1\r\nHost: g\r\nConnection: close\r\nTransfer-Encoding: chunked\r\n\r\n", chunks + b"0\r\n\r\n")
+
+
 def put_text(server, text):
     """The cap of a directory with this text."""
     return server.ask("PUT", "/uri", text).decode().replace("URI:CHK:", "URI:DIR2-CHK:").replace("URI:LIT:", "URI:DIR2-LIT:")
@@ -267,17 +276,30 @@ def children(count):
 
 
 def walker(server):
-    """GETs of a small file behind ten directories of 16 MB each, whose next one has the last name of all."""
+    """GETs of small files behind ten directories of 16 MB each, each of another name in the last one."""
     cap, others = "URI:LIT:mzxw6", children(16_000_000 // len(entry(b"%08d" % 0, b"{}")))
     for _ in range(10):
         cap = put_text(server, others + entry(b"~", b"{}", cap.encode()))
-    return once(server, asked(b"GET", "/" + cap + "/~" * 10))
+    names = itertools.count()
+    return lambda: once(server, asked(b"GET", "/%s%s/%08d" % (cap, "/~" * 9, next(names))))()
+
+
+def many_members():
+    """Metadata of 1.3 million members, 15.6 MB, whose keys rise."""
+    return b"{" + b",".join(b'"%06x":{}' % at for at in range(1_300_000)) + b"}"
 
 
 def getter(server):
-    """GETs through a directory whose one child has 1.3 million members of metadata, 15.6 MB."""
-    cap = put_text(server, entry(b"child", b"{" + b",".join(b'"%06x":{}' % at for at in range(1_300_000)) + b"}"))
-    return once(server, asked(b"GET", "/%s/child" % cap))
+    """GETs through a directory whose one child has 1.3 million members of metadata, 15.6 MB, each of another name that is missing."""
+    cap = put_text(server, entry(b"child", many_members()))
+    names = itertools.count()
+    return lambda: once(server, asked(b"GET", "/%s/%08d" % (cap, next(names))), status=b"404")()
+
+
+def maker_of_directories(server):
+    """Directories made of children JSON, whose one child has such metadata."""
+    body = b'{"child":["filenode",{"ro_uri":"URI:LIT:mzxw6","metadata":%s}]}' % many_members()
+    return once(server, asked(b"POST", "?t=mkdir-immutable", len(body)), body)
 
 
 def verifier(server):
@@ -305,8 +327,10 @@ def lister(server):
 # Loads beside which a quick client is timed: what makes one, and what it is called.
 BESIDE = {
     "puts": (putter, "puts of 16 MiB"),
+    "chunks": (chunk_putter, "puts of 16 MiB in chunks"),
     "walks": (walker, "GETs along ten directories of 16 MB"),
     "metadata": (getter, "GETs through 15.6 MB of metadata"),
+    "makes": (maker_of_directories, "directories made of 15.6 MB of metadata"),
     "verifies": (verifier, "checks of 16 MiB with verify"),
     "parts": (reader, "GETs of 1,000 bytes of two files of 16 MiB"),
     "wide": (lister, "listings of 20,000 children"),

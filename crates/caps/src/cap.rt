@@ -1,9 +1,10 @@
 //! Caps.
-ghost use Rattle.std.specs.Prelude.{◌≡◌};
+ghost use Rattle.std.specs.Prelude.{◌≡◌, IfOk};
 ghost use Rattle.caps.specs.Kinds.{is_verify_cap};
 
 use crate::fields::{ReadFields, VerifyFields};
 use octets::Bytes;
+use std::alloc::{AllocError, Global};
 
 /// A cap: holding it is the whole authority over what it names.
 #[derive(Debug, Drop)]
@@ -53,5 +54,22 @@ pub fn is_verify_cap(cap: &Cap) -> bool
     match cap {
         Cap::ChkVerify(_) | Cap::DirChkVerify(_) => true,
         Cap::Chk(_) | Cap::Lit(_) | Cap::DirChk(_) | Cap::DirLit(_) => false,
+    }
+}
+
+/// The same cap again.
+///
+/// # Errors
+/// Only where memory is refused, which a cap takes whose bytes stand in it.
+pub fn copy_cap(alloc: Global, cap: &Cap) -> Result<Cap, AllocError>
+    ensures { IfOk result (λ copy. copy ≡ cap.now) }
+{
+    match cap {
+        Cap::Chk(fields) => Ok(Cap::Chk(*fields)),
+        Cap::Lit(bytes) => Ok(Cap::Lit(Bytes::from_slice(alloc, bytes.as_slice())?)),
+        Cap::DirChk(fields) => Ok(Cap::DirChk(*fields)),
+        Cap::DirLit(bytes) => Ok(Cap::DirLit(Bytes::from_slice(alloc, bytes.as_slice())?)),
+        Cap::ChkVerify(fields) => Ok(Cap::ChkVerify(*fields)),
+        Cap::DirChkVerify(fields) => Ok(Cap::DirChkVerify(*fields)),
     }
 }

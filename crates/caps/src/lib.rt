@@ -27,7 +27,7 @@ mod weakening;
 /// What holds of caps and their texts.
 pub mod laws;
 
-pub use cap::{Cap, VerifyCap, is_verify_cap};
+pub use cap::{Cap, VerifyCap, copy_cap, is_verify_cap};
 pub use fault::CapFault;
 pub use fields::{ReadFields, VerifyFields};
 pub use index::storage_index;

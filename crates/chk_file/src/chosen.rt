@@ -1,12 +1,13 @@
 //! Which of the shares that were gathered are read.
-ghost use Rattle.std.specs.Prelude.{◌≡◌, ◌↔◌, length, take, All, IfOk, IfSome, IsTrue};
+ghost use Rattle.std.specs.Prelude.{◌≡◌, ◌≢◌, ◌↔◌, length, take, Some, None, IfOk, IfErr, IsTrue};
 ghost use Rattle.std.specs.Rc.{rc_slice_items};
 ghost use Rattle.share_codec.specs.GoodShare.{good_share};
 ghost use Rattle.chk_file.specs.Row.{first_good};
 ghost use Rattle.chk_file.specs.Gathered.{places_of, good_below};
 
+use crate::readings::Readings;
 use crate::rows::{Rows, ShareRef};
-use share_codec::{Params, Share, ShareFault, ShareReading, read_share};
+use share_codec::{Params, Share, ShareFault, read_share};
 use std::alloc::{AllocError, Global};
 use std::rc::RcSlice;
 
@@ -15,12 +16,12 @@ use std::rc::RcSlice;
 pub(crate) fn chosen(
     alloc: Global,
     rows: &Rows<'_>,
-    readings: &[ShareReading],
+    readings: &Readings,
     params: &Params,
     ueb: &[u8; 32],
 ) -> Result<Vec<Share>, AllocError>
     requires rows { length rows.now ≡ params.now.n }
-    requires readings { All (λ reading. reading.params ≡ params.now) readings.now }
+    requires readings { readings.now ≡ params.now }
     ensures { IfOk result (λ shares. shares.items
         ≡ take params.now.k (good_below params.now ueb.now rows.now params.now.n)) }
 {
@@ -47,95 +48,39 @@ pub(crate) fn chosen(
 fn first_good(
     alloc: Global,
     places: &[(usize, ShareRef<'_>)],
-    readings: &[ShareReading],
+    readings: &Readings,
     number: u16,
     params: &Params,
     ueb: &[u8; 32],
 ) -> Result<Option<Share>, AllocError>
-    requires { All (λ reading. reading.params ≡ params.now) readings.now }
+    requires { readings.now ≡ params.now }
     ensures { IfOk result (λ share. share
         ≡ first_good params.now ueb.now number (places_of places.now)) }
 {
-    for (_, bytes) in places {
-        if let Some(share) = good_of(alloc, bytes.bytes(), readings, number, params, ueb)? {
+    for (server, bytes) in places {
+        if let Some(share) = good(alloc, *server, bytes.bytes(), readings, number, params, ueb)? {
             return Ok(Some(share));
         }
     }
     Ok(None)
 }
 
-/// What a string is as the share of a number, if it is a good one. Where it was hashed before it isn't hashed again.
-fn good_of(
-    alloc: Global,
-    bytes: &RcSlice<u8>,
-    readings: &[ShareReading],
-    number: u16,
-    params: &Params,
-    ueb: &[u8; 32],
-) -> Result<Option<Share>, AllocError>
-    requires { All (λ reading. reading.params ≡ params.now) readings.now }
-    ensures { let good = good_share (rc_slice_items bytes.now) number params.now ueb.now in
-        IfOk result (λ share. share ≡ good) }
-{
-    match reading_of(readings, bytes, params) {
-        Some(reading) => judged(alloc, reading, number, ueb),
-        None => good(alloc, bytes, number, params, ueb),
-    }
-}
-
-/// That of these readings whose string this is.
-fn reading_of<'a>(
-    readings: &'a [ShareReading],
-    bytes: &RcSlice<u8>,
-    params: &Params,
-) -> Option<&'a ShareReading>
-    requires { All (λ reading. reading.params ≡ params.now) readings.now }
-    ensures text { IfSome result (λ reading. reading.now.text ≡ rc_slice_items bytes.now) }
-    ensures params { IfSome result (λ reading. reading.now.params ≡ params.now) }
-{
-    let _ = params;
-    for reading in readings {
-        if reading.bytes().as_slice() == bytes.as_slice() {
-            return Some(reading);
-        }
-    }
-    None
-}
-
-/// What a string that was hashed is as the share of a number, if it is a good one.
-fn judged(
-    alloc: Global,
-    reading: &ShareReading,
-    number: u16,
-    ueb: &[u8; 32],
-) -> Result<Option<Share>, AllocError>
-    ensures { let good = good_share reading.now.text number reading.now.params ueb.now in
-        IfOk result (λ share. share ≡ good) }
-{
-    match reading.read(alloc, number, ueb) {
-        Ok(share) => Ok(Some(share)),
-        Err(fault) => {
-            if is_out_of_memory(fault) {
-                Err(AllocError)
-            } else {
-                Ok(None)
-            }
-        }
-    }
-}
-
-/// What a string is as the share of a number, if it is a good one.
+/// What a string at a server is as the share of a number, if it is a good one. Where it was hashed before it isn't hashed
+/// again.
 pub(crate) fn good(
     alloc: Global,
+    server: usize,
     bytes: &RcSlice<u8>,
+    readings: &Readings,
     number: u16,
     params: &Params,
     ueb: &[u8; 32],
 ) -> Result<Option<Share>, AllocError>
+    requires { readings.now ≡ params.now }
     ensures { let good = good_share (rc_slice_items bytes.now) number params.now ueb.now in
         IfOk result (λ share. share ≡ good) }
 {
-    match read_share(alloc, bytes, number, params, ueb) {
+    match read_once(alloc, server, bytes, readings, number, params, ueb) {
         Ok(share) => Ok(Some(share)),
         Err(fault) => {
             if is_out_of_memory(fault) {
@@ -144,6 +89,28 @@ pub(crate) fn good(
                 Ok(None)
             }
         }
+    }
+}
+
+/// Reads a string at a server as the share of a number, by its hashes where it was hashed before.
+fn read_once(
+    alloc: Global,
+    server: usize,
+    bytes: &RcSlice<u8>,
+    readings: &Readings,
+    number: u16,
+    params: &Params,
+    ueb: &[u8; 32],
+) -> Result<Share, ShareFault>
+    requires { readings.now ≡ params.now }
+    ensures good { let good = good_share (rc_slice_items bytes.now) number params.now ueb.now in
+        IfOk result (λ share. good ≡ Some share) }
+    ensures none { let good = good_share (rc_slice_items bytes.now) number params.now ueb.now in
+        IfErr result (λ fault. fault ≢ ShareFault.NoMemory → good ≡ None) }
+{
+    match readings.find(server, number, bytes) {
+        Some(reading) => reading.read(alloc, number, ueb),
+        None => read_share(alloc, bytes, number, params, ueb),
     }
 }
 

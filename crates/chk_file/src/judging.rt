@@ -1,31 +1,24 @@
 //! Strings that are judged as shares of a file that is prepared.
-ghost use Rattle.std.specs.Prelude.{◌≡◌, All, IfOk, IfSome, OnOk};
+ghost use Rattle.std.specs.Prelude.{◌≡◌, IfOk, IfSome};
 ghost use Rattle.chk_file.specs.Ahead.{file_params};
 
 use crate::picked::{Picked, file_params};
+use crate::readings::Readings;
 use crate::verify::choose;
 use caps::{ReadFields, storage_index};
 use grid::Grid;
-use share_codec::{Params, ShareReading};
+use share_codec::Params;
 use share_store::Store;
 use std::alloc::{AllocError, Global};
 use std::rc::RcSlice;
-
-/// How many blocks are hashed side by side.
-const LANES: usize = 8;
-
-/// About how many bytes of blocks are hashed in a step.
-const BLOCK_BYTES: usize = 1_048_576;
 
 /// Strings that stores have in memory, and of each number below k the first one while its blocks are hashed.
 #[derive(Drop)]
 pub(crate) struct Judging {
     fields: ReadFields,
     found: Vec<(usize, u16, RcSlice<u8>)>,
-    waiting: Vec<ShareReading>,
-    hashed: Vec<ShareReading>,
-    ghost waiting_are: { All (λ reading. reading.params ≡ file_params fields) waiting.items },
-    ghost hashed_are: { All (λ reading. reading.params ≡ file_params fields) hashed.items },
+    readings: Readings,
+    ghost readings_are: { readings ≡ file_params fields },
 }
 
 impl Judging {
@@ -37,12 +30,11 @@ impl Judging {
     ) -> Option<Judging> {
         let found = grid.peek_below(storage_index(&fields.key), fields.k).ok()?;
         let params = file_params(fields);
-        let waiting = readings_of(alloc, &found, fields.k, &params).ok()??;
+        let readings = readings_of(alloc, &found, fields.k, &params).ok()??;
         Some(Judging {
             fields: *fields,
             found,
-            waiting,
-            hashed: Vec::new(alloc),
+            readings,
         })
     }
 
@@ -53,7 +45,7 @@ impl Judging {
 
     /// Whether all blocks are hashed.
     pub(crate) fn is_hashed(&self) -> bool {
-        self.waiting.is_empty()
+        self.readings.is_hashed()
     }
 
     /// With some more blocks hashed. None where memory is refused.
@@ -61,15 +53,12 @@ impl Judging {
         let Judging {
             fields,
             found,
-            mut waiting,
-            mut hashed,
+            readings,
         } = self;
-        hash_some(&file_params(&fields), &mut waiting, &mut hashed).ok()?;
         Some(Judging {
             fields,
             found,
-            waiting,
-            hashed,
+            readings: readings.step().ok()?,
         })
     }
 
@@ -78,44 +67,13 @@ impl Judging {
         let Judging {
             fields,
             found,
-            waiting: _,
-            hashed,
+            readings,
         } = self;
-        match choose(alloc, &found, &hashed, &fields) {
+        match choose(alloc, &found, &readings, &fields) {
             Ok(shares) => Some(Picked::new(fields, found, shares)),
             Err(_) => None,
         }
     }
-}
-
-/// Hashes some blocks of the last string that waits. It waits further, unless none of its blocks is left.
-fn hash_some(
-    params: &Params,
-    waiting: &mut Vec<ShareReading>,
-    hashed: &mut Vec<ShareReading>,
-) -> Result<(), AllocError>
-    requires waiting { All (λ reading. reading.params ≡ params.now) waiting.old.items }
-    requires hashed { All (λ reading. reading.params ≡ params.now) hashed.old.items }
-    ensures waiting { OnOk result (
-        All (λ reading. reading.params ≡ params.now) waiting.new.items) }
-    ensures hashed { OnOk result (
-        All (λ reading. reading.params ≡ params.now) hashed.new.items) }
-{
-    let Some(mut reading) = waiting.pop() else {
-        return Ok(());
-    };
-    if reading.step(blocks_in_a_step(params))? {
-        waiting.push(reading)?;
-        return Ok(());
-    }
-    hashed.push(reading)?;
-    Ok(())
-}
-
-/// How many blocks are hashed in a step.
-fn blocks_in_a_step(params: &Params) -> usize {
-    let most = LANES.max(BLOCK_BYTES / (params.block_size() + 1));
-    most - most % LANES
 }
 
 /// The first string of each number below k, to be judged; none where a number has no string.
@@ -124,25 +82,24 @@ fn readings_of(
     found: &[(usize, u16, RcSlice<u8>)],
     k: u16,
     params: &Params,
-) -> Result<Option<Vec<ShareReading>>, AllocError>
-    ensures { IfOk result (λ made. IfSome made (λ readings.
-        All (λ reading. reading.params ≡ params.now) readings.items)) }
+) -> Result<Option<Readings>, AllocError>
+    ensures { IfOk result (λ made. IfSome made (λ readings. readings ≡ params.now)) }
 {
-    let mut readings = Vec::with_capacity(alloc, k as usize)?;
+    let mut readings = Readings::new(alloc, params);
     for number in 0..k {
-        let Some(bytes) = first_of(found, number) else {
+        let Some((server, bytes)) = first_of(found, number) else {
             return Ok(None);
         };
-        readings.push(ShareReading::new(alloc, bytes.clone()?, params))?;
+        readings.add(server, number, bytes.clone()?)?;
     }
     Ok(Some(readings))
 }
 
-/// The first of these strings that has a number.
-fn first_of(found: &[(usize, u16, RcSlice<u8>)], number: u16) -> Option<&RcSlice<u8>> {
-    for (_, other, bytes) in found {
+/// The first of these strings that has a number, with its server.
+fn first_of(found: &[(usize, u16, RcSlice<u8>)], number: u16) -> Option<(usize, &RcSlice<u8>)> {
+    for (server, other, bytes) in found {
         if *other == number {
-            return Some(bytes);
+            return Some((*server, bytes));
         }
     }
     None

@@ -24,12 +24,20 @@ mod encoder;
 mod made;
 /// Files that were read and are kept, and what is prepared.
 mod cache;
+/// What was found under names in directories.
+mod steps;
+/// Directories that are looked through for a name.
+mod looking;
+/// Looking names up in directories.
+mod look_ahead;
 /// Reading files.
 mod reader;
 /// Reading long files.
 mod long_reader;
-/// Long files that are prepared.
+/// Long files that are prepared to be read.
 mod read_ahead;
+/// Strings that stores had in memory, while they are hashed.
+mod readings;
 /// Strings that are judged as shares of them.
 mod judging;
 /// Good shares of them.
@@ -58,6 +66,8 @@ mod crypttext;
 mod segment;
 /// Bytes under a key.
 mod cipher;
+/// Checks of long files that are prepared.
+mod check_ahead;
 /// Checking files.
 mod checker;
 /// How healthy a file is.
@@ -72,5 +82,6 @@ pub use checker::check;
 pub use download::Download;
 pub use fault::ReadFault;
 pub use health::Health;
+pub use look_ahead::sought;
 pub use reader::{begin, read};
 pub use uploader::upload;

@@ -162,7 +162,8 @@ fn find_shares<S: Store>(
     }
 }
 
-/// The same, before they are read.
+/// The same, before they are read: those that are prepared, where the stores have the strings among which they were found,
+/// or else those that the stores have.
 fn good_shares<S: Store>(
     alloc: Global,
     grid: &mut Grid<S>,
@@ -187,39 +188,10 @@ fn good_shares<S: Store>(
     ensures missing_reached { IsHonest grid.old → IsErrOf result ReadFault.NotEnoughShares →
         OfReached grid.old grid.new (index_of fields.now.key) (λ row. fit row fields.now ≡ None) }
 {
-    match ready {
-        Some(ready) => ready_or_verified(alloc, grid, ready, fields),
-        None => verified(alloc, grid, fields),
-    }
-}
-
-/// The shares that are prepared, where the stores have the strings among which they were found, or else those that the
-/// stores have.
-fn ready_or_verified<S: Store>(
-    alloc: Global,
-    grid: &mut Grid<S>,
-    ready: Ready,
-    fields: &ReadFields,
-) -> Result<Vec<Share>, ReadFault>
-    requires { ready.fields ≡ fields.now }
-    ensures leaves { Leaves grid.old grid.new }
-    ensures stamps { grid.new.stamps ≡ grid.old.stamps }
-    ensures unchanged { IsHonest grid.old → IsUnchanged grid.old grid.new }
-    ensures taken { IfOk result (λ shares. AreTaken (file_params fields.now) shares.items) }
-    ensures bound { IfOk result (λ shares. Bound fields.now (plain_from fields.now shares.items)) }
-    ensures fit { IsHonest grid.old → NoneFailed grid.old grid.new → IfOk result (λ shares.
-        fit (table_of (stood grid.old) (index_of fields.now.key)) fields.now
-        ≡ Some (plain_from fields.now shares.items)) }
-    ensures missing { IsHonest grid.old → NoneFailed grid.old grid.new →
-        IsErrOf result ReadFault.NotEnoughShares →
-        fit (table_of (stood grid.old) (index_of fields.now.key)) fields.now ≡ None }
-    ensures fit_reached { IsHonest grid.old → IfOk result (λ shares.
-        OfReached grid.old grid.new (index_of fields.now.key) (λ row.
-        fit row fields.now ≡ Some (plain_from fields.now shares.items))) }
-    ensures missing_reached { IsHonest grid.old → IsErrOf result ReadFault.NotEnoughShares →
-        OfReached grid.old grid.new (index_of fields.now.key) (λ row. fit row fields.now ≡ None) }
-{
     reached_rows();
+    let Some(ready) = ready else {
+        return verified(alloc, grid, fields);
+    };
     match verify_ready(grid, ready, fields) {
         Ok(shares) => Ok(shares),
         Err(ReadFault::NotEnoughShares) => verified(alloc, grid, fields),

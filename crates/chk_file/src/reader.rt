@@ -32,8 +32,8 @@ use std::rc::RcSlice;
 /// in the call, with a cache that is fresh, they are those of `fit` in the row of the cap's storage index, and
 /// `NotEnoughShares` is answered exactly when that has none. A store that is down is passed over: where some honest
 /// stores fail the answer is that of a row with all that stands at the others. Where the cache has the bytes of the
-/// present stamp no store is asked; what is read otherwise is kept, if it has at most 1,048,576 bytes and no store
-/// failed.
+/// present stamp no store is asked; what is read otherwise is kept, if no store failed. Of a file of more than 1,048,576
+/// bytes k good shares are kept in their place, of the one that was read last.
 pub fn read<S: Store>(
     alloc: Global,
     grid: &mut Grid<S>,
@@ -57,11 +57,54 @@ pub fn read<S: Store>(
         OfReached grid.old grid.new (index_of fields.now.key) (λ row. fit row fields.now ≡ None) }
 {
     if fields.size > MOST_KEPT {
-        return read_stores(alloc, grid, fields);
+        return read_long(alloc, grid, cache, fields);
     }
     match fetch(alloc, grid, cache, fields) {
         Ok(bytes) => Ok(Vec::from_slice(alloc, bytes.as_slice())?),
         Err(fault) => Err(fault),
+    }
+}
+
+/// The same of a long file: of the shares that are kept or prepared, or else of those that the stores have.
+fn read_long<S: Store>(
+    alloc: Global,
+    grid: &mut Grid<S>,
+    cache: &mut Cache,
+    fields: &ReadFields,
+) -> Result<Vec<u8>, ReadFault>
+    ensures leaves { Leaves grid.old grid.new }
+    ensures unchanged { IsHonest grid.old → IsUnchanged grid.old grid.new }
+    ensures fresh { IsCacheCurrent cache.old grid.old → IsCacheCurrent cache.new grid.new }
+    ensures bound { IfOk result (λ bytes. Bound fields.now bytes.items) }
+    ensures fit { IsCacheCurrent cache.old grid.old → IsHonest grid.old → NoneFailed grid.old grid.new →
+        IfOk result (λ bytes. fit (table_of (stood grid.old) (index_of fields.now.key)) fields.now
+        ≡ Some bytes.items) }
+    ensures missing { IsHonest grid.old → NoneFailed grid.old grid.new →
+        IsErrOf result ReadFault.NotEnoughShares →
+        fit (table_of (stood grid.old) (index_of fields.now.key)) fields.now ≡ None }
+    ensures fit_reached { IsCacheCurrent cache.old grid.old → IsHonest grid.old →
+        IfOk result (λ bytes. OfReached grid.old grid.new
+        (index_of fields.now.key) (λ row. fit row fields.now ≡ Some bytes.items)) }
+    ensures missing_reached { IsHonest grid.old → IsErrOf result ReadFault.NotEnoughShares →
+        OfReached grid.old grid.new (index_of fields.now.key) (λ row. fit row fields.now ≡ None) }
+{
+    match begin_long(alloc, grid, cache, fields) {
+        Ok(download) => Ok(gathered(alloc, download, fields.size as usize)?),
+        Err(fault) => Err(fault),
+    }
+}
+
+/// All bytes of a download, for which so much memory is taken at once.
+fn gathered(alloc: Global, download: Download, room: usize) -> Result<Vec<u8>, AllocError>
+    ensures { IfOk result (λ bytes. bytes.items ≡ download.left) }
+{
+    let mut rest = download;
+    let mut bytes = Vec::with_capacity(alloc, room)?;
+    'segments: loop {
+        let Some(segment) = rest.next()? else {
+            return Ok(bytes);
+        };
+        bytes.extend_from_slice(&segment)?;
     }
 }
 
@@ -107,7 +150,7 @@ pub fn begin<S: Store>(
 }
 
 /// All bytes of a file, to be given a segment at a time. A file without bytes has none to give.
-fn whole(alloc: Global, fields: &ReadFields, bytes: RcSlice<u8>) -> Download
+pub(crate) fn whole(alloc: Global, fields: &ReadFields, bytes: RcSlice<u8>) -> Download
     ensures left { result.left ≡ rc_slice_items bytes }
     ensures each { let p = params_of fields.now.k fields.now.n fields.now.size in
         0 < p.size → result.each ≡ segment_size p }

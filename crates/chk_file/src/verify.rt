@@ -1,5 +1,5 @@
 //! What the stores have of a file, verified.
-ghost use Rattle.std.specs.Prelude.{◌≡◌, map, All, IfOk, IsErrOf, Some, None};
+ghost use Rattle.std.specs.Prelude.{◌≡◌, map, IfOk, IsErrOf, Some, None};
 ghost use Rattle.std.specs.Rc.{rc_slice_items};
 ghost use Rattle.aes_ctr.specs.Crypt.{crypt};
 ghost use Rattle.grid.specs.GridState.{stood, IsHonest, NoneFailed};
@@ -20,12 +20,13 @@ use crate::crypttext::crypttext;
 use crate::fault::ReadFault;
 use crate::laws::reached_rows;
 use crate::picked::file_params;
+use crate::readings::Readings;
 use crate::rows::Rows;
 use aes_ctr::laws::{keystream_by_place, parts_agree, twice_is_unchanged};
 use caps::{ReadFields, storage_index};
 use grid::Grid;
 use grid::laws::found_laws;
-use share_codec::{Share, ShareReading};
+use share_codec::Share;
 use share_store::Store;
 use std::alloc::Global;
 use std::rc::RcSlice;
@@ -157,11 +158,12 @@ fn verify_found(
     keystream_by_place();
     twice_is_unchanged();
     parts_agree();
-    let shares = match choose(alloc, found, &[], fields) {
+    let params = file_params(fields);
+    let none_hashed = Readings::new(alloc, &params);
+    let shares = match choose(alloc, found, &none_hashed, fields) {
         Ok(shares) => shares,
         Err(fault) => return Err(fault),
     };
-    let params = file_params(fields);
     let Some(bytes) = crypttext(alloc, &params, &shares)? else {
         return Err(ReadFault::NotEnoughShares);
     };
@@ -173,10 +175,10 @@ fn verify_found(
 pub(crate) fn choose(
     alloc: Global,
     found: &[(usize, u16, RcSlice<u8>)],
-    readings: &[ShareReading],
+    readings: &Readings,
     fields: &ReadFields,
 ) -> Result<Vec<Share>, ReadFault>
-    requires { All (λ reading. reading.params ≡ file_params fields.now) readings.now }
+    requires { readings.now ≡ file_params fields.now }
     ensures chosen { IfOk result (λ shares.
         AreChosen fields.now (map (found_bytes rc_slice_items) found.now) shares.items) }
     ensures missing { IsErrOf result ReadFault.NotEnoughShares →

@@ -24,4 +24,4 @@ pub use exchange::{Answer, Exchange, LinkFault};
 pub use fault::ClientFault;
 pub use fetch::{fetch_directory, fetch_file, fetch_stored, fetch_text};
 pub use store::{make_directory, put_file};
-pub use walker::{copy_cap, walk};
+pub use walker::walk;

@@ -5,10 +5,10 @@ ghost use Rattle.client_core.specs.Way.{IsChildOf, LeadsTo};
 use crate::exchange::Exchange;
 use crate::fault::ClientFault;
 use crate::fetch::fetch_directory;
-use caps::Cap;
+use caps::{Cap, copy_cap};
 use dir_codec::Entry;
-use octets::{Bytes, Text};
-use std::alloc::{AllocError, Global};
+use octets::Text;
+use std::alloc::Global;
 
 /// The cap that names lead to, from a cap on: each is looked up in the directory that the one before it led to.
 ///
@@ -44,18 +44,4 @@ fn child_of<E: Exchange>(
     };
     let Entry { cap, .. } = entry;
     Ok(cap)
-}
-
-/// The same cap again.
-pub fn copy_cap(alloc: Global, cap: &Cap) -> Result<Cap, AllocError>
-    ensures { IfOk result (λ copy. copy ≡ cap.now) }
-{
-    match cap {
-        Cap::Chk(fields) => Ok(Cap::Chk(*fields)),
-        Cap::Lit(bytes) => Ok(Cap::Lit(Bytes::from_slice(alloc, bytes.as_slice())?)),
-        Cap::DirChk(fields) => Ok(Cap::DirChk(*fields)),
-        Cap::DirLit(bytes) => Ok(Cap::DirLit(Bytes::from_slice(alloc, bytes.as_slice())?)),
-        Cap::ChkVerify(fields) => Ok(Cap::ChkVerify(*fields)),
-        Cap::DirChkVerify(fields) => Ok(Cap::DirChkVerify(*fields)),
-    }
 }

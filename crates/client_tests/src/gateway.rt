@@ -2,6 +2,7 @@
 
 ghost use Rattle.std.specs.Prelude.{◌≤◌, length};
 
+use crate::copying::copy_from;
 use client_core::LinkFault;
 use client_link::Dial;
 use std::alloc::{AllocError, Global};
@@ -156,17 +157,6 @@ impl<'a> Dial for Dialer<'a> {
         }
         Ok(stream)
     }
-}
-
-/// Copies the next bytes of a reply, of which so many were sent, and says how many.
-fn copy_from(reply: &[u8], sent: usize, most: usize, buf: &mut [u8]) -> usize
-    ensures { result ≤ length buf.new }
-{
-    let from = sent.min(reply.len());
-    let left = &reply[from..];
-    let count = left.len().min(buf.len()).min(most);
-    buf[..count].copy_from_slice(&left[..count]);
-    count
 }
 
 /// The place of the first row that this request is of.

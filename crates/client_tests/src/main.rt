@@ -3,6 +3,8 @@
 //! nothing.
 #![tactic(auto)]
 
+/// What is given at a time.
+mod copying;
 /// Files, directories and their caps.
 #[cfg(test)]
 mod facts;

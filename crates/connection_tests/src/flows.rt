@@ -1,76 +1,11 @@
 //! Flows over streams that give few bytes, block, are interrupted and fail, beside the same bytes brought in one piece.
+use crate::stream::Stream;
 use gate_core::{Gateway, GatewayFault};
 use gate_flow::{Flow, FlowFault, Step, Want, part_len};
 use share_store::MemStore;
 use std::alloc::Global;
-use std::io::{self, ErrorKind, Read, Write};
+use std::io::ErrorKind;
 use std::test::Fail;
-
-/// A stream that reads and takes a few bytes at a time, and fails after so many calls.
-#[derive(Drop)]
-struct Stream<'a> {
-    sends: &'a [u8],
-    took: Vec<u8>,
-    at_a_time: usize,
-    /// What every other call is told, beginning with the first.
-    told: Option<ErrorKind>,
-    is_next: bool,
-    calls_left: u32,
-}
-
-impl<'a> Stream<'a> {
-    fn new(
-        alloc: Global,
-        sends: &'a [u8],
-        at_a_time: usize,
-        told: Option<ErrorKind>,
-        calls_left: u32,
-    ) -> Stream<'a> {
-        Stream {
-            sends,
-            took: Vec::new(alloc),
-            at_a_time,
-            told,
-            is_next: true,
-            calls_left,
-        }
-    }
-
-    /// What this call is told.
-    fn error(&mut self) -> Option<ErrorKind> {
-        if self.calls_left == 0 {
-            return Some(ErrorKind::BrokenPipe);
-        }
-        self.calls_left -= 1;
-        self.is_next = !self.is_next;
-        if self.is_next { None } else { self.told }
-    }
-}
-
-impl Read for Stream<'_> {
-    fn read(&mut self, buf: &mut [u8]) -> io::Result<usize> {
-        if let Some(kind) = self.error() {
-            return Err(io::Error::from(kind));
-        }
-        let count = buf.len().min(self.at_a_time);
-        self.sends.read(&mut buf[..count])
-    }
-}
-
-impl Write for Stream<'_> {
-    fn write(&mut self, buf: &[u8]) -> io::Result<usize> {
-        if let Some(kind) = self.error() {
-            return Err(io::Error::from(kind));
-        }
-        let count = buf.len().min(self.at_a_time);
-        self.took.extend_from_slice(&buf[..count])?;
-        Ok(count)
-    }
-
-    fn flush(&mut self) -> io::Result<()> {
-        Ok(())
-    }
-}
 
 fn gateway(alloc: Global) -> Result<Gateway<MemStore>, Fail> {
     let mut stores = Vec::new(alloc);

@@ -2,6 +2,8 @@
 //! with them and without, so they stand in a crate of their own. The program itself does nothing.
 #![tactic(auto)]
 
+/// A stream that is slow and fails.
+mod stream;
 /// Connections without their sockets.
 #[cfg(test)]
 mod flows;

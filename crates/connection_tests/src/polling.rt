@@ -360,21 +360,38 @@ const PUT: &[u8] =
 
 #[test]
 fn equal_files_have_two_caps_at_two_listeners(rt: HostRuntime) -> Result<(), Fail> {
-    let plain = listen(&rt)?;
-    let apart = listen(&rt)?;
-    let mut one = client(&rt, plain.local_addr()?, PUT, false)?;
-    let mut other = client(&rt, apart.local_addr()?, PUT, false)?;
-    let mut listeners = only(&rt, plain)?;
+    assert!(rt; have_two_caps(&rt, &mut lobby(rt.alloc())?)?);
+    Ok(())
+}
+
+/// Whether the same upload is answered at a listener without a secret of its own and at one that has one, and otherwise.
+fn have_two_caps<R: Net<Stream = TcpStream> + Clock + CpuClock + AllocGlobal + Log>(
+    rt: &R,
+    many: &mut Lobby<MemStore>,
+) -> Result<bool, Fail> {
+    let plain = listen(rt)?;
+    let apart = listen(rt)?;
+    let mut one = client(rt, plain.local_addr()?, PUT, false)?;
+    let mut other = client(rt, apart.local_addr()?, PUT, false)?;
+    served_all(rt, both(rt, plain, apart)?, 2, many)?;
+    let one = all_of(rt.alloc(), &mut one)?;
+    let other = all_of(rt.alloc(), &mut other)?;
+    let are_stored = one.starts_with(b"HTTP/1.1 200") && other.starts_with(b"HTTP/1.1 200");
+    Ok(are_stored && one.as_slice() != other.as_slice())
+}
+
+/// Two listeners, of which the second one has a secret of its own.
+fn both(
+    rt: &impl AllocGlobal,
+    plain: TcpListener,
+    apart: TcpListener,
+) -> Result<Vec<Listener>, Fail> {
+    let mut listeners = only(rt, plain)?;
     listeners.push(Listener {
         socket: apart,
         secret: Some(Bytes::from_slice(rt.alloc(), b"own")?),
     })?;
-    served_all(&rt, listeners, 2, &mut lobby(rt.alloc())?)?;
-    let one = all_of(rt.alloc(), &mut one)?;
-    let other = all_of(rt.alloc(), &mut other)?;
-    assert!(rt; one.starts_with(b"HTTP/1.1 200") && other.starts_with(b"HTTP/1.1 200"));
-    assert!(rt; one.as_slice() != other.as_slice());
-    Ok(())
+    Ok(listeners)
 }
 
 /// Serves so many connections.

@@ -4,7 +4,8 @@ pub mod Names
 pub mod Caps
 pub mod Steps
 pub mod Above
-pub mod Finding
+pub mod Halves
+pub mod SoughtNames
 pub mod Written
 pub mod Cuts
 pub mod Belong

@@ -7,6 +7,7 @@ use Rattle.tag_hash.specs.declared.netstrings.Span.{Span}
 use Rattle.tag_hash.specs.declared.netstrings.NetFault.{NetFault}
 use Rattle.dir_codec.specs.Parts.{EntryTexts, cut_netstring, first_netstring, four_texts, texts_before, first_entry}
 use Rattle.dir_codec.specs.Reading.{entry_reading, before_more, then_more, from_texts, read_most, reading_after}
+use Rattle.dir_codec.specs.Sought.{after_those}
 use Rattle.dir_codec.specs.declared.entry.Entry.{Entry}
 use Rattle.dir_codec.specs.declared.fault.DirFault.{DirFault}
 use Rattle.dir_codec.specs.declared.fault.DirFault.TheVariants.{Torn}
@@ -14,11 +15,6 @@ use Rattle.dir_codec.specs.declared.fault.DirFault.TheVariants.{Torn}
 -- what is read where a netstring is
 abbrev pub NothingElse : Type 0
 NothingElse = (bytes : List ℕ) (at : ℕ) → IfOk (netstring_at bytes at) (λ read. (read.0.start + read.0.len + 1 ≡ read.1) × (read.1 ≤ length bytes) × (drop at bytes ≡ netstring (span_bytes read.0 bytes) ++ drop read.1 bytes))
-
--- the list with those before it
-abbrev pub after_those : List Entry → Result (List Entry) DirFault → Result (List Entry) DirFault
-after_those those (Ok more) = Ok (those ++ more)
-after_those those (Err fault) = Err fault
 
 pub after_none : (r : Result (List Entry) DirFault) → r ≡ after_those [] r
 after_none (Ok more) = refl

@@ -1,4 +1,4 @@
--- Read DirectoryText first, over Names, Metadata and Entries; then Reading and Faults, and Children with MadeOf.
+-- Read DirectoryText first, over Names, Metadata and Entries; then Reading and Faults, Find and Sought, and Children with MadeOf.
 pub mod Names
 pub mod Metadata
 pub mod Spelled
@@ -9,6 +9,7 @@ pub mod Reading
 pub mod First
 pub mod Faults
 pub mod Find
+pub mod Sought
 pub mod Cuts
 pub mod Children
 pub mod MadeOf

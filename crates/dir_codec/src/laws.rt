@@ -1,5 +1,5 @@
 //! What holds of directory texts.
-ghost use Rattle.std.specs.Prelude.{◌≡◌, ◌↔◌, ◌<◌, ◌≤◌, ◌^◌, ℕ, false, List, length, Ok, Err, Some};
+ghost use Rattle.std.specs.Prelude.{◌≡◌, ◌↔◌, ◌<◌, ◌≤◌, ◌^◌, ℕ, false, List, length, Ok, Err, Some, None};
 ghost use Rattle.serde_json.specs.Data.{Data, depth};
 ghost use Rattle.serde_json.specs.Read.{read};
 ghost use Rattle.serde_json.specs.Written.{has_float, compact_text};
@@ -8,11 +8,13 @@ ghost use Rattle.dir_codec.specs.Metadata.{metadata_of, spelling_of};
 ghost use Rattle.dir_codec.specs.Entries.{IsDirectory};
 ghost use Rattle.dir_codec.specs.DirectoryText.{IsDirectoryText, directory_text};
 ghost use Rattle.dir_codec.specs.Reading.{reading_after, directory_reading, children};
+ghost use Rattle.dir_codec.specs.Sought.{cap_of_child, sought_of, sought_in};
 ghost use Rattle.dir_codec.specs.Children.{making, made};
 ghost use Rattle.dir_codec.specs.MadeOf.{AreMadeOf, RefusesJson};
 ghost use Rattle.dir_codec.specs.Faults.{RefusesDirectory};
 ghost use Rattle.dir_codec.specs.declared.entry.Entry.{Entry};
 ghost use Rattle.dir_codec.specs.declared.fault.DirFault.{DirFault};
+ghost use Rattle.dir_codec.specs.declared.finder.Sought.TheVariants.{NoDirectory};
 
 use caps::laws::reading_is_decided;
 use tag_hash::laws::netstrings_are_read_back;
@@ -46,6 +48,13 @@ pub fn ends_of_texts_are_texts()
 {
     netstrings_are_read_back();
 }
+
+/// What is sought in a text is decided by its children: the first of that name, and no directory where there are none.
+pub fn children_decide_what_is_sought()
+    ensures child { (name text : List ℕ) (entries : List Entry) → children text ≡ Some entries
+        → sought_in name text ≡ sought_of (cap_of_child name entries) }
+    ensures none { (name text : List ℕ) → children text ≡ None → sought_in name text ≡ NoDirectory }
+{}
 
 /// The text that is written for a directory belongs to it, so it is read back.
 pub fn written_directories_are_read_back()

@@ -12,6 +12,8 @@ mod fault;
 mod decoder;
 /// The entries of a directory text, one at a time.
 mod entries;
+/// Looking a name up in a directory text, some entries at a time.
+mod finder;
 /// From a directory to its text.
 mod encoder;
 /// From the JSON that a client names children with to their directory.
@@ -33,3 +35,4 @@ pub use encoder::encode;
 pub use entries::read_first;
 pub use entry::Entry;
 pub use fault::{DirFault, is_memory};
+pub use finder::{Finder, Finding, Sought, find_child};

@@ -85,7 +85,7 @@ pub(crate) struct Spelled {
 }
 
 /// The one spelling of the metadata that a text is, None where it is none. Where keys rise in each object, it takes
-/// some twice the text's bytes, and else at most some 15 times. `Err` only where memory is refused.
+/// some twice the text's bytes, and else some 20 to 25 times at most. `Err` only where memory is refused.
 pub(crate) fn spell_text(alloc: Global, text: &str) -> Result<Option<String>, AllocError>
     ensures { IfOk result (λ found. MatchOption found (AreNoMetadata (tokens text.now))
         (λ spelling. SpellsMetadata (tokens text.now) [] (string_bytes spelling))) }

@@ -20,7 +20,7 @@ use Rattle.gate_core.specs.Events.{Event, Open, Bytes, End, Take, caller_of, pie
 use Rattle.gate_core.specs.ConnectionState.{ConnectionState, State, connection_at, waiting, waiting_in, is_over, is_closed_in, stage_refusal, cut_refusal, open_refusal, bytes_refusal, take_refusal}
 use Rattle.gate_core.specs.AfterCall.{with_held, with_grid, with_tally, opened, taken, ended_state, cut_state}
 use Rattle.gate_core.specs.Served.{IsReceived}
-use Rattle.gate_core.specs.Came.{Opening, Came, IsRoomy, GoesOn}
+use Rattle.gate_core.specs.Came.{Opening, Came, IsRoomy, GoesOn, Stays}
 use Rattle.gate_core.specs.Faithful.{Faithful, FaithfulAt}
 use Rattle.gate_flow.specs.declared.fault.FlowFault.{FlowFault}
 use Rattle.gate_flow.specs.Faults.{flow_of, IsCallFault}
@@ -53,6 +53,18 @@ pub handed_one : (id : ℕ) (e : Event) → caller_of e ≡ Some id → handed i
 handed_one id e mine = ap (flat_map bytes_given_by) (calls_of_one id e mine) ∙ append-nil (bytes_given_by e)
 
 -- ---- calls one after the other
+
+-- no call of a connection was made where only the grid is another
+pub led_by_none : (id : ℕ) (g h : State) → h ≡ with_grid g h.grid → Leaves g.grid h.grid → IsLed id [] g h
+led_by_none id g h is left = record {
+  settings = ap (λ (s : State). s.settings) is;
+  leaves = left;
+  others = λ other apart. ap (λ (s : State). connection_at s other) is;
+  told = λ events told. subst (Faithful h) (sym (append-nil events)) (subst (λ (s : State). Faithful s events) (sym is) (record { each = told.each }));
+}
+
+pub written_by_none : (g h : State) → Stays g h → IsLedAsWritten [] g h
+written_by_none g h stays opening events came roomy calm = subst (Came opening h) (sym (append-nil events)) (stays opening events came)
 
 pub led_none : (id : ℕ) (g : State) → IsLed id [] g g
 led_none id g = record {

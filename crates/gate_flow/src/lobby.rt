@@ -107,10 +107,13 @@ impl<S: Store> Lobby<S> {
     }
 
     /// Takes a step of what the gateway will do with the bytes that a flow has at hand, and says whether it had better not
-    /// go on yet, as `Gateway::prepare` does.
+    /// go on yet, as `Gateway::prepare` does. It is no call of a connection.
     pub fn prepare(&mut self, flow: &Flow) -> bool
-        ensures { self.new ≡ self.old }
+        ensures led { IsLed flow.now.id [] self.old self.new }
+        ensures as_written { IsLedAsWritten [] self.old self.new }
+        ensures hosted { IsHosted flow.now.id (flow.now.id + 1) self.old self.new }
     {
+        crate::laws::gateways_are_hosted();
         self.gateway.prepare(flow.id(), flow.at_hand())
     }
 

@@ -395,6 +395,22 @@ impl Peer {
             moment.skips(rt);
             return Stepped::waits();
         }
+        self.brings(rt, lobby, tools, before, moment)
+    }
+
+    /// The same, once nothing is left to be prepared.
+    fn brings<S: Store, R: Clock + CpuClock>(
+        &mut self,
+        rt: &R,
+        lobby: &mut Lobby<S>,
+        tools: &mut Tools,
+        before: Want,
+        moment: &mut Moment,
+    ) -> Stepped
+        requires { self.old.flow.want ≡ want.Advance }
+        ensures { IsStepped self.old self.new result.end lobby.old lobby.new }
+    {
+        gate_flow::laws::gateways_are_hosted();
         let replies = lobby.gateway().tally();
         if let Err(fault) = lobby.advance(&mut self.flow) {
             return Stepped::fails(fault);

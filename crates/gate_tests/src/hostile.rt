@@ -1,6 +1,7 @@
 //! Stores that fail at each of their calls, or lie.
 
-use super::rows::{Row, are_told, holds, with_counted};
+use super::counted::with_counted;
+use super::rows::{Row, are_told, holds};
 use gate_core::Gateway;
 use share_store::{FailAt, Liar, MemStore, Store};
 use std::alloc::Global;

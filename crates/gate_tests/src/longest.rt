@@ -1,9 +1,10 @@
 //! A body of the longest length.
 
-use super::rows::{are_told, with_counted};
+use super::counted::with_counted;
+use super::rows::{are_told, steps_left};
 use gate_core::Gateway;
 use share_store::MemStore;
-use std::alloc::Global;
+use std::alloc::{AllocError, Global};
 use std::test::Fail;
 
 /// The longest length of a body.
@@ -14,6 +15,9 @@ const PUT: &[u8] = b"PUT /uri HTTP/1.1\r\nHost: g\r\nContent-Length: 16777216\r\
 
 const GET: &[u8] =
     b"GET /uri/URI:CHK:fvgi73cmksn74kqnzhwwxvi2qe:fneiwbdgii64e5vjqzro3d54mf7lxiz7pz47hcuper3ojjzpw2zq:3:10:16777216 HTTP/1.1\r\nHost: g\r\n\r\n";
+
+/// The same with its body in chunks.
+const PUT_IN_CHUNKS: &[u8] = b"PUT /uri HTTP/1.1\r\nHost: g\r\nTransfer-Encoding: chunked\r\n\r\n";
 
 /// The cap as it is told, and the head of the file's reply.
 const STORED: &[u8] =
@@ -60,22 +64,52 @@ fn an_upload_that_is_prepared_is_stored(rt: HostRuntime) -> Result<(), Fail> {
     let alloc = rt.alloc();
     let request = with_counted(alloc, PUT, LONGEST)?;
     let found = with_counted(alloc, FOUND, LONGEST)?;
-    let mut gateway = gateway(alloc)?;
-    let (first, last) = request.split_at(request.len().saturating_sub(65_536));
-    are_brought(&mut gateway, first)?;
+    assert!(rt; is_prepared(&mut gateway(alloc)?, &request, &found)?);
+    Ok(())
+}
 
+#[test]
+fn an_upload_in_chunks_that_is_prepared_is_stored(rt: HostRuntime) -> Result<(), Fail> {
+    let alloc = rt.alloc();
+    let request = put_in_chunks(alloc)?;
+    let found = with_counted(alloc, FOUND, LONGEST)?;
+    assert!(rt; is_prepared(&mut gateway(alloc)?, &request, &found)?);
+    Ok(())
+}
+
+/// The request that puts the same bytes in chunks of 65,536.
+fn put_in_chunks(alloc: Global) -> Result<Vec<u8>, AllocError> {
+    let body = with_counted(alloc, b"", LONGEST)?;
+    let mut request = Vec::from_slice(alloc, PUT_IN_CHUNKS)?;
+    for chunk in body.chunks(65_536) {
+        request.extend_from_slice(b"10000\r\n")?;
+        request.extend_from_slice(chunk)?;
+        request.extend_from_slice(b"\r\n")?;
+    }
+    request.extend_from_slice(b"0\r\n\r\n")?;
+    Ok(request)
+}
+
+/// Whether an upload is prepared in steps once its last bytes are there, while the same one on another connection waits, and
+/// is stored then.
+fn is_prepared(
+    gateway: &mut Gateway<MemStore>,
+    request: &[u8],
+    found: &[u8],
+) -> Result<bool, Fail> {
+    let (first, last) = request.split_at(request.len().saturating_sub(65_536));
+    are_brought(gateway, first)?;
     // Neither what was never opened nor bytes that don't complete the upload make a step.
-    assert!(rt; !gateway.prepare(3, last));
-    assert!(rt; !gateway.prepare(1, &last[last.len().min(1)..]));
-    // Another upload waits for the one that is prepared.
-    assert!(rt; gateway.prepare(1, last));
-    assert!(rt; gateway.prepare(2, last));
+    let (but_one, _) = last.split_at(last.len().saturating_sub(1));
+    let is_early = gateway.prepare(3, last) || gateway.prepare(1, but_one);
+    let both_wait = gateway.prepare(1, last) && gateway.prepare(2, last);
     // Each 65,536 bytes are a step, and there are others.
-    assert!(rt; steps_left(&mut gateway, 1, last) > 256);
+    let steps = steps_left(gateway, 1, last);
     gateway.bytes(1, last)?;
     gateway.let_go_of(1);
-    assert!(rt; gateway.prepare(2, last));
-    are_told(&mut gateway, &[(1, b"", STORED), (1, GET, &found)])
+    let is_next = gateway.prepare(2, last);
+    are_told(gateway, &[(1, b"", STORED), (1, GET, found)])?;
+    Ok(!is_early && both_wait && steps > 256 && is_next)
 }
 
 /// Two connections are opened, and each is brought these bytes.
@@ -87,16 +121,6 @@ fn are_brought(gateway: &mut Gateway<MemStore>, bytes: &[u8]) -> Result<(), Fail
         gateway.bytes(2, piece)?;
     }
     Ok(())
-}
-
-/// How many steps are left before these bytes are brought, which are taken.
-fn steps_left(gateway: &mut Gateway<MemStore>, id: u64, last: &[u8]) -> usize {
-    for step in 0..10_000 {
-        if !gateway.prepare(id, last) {
-            return step;
-        }
-    }
-    0
 }
 
 #[test]

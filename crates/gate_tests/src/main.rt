@@ -2,6 +2,8 @@
 //! and without, so they stand in a crate of their own. The program itself does nothing.
 #![tactic(auto)]
 
+/// Long messages.
+mod counted;
 /// What callers ask and are told.
 #[cfg(test)]
 mod rows;
@@ -17,6 +19,9 @@ mod browsers;
 /// A body of the longest length.
 #[cfg(test)]
 mod longest;
+/// A walk into a long directory, and its listing.
+#[cfg(test)]
+mod walked;
 /// Crashes, and gateways that are resumed after them.
 #[cfg(test)]
 mod restarting;

@@ -1,9 +1,7 @@
 //! What callers ask and are told.
 
 use gate_core::Gateway;
-use octets::fakes::counted_bytes;
 use share_store::Store;
-use std::alloc::Global;
 use std::test::Fail;
 
 /// A connection, bytes that come on it, and what it is told then.
@@ -29,10 +27,12 @@ pub fn holds(is_so: bool, words: &str) -> Result<(), Fail> {
     }
 }
 
-/// A head, and so many bytes i modulo 251.
-pub fn with_counted(alloc: Global, head: &[u8], size: usize) -> Result<Vec<u8>, Fail> {
-    let counted = counted_bytes(alloc, size)?;
-    let mut bytes = Vec::from_slice(alloc, head)?;
-    bytes.extend_from_slice(&counted)?;
-    Ok(bytes)
+/// How many steps are left before these bytes are brought, which are taken: 10,000 at most, else 0.
+pub fn steps_left<S: Store>(gateway: &mut Gateway<S>, id: u64, next: &[u8]) -> usize {
+    for step in 0..10_000 {
+        if !gateway.prepare(id, next) {
+            return step;
+        }
+    }
+    0
 }

@@ -1,2 +1,3 @@
 pub mod WalkLemmas
 pub mod WayLemmas
+pub mod SoughtSteps

@@ -1,5 +1,6 @@
 -- Steps of a walk.
-use Rattle.std.proofs.Common.{◌≡◌, ◌≢◌, ℕ, List, [], ◌∷◌, Some, None, Result, Ok, Err, refl, sym, ap, ◌∙◌}
+use Rattle.std.proofs.Common.{◌≡◌, ℕ, List, [], ◌∷◌, Option, Some, None, option_map, Result, Ok, Err, refl, ap, ◌∙◌}
+use Rattle.std.specs.Result.{result_ok}
 use Rattle.std.proofs.lemmas.List.Elements.{All-head, All-tail}
 use Rattle.caps.specs.declared.cap.Cap.{Cap}
 use Rattle.caps.specs.declared.cap.Cap.TheVariants.{Chk, Lit, DirChk, DirLit, ChkVerify, DirChkVerify}
@@ -7,12 +8,12 @@ use Rattle.dir_codec.specs.Find.{child_named}
 use Rattle.dir_codec.specs.Reading.{directory_reading, children}
 use Rattle.dir_codec.specs.declared.entry.Entry.{Entry}
 use Rattle.dir_codec.specs.declared.fault.DirFault.{DirFault}
-use Rattle.dir_codec.specs.declared.fault.DirFault.TheVariants.{NoMemory as DirNoMemory}
-use Rattle.path_walk.specs.Faults.{fault_of_text}
-use Rattle.path_walk.specs.Walk.{FileLookup, then_on, listed_below, child_in, child_below, walked, met, or_walk_fault}
+use Rattle.dir_codec.specs.Sought.{sought_of, sought_among, sought_in}
+use Rattle.path_walk.specs.Faults.{child_of_sought}
+use Rattle.path_walk.specs.Walk.{FileLookup, then_on, listed_below, cap_named, child_in, child_below, walked, met, or_walk_fault}
 use Rattle.path_walk.specs.Agree.{GivesSameAt, GiveSameOn}
 use Rattle.path_walk.specs.declared.fault.WalkFault.{WalkFault}
-use Rattle.path_walk.specs.declared.fault.WalkFault.TheVariants.{NoChild, NotDirectory, NotEnoughShares, NoMemory}
+use Rattle.path_walk.specs.declared.fault.WalkFault.TheVariants.{NoChild, NotDirectory, NotEnoughShares}
 
 -- steps are the same where looks agree
 pub child_agrees : (gives other : FileLookup) (cap : Cap) (name : List ℕ) → GivesSameAt gives other cap → child_below gives cap name ≡ child_below other cap name
@@ -52,25 +53,16 @@ met_agree gives other here (name ∷ more) same =
     (met_on gives other more (child_below gives here name) (λ child. met_agree gives other child more) (All-tail (GivesSameAt gives other) here _ same)
     ∙ ap (listed_below (λ child. met other child more)) (child_agrees gives other here name (All-head (GivesSameAt gives other) here _ same)))
 
--- bytes that are no directory text have no children
-no_text : (name bytes : List ℕ) (fault : DirFault) → directory_reading bytes ≡ Err fault → child_in name bytes ≡ Err NotDirectory
-unfolding child_in children
-no_text name bytes fault is = rw is refl
+-- what is found under a name in a text is the child in the directory whose text it is
+among : (name : List ℕ) (r : Result (List Entry) DirFault)
+    → then_on (λ entries. or_walk_fault (NoChild name) (cap_named name entries)) (or_walk_fault NotDirectory (result_ok r)) ≡ child_of_sought name (sought_among name r)
+among name (Ok entries) = by_entry (child_named name entries)
+  where
+    by_entry : (o : Option Entry) → or_walk_fault (NoChild name) (option_map (λ (entry : Entry). entry.cap) o) ≡ child_of_sought name (sought_of (option_map (λ (entry : Entry). entry.cap) o))
+    by_entry (Some entry) = refl
+    by_entry None = refl
+among name (Err fault) = refl
 
--- a fault of the text is the walk's
-pub text_fault : (name bytes : List ℕ) (fault : DirFault) → (fault ≢ DirNoMemory → directory_reading bytes ≡ Err fault) → fault_of_text fault ≢ NoMemory → child_in name bytes ≡ Err (fault_of_text fault)
-text_fault name bytes DirNoMemory refused memory = absurd (memory refl)
-text_fault name bytes fault refused memory = no_text name bytes fault (refused (λ e. cc))
-
--- the child is what its entry names, and where there is no entry there is none
-pub missing_child : (name bytes shown text : List ℕ) (entries : List Entry) → directory_reading bytes ≡ Ok entries → shown ≡ name → None ≡ child_named shown entries → text ≡ name → child_in name bytes ≡ Err (NoChild text)
-unfolding child_in children
-missing_child name bytes shown text entries is same none spelled =
-    let nothing : child_named name entries ≡ None = ap (λ n. child_named n entries) (sym same) ∙ sym none in
-    rw (is, nothing, spelled) refl
-
-pub named_child : (name bytes shown : List ℕ) (entries : List Entry) (entry : Entry) → directory_reading bytes ≡ Ok entries → shown ≡ name → Some entry ≡ child_named shown entries → child_in name bytes ≡ Ok entry.cap
-unfolding child_in children
-named_child name bytes shown entries entry is same found =
-    let there : child_named name entries ≡ Some entry = ap (λ n. child_named n entries) (sym same) ∙ sym found in
-    rw (is, there) refl
+pub child_is_sought : (name bytes : List ℕ) → child_in name bytes ≡ child_of_sought name (sought_in name bytes)
+unfolding child_in children sought_in
+child_is_sought name bytes = among name (directory_reading bytes)

@@ -2,7 +2,6 @@
 ghost use Rattle.std.specs.Prelude.{◌≡◌};
 
 use chk_file::ReadFault;
-use dir_codec::DirFault;
 use octets::Text;
 use std::alloc::AllocError;
 use thiserror::Error;
@@ -43,19 +42,6 @@ impl From<ReadFault> for WalkFault {
         match fault {
             ReadFault::NotEnoughShares => WalkFault::NotEnoughShares,
             ReadFault::NoMemory => WalkFault::NoMemory,
-        }
-    }
-}
-
-impl From<DirFault> for WalkFault {
-    ghost use Rattle.path_walk.specs.Faults.{fault_of_text};
-
-    ghost from_gives = { λ text fault. fault ≡ fault_of_text text };
-
-    fn from(fault: DirFault) -> WalkFault {
-        match fault {
-            DirFault::NoMemory => WalkFault::NoMemory,
-            _ => WalkFault::NotDirectory,
         }
     }
 }

@@ -8,9 +8,12 @@
 mod fault;
 /// From a cap down the names.
 mod walker;
+/// Walks that are prepared.
+mod ahead;
 /// What holds of walks.
 pub mod laws;
 
+pub use ahead::{Ahead, walk_ahead};
 pub use fault::WalkFault;
 pub use path_names::{Names, PathFault, names};
 pub use walker::walk;

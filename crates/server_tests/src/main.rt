@@ -3,6 +3,8 @@
 //! own. The program itself does nothing.
 #![tactic(auto)]
 
+/// A share to put into stores.
+mod shares;
 /// Stores whose folders are missing.
 #[cfg(test)]
 mod missing;

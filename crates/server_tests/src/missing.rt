@@ -1,6 +1,6 @@
 //! Stores whose folders are missing: the words that say so, and what such a store answers.
 
-use super::serving::share;
+use super::shares::share;
 use server_options::{Options, Refusal, StoreWanted, Task, read_words};
 use server_stores::unreachable_store;
 use share_store::{Store, StoreFault};

@@ -1,7 +1,5 @@
 //! Words, control requests, figures, and one folder.
-ghost use Rattle.std.specs.Prelude.{◌<◌, length, IfOk};
-ghost use Rattle.std.specs.Rc.{rc_slice_items};
-
+use crate::shares::share;
 use folder_shelf::{FolderFault, StoreSettings};
 use gate_core::Tally;
 use gate_poll::{Counts, Latencies, RequestKind};
@@ -461,13 +459,6 @@ fn sizes_have_units(rt: HostRuntime) {
     ] {
         assert!(rt; read_size(text) == bytes, "at {text}");
     }
-}
-
-/// A share's bytes.
-pub fn share(alloc: Global) -> Result<RcSlice<u8>, Fail>
-    ensures { IfOk result (λ share. 0 < length (rc_slice_items share)) }
-{
-    Ok(RcSlice::from_vec(vec![in alloc; 9u8; 3usize]?)?)
 }
 
 /// A folder is made, served, and given up, and has what was put into it. It stands in the system's folder for such.

@@ -75,10 +75,11 @@ fn of_file<S: Store>(
         "ahead" => ahead(alloc, grid, &mut files.cache, &fields, case),
         "lose" => told(alloc, grid.lose(0, index, case.small(3)?)),
         "spoil" => told(alloc, grid.spoil(0, index, case.small(3)?, case.number(4)?)),
-        "check" => checked(alloc, grid, cap, case),
+        "check" => checked(alloc, grid, &mut files.cache, cap, case),
+        "check-ahead" => check_ahead(alloc, grid, &mut files.cache, cap, case),
         "check-forged" => {
             let other = Cap::Chk(forged(&fields, case)?);
-            checked(alloc, grid, &other, case)
+            checked(alloc, grid, &mut files.cache, &other, case)
         }
         _ => Err(NoAnswer::Question),
     }
@@ -242,15 +243,45 @@ fn taken(alloc: Global, files: &mut Files, wanted: &[u8]) -> Result<String, NoAn
 fn checked<S: Store>(
     alloc: Global,
     grid: &mut Grid<S>,
+    cache: &mut Option<Cache>,
     cap: &Cap,
     case: &Case<'_>,
 ) -> Result<String, NoAnswer> {
     let Some(verify_cap) = weaken(cap) else {
         return Err(NoAnswer::Word(2));
     };
-    let found = check(alloc, grid, &verify_cap, case.word(3)? == "verify")?;
+    let found = check(
+        alloc,
+        grid,
+        held(alloc, cache)?,
+        &verify_cap,
+        case.word(3)? == "verify",
+    )?;
     debug(
         alloc,
         &(found.needed, found.expected, found.good, found.corrupt),
     )
+}
+
+/// Prepares the check of a file by a step, and then by at most as many more as the word at place 3 says. Whether some were
+/// left after the first, and whether some are left.
+fn check_ahead<S: Store>(
+    alloc: Global,
+    grid: &Grid<S>,
+    cache: &mut Option<Cache>,
+    cap: &Cap,
+    case: &Case<'_>,
+) -> Result<String, NoAnswer> {
+    let Some(verify_cap) = weaken(cap) else {
+        return Err(NoAnswer::Word(2));
+    };
+    let cache = held(alloc, cache)?;
+    let was_left = cache.check_ahead(alloc, grid, &verify_cap.fields);
+    let mut is_left = was_left;
+    for _ in 0..case.number(3)? {
+        if is_left {
+            is_left = cache.check_ahead(alloc, grid, &verify_cap.fields);
+        }
+    }
+    debug(alloc, &(was_left, is_left))
 }

@@ -59,7 +59,7 @@ fn found_of(alloc: Global, grid: &mut Grid<Liar>, cap: &Cap) -> Result<String, N
     };
     let read = read(alloc, grid, &mut Cache::new(alloc)?, fields).err();
     let begun = begin(alloc, grid, &mut Cache::new(alloc)?, fields).err();
-    let found = check(alloc, grid, &verify_cap, true)?;
+    let found = check(alloc, grid, &mut Cache::new(alloc)?, &verify_cap, true)?;
     debug(alloc, &(read, begun, found.good, found.corrupt.len()))
 }
 

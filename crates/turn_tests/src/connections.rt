@@ -1,5 +1,5 @@
 //! Connections one after the other, over streams and over sockets.
-use crate::streams::{breaking, interrupted, narrow};
+use crate::slow::{breaking, interrupted, narrow};
 use gate_core::Gateway;
 use gate_flow::FlowFault;
 use gate_tasks::{MemGateway, make_stores, serve_on, turns};

@@ -3,6 +3,8 @@
 //! with them and without, so they stand in a crate of their own. The program itself does nothing.
 #![tactic(auto)]
 
+/// Readers and writers that are slow, are interrupted, or fail.
+mod slow;
 /// Connections one after the other, over streams and over sockets.
 #[cfg(test)]
 mod connections;

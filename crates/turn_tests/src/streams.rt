@@ -1,42 +1,10 @@
 //! Scripts over readers and writers that end, fail or are interrupted.
+use crate::slow::{breaking, interrupted, narrow};
 use gate_tasks::{ScriptFault, run_script};
-use octets::fakes::{AtTheEnd, SlowReader, SlowWriter};
-use std::alloc::Global;
+use octets::fakes::{AtTheEnd, SlowWriter};
 use std::io::{self, BufRead, BufReader};
 use std::process::Abort;
 use std::test::Fail;
-
-/// A reader of these bytes that then fails.
-pub fn breaking(bytes: &[u8]) -> SlowReader<'_> {
-    SlowReader {
-        bytes,
-        at_a_time: usize::MAX,
-        interrupts: None,
-        fails: true,
-    }
-}
-
-/// A reader of these bytes that is interrupted before each of them.
-pub fn interrupted(bytes: &[u8]) -> SlowReader<'_> {
-    SlowReader {
-        bytes,
-        at_a_time: 1,
-        interrupts: Some(true),
-        fails: false,
-    }
-}
-
-/// A writer that takes so many bytes, three at a time, and then fails.
-pub fn narrow(alloc: Global, room: usize) -> SlowWriter {
-    SlowWriter {
-        held: Vec::new(alloc),
-        room,
-        at_a_time: 3,
-        interrupts: None,
-        at_the_end: AtTheEnd::Fails,
-        flushes: true,
-    }
-}
 
 /// Compares what a script comes to that is read from this reader.
 fn runs<R: BufRead>(

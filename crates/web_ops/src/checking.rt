@@ -40,7 +40,7 @@ pub fn check<S: Store>(
         return failure_reply(alloc, Failure::NotReadable);
     }
     match walk(alloc, grid, cache, cap, names) {
-        Ok(end) => health(alloc, grid, &end, verify, mapped),
+        Ok(end) => health(alloc, grid, cache, &end, verify, mapped),
         Err(fault) => walk_refused(alloc, &fault),
     }
 }
@@ -52,22 +52,25 @@ fn leads_nowhere(cap: &Cap, names: &Names) -> bool
     is_verify_cap(cap) && names.as_slice().len() != 0
 }
 
-/// How healthy what a cap names is. What stands in its cap is healthy.
+/// How healthy what a cap names is. What stands in its cap is healthy. Of the cache only what was prepared for a check is
+/// used.
 fn health<S: Store>(
     alloc: Global,
     grid: &mut Grid<S>,
+    cache: &mut Cache,
     cap: &Cap,
     verify: bool,
     mapped: bool,
 ) -> Result<Reply, AllocError>
     ensures stamped { IsStamped grid.old grid.new }
+    ensures cached { cache.new ≡ cache.old }
     ensures found { IsFound ⊤ (IsHealth mapped (weakened cap.now))
         (λ look. health_reply mapped look verify cap.now) result grid.old grid.new }
 {
     let Some(verify_cap) = weaken(cap) else {
         return Ok(json_reply(literal_check_json(alloc)?));
     };
-    let health = chk_file::check(alloc, grid, &verify_cap, verify)?;
+    let health = chk_file::check(alloc, grid, cache, &verify_cap, verify)?;
     let text = health_json(alloc, &verify_cap.fields.si, &health, mapped)?;
     Ok(json_reply(text))
 }

@@ -3,6 +3,8 @@
 //! program itself does nothing.
 #![tactic(auto)]
 
+/// A path of one name.
+mod only_name;
 /// What no script shows.
 #[cfg(test)]
 mod unseen;

@@ -1,11 +1,12 @@
 //! What no script of `script_tests` shows: the number and the words of a framing fault, since many have one reply; a file
 //! larger than any store; texts that no request line holds; a missing child's name; and the room of a buffer.
+use crate::only_name::only_name;
 use caps::{Cap, parse};
 use chk_file::Cache;
 use grid::Grid;
 use http_edge::{Conn, FramingFault, Item, Reply, ReplyFields, Status, render_into};
-use octets::{Bytes, Text};
-use path_walk::{Names, PathFault, WalkFault, names, walk};
+use octets::Bytes;
+use path_walk::{PathFault, WalkFault, names, walk};
 use range_view::{Resolved, resolve};
 use share_store::MemStore;
 use std::alloc::Global;
@@ -183,10 +184,9 @@ fn end_of(alloc: Global, cap: &Cap) -> Result<String, Fail> {
     let mut stores = Vec::new(alloc);
     stores.push(MemStore::new(alloc, 0))?;
     let mut grid = Grid::new(stores);
-    let mut list = Vec::new(alloc);
-    list.push(Text::from_string(String::from_str(alloc, "b")?))?;
+    let names = only_name(alloc, "b")?;
     let mut cache = Cache::new(alloc)?;
-    match walk(alloc, &mut grid, &mut cache, cap, &Names::from_vec(list)) {
+    match walk(alloc, &mut grid, &mut cache, cap, &names) {
         Ok(_) => Err(Fail::from("a child")),
         Err(WalkFault::NoChild(name)) => Ok(format!(in alloc; "no such child {}", name.as_str())?),
         Err(fault) => Ok(format!(in alloc; "{fault}")?),

@@ -16,26 +16,26 @@ returns-in-Some c =
     let ueb = c.args.ueb.now in
     let number = c.args.number in
     let lent : List (ℕ × List ℕ) = c.args.places.now in
-    let at : ℕ = c.loop-bytes.bytes-index in
-    let item : ℕ × List ℕ = c.loop-bytes-item.result in
-    let inside : at < length lent = c.loop-bytes-test.true in
+    let at : ℕ = c.loop-server.server-index in
+    let item : ℕ × List ℕ = c.loop-server-item.result in
+    let inside : at < length lent = c.loop-server-test.true in
     let within : at < length (places_of lent) = (let h = length-map lent view in omega arith) in
-    let here : view item ≡ get_or (places_of lent) at (view item) = ap view c.loop-bytes-item.is ∙ sym (get_or-map view lent at item (view item) inside) in
+    let here : view item ≡ get_or (places_of lent) at (view item) = ap view c.loop-server-item.is ∙ sym (get_or-map view lent at item (view item) inside) in
     sym (first_found p ueb number (places_of lent) at (view item) c.in-Some.share within here
-    (ap (first_good p ueb number) (take-map view at lent) ∙ c.loop-bytes.invariant)
+    (ap (first_good p ueb number) (take-map view at lent) ∙ c.loop-server.invariant)
     (ap (λ b. good_share b number p ueb) (sym c.bytes.ensures) ∙ sym c.in_ok-share.ensures ∙ c.in-Some.is))
 
-pub loop-bytes-preserved : goal.loop-bytes-preserved
-loop-bytes-preserved c =
+pub loop-server-preserved : goal.loop-server-preserved
+loop-server-preserved c =
     let p = c.args.params.now in
     let ueb = c.args.ueb.now in
     let number = c.args.number in
     let lent : List (ℕ × List ℕ) = c.args.places.now in
-    let at : ℕ = c.loop-bytes.bytes-index in
-    let item : ℕ × List ℕ = c.loop-bytes-item.result in
+    let at : ℕ = c.loop-server.server-index in
+    let item : ℕ × List ℕ = c.loop-server-item.result in
     let judged : good_share (get_or lent at item).1 number p ueb ≡ None =
-    ap (λ (place : ℕ × List ℕ). good_share place.1 number p ueb) (sym c.loop-bytes-item.is)
+    ap (λ (place : ℕ × List ℕ). good_share place.1 number p ueb) (sym c.loop-server-item.is)
     ∙ ap (λ b. good_share b number p ueb) (sym c.bytes.ensures) ∙ sym c.in_ok-share.ensures ∙ c.in_default.is in
-    ap (first_good p ueb number) (map_more view lent at item c.loop-bytes-test.true)
+    ap (first_good p ueb number) (map_more view lent at item c.loop-server-test.true)
     ∙ first_more p ueb number (places_of (take at lent)) (view (get_or lent at item))
-    ∙ (λ i. option_or (c.loop-bytes.invariant i) (judged i))
+    ∙ (λ i. option_or (c.loop-server.invariant i) (judged i))

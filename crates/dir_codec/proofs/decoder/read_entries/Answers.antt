@@ -4,7 +4,8 @@ use Rattle.std.proofs.lemmas.Result.{err_from_is_err_and}
 use Rattle.dir_codec.specs.Entries.{last_name}
 use Rattle.dir_codec.specs.Reading.{reading_after, directory_reading}
 use Rattle.dir_codec.proofs.Above.{last_of_more, one_more_above}
-use Rattle.dir_codec.proofs.Steps.{after_those, after_one_more, read_all}
+use Rattle.dir_codec.specs.Sought.{after_those}
+use Rattle.dir_codec.proofs.Steps.{after_one_more, read_all}
 use Rattle.dir_codec.proofs.decoder.read_entries.Goals as goal
 
 pub returns-in_err-entry-clause-err : goal.returns-in_err-entry-clause-err

@@ -1,7 +1,7 @@
 use Rattle.std.proofs.Common.{◌≡◌, [], length}
 use Rattle.dir_codec.specs.Entries.{last_name, AreEntriesAbove}
 use Rattle.dir_codec.specs.Reading.{reading_after}
-use Rattle.dir_codec.proofs.Steps.{after_those}
+use Rattle.dir_codec.specs.Sought.{after_those}
 use Rattle.dir_codec.proofs.decoder.read_entries.Given as goal
 
 abbrev pub invariant-loop-rest : goal.invariant-loop-rest

@@ -1,6 +1,6 @@
 use Rattle.std.proofs.Common.{rules}
 use Rattle.std.proofs.lemmas.Fn.{always_returns_same}
-use Rattle.dir_codec.proofs.Finding.{compared, searched}
+use Rattle.dir_codec.proofs.Halves.{compared, searched}
 use Rattle.dir_codec.proofs.directory.place_of.Goals as goal
 
 pub returns : goal.returns

@@ -1,4 +1,5 @@
-use Rattle.std.proofs.Common.{length, sym, ◌∙◌}
+use Rattle.std.proofs.Common.{List, length, sym, subst, ◌∙◌}
+use Rattle.chk_file.specs.Cached.{CacheEntry, IsCacheCurrent}
 use Rattle.std.specs.Prelude.{⊤, ◌==◌, ◌&&◌, not}
 use Rattle.caps.specs.Weakening.{weakened}
 use Rattle.caps.specs.Kinds.{is_verify_cap}
@@ -16,7 +17,8 @@ returns-in-Ok-clause-found g c =
 
 pub returns-in-Ok-clause-fresh : goal.returns-in-Ok-clause-fresh
 returns-in-Ok-clause-fresh g c fresh =
-    fresh_stays c.walk.new.cache c.walk.new.grid c.health.new.grid c.health.ensures.found.leaves c.health.ensures.stamped (c.walk.ensures.fresh fresh)
+    subst (λ (entries : List CacheEntry). IsCacheCurrent entries c.health.new.grid) (sym c.health.ensures.cached)
+    (fresh_stays c.walk.new.cache c.walk.new.grid c.health.new.grid c.health.ensures.found.leaves c.health.ensures.stamped (c.walk.ensures.fresh fresh))
 
 pub returns-in-Err-clause-found : goal.returns-in-Err-clause-found
 returns-in-Err-clause-found g c =

@@ -1,4 +1,5 @@
-use Rattle.std.proofs.Common.{◌≡◌, ◌⊎◌, List, Contains, subst}
+use Rattle.std.proofs.Common.{◌≡◌, ◌⊎◌, List, ◌++◌, Contains, subst}
+use Rattle.std.specs.Option.{option_to_list}
 use Rattle.chk_file.specs.Cached.{CacheEntry}
 use Rattle.chk_file.specs.Seen.{cache_entries, pinned_entries}
 use Rattle.chk_file.proofs.CacheEntries.{within_pinned, bound_within_or}
@@ -8,12 +9,14 @@ pub invariant_of-self : goal.invariant_of-self
 invariant_of-self c =
     let kept : List CacheEntry = cache_entries c.self.inside.kept.entries in
     let old : List CacheEntry = pinned_entries c.self.inside.pinned in
+    let rest : List CacheEntry = c.self.inside.steps ++ option_to_list c.self.inside.looking in
     let put : CacheEntry = (c.args.fields, (c.args.stamp, c.args.shares.left)) in
-    (bound_within_or _ _ put (within_pinned kept old put) c.requires.bound c.self.invariant.0, c.requires.segments)
+    (bound_within_or _ _ put (within_pinned kept old rest put) c.requires.bound c.self.invariant.0, c.requires.segments)
 
 pub returns : goal.returns
 returns c entry there =
     let kept : List CacheEntry = cache_entries c.self.inside.kept.entries in
     let old : List CacheEntry = pinned_entries c.self.inside.pinned in
+    let rest : List CacheEntry = c.self.inside.steps ++ option_to_list c.self.inside.looking in
     let put : CacheEntry = (c.args.fields, (c.args.stamp, c.args.shares.left)) in
-    subst (λ entries. Contains entries entry ⊎ (entry ≡ put)) c.self.view_is (within_pinned kept old put entry there)
+    subst (λ entries. Contains entries entry ⊎ (entry ≡ put)) c.self.view_is (within_pinned kept old rest put entry there)

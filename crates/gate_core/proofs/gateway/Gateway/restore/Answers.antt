@@ -1,9 +1,10 @@
-use Rattle.std.proofs.Common.{length, vec_len, ◌∙◌, ap, sym, Err}
+use Rattle.std.proofs.Common.{length, vec_len, ◌∙◌, ap, sym, subst, Err}
 use Rattle.grid.specs.ImageReading.{image_said}
 use Rattle.gate_core.specs.ConnectionState.{State}
 use Rattle.gate_core.proofs.Arrivals.{inner_fault, fault_told}
 use Rattle.gate_core.proofs.Isolating.{isolates_first}
-use Rattle.grid.specs.GridState.{states}
+use Rattle.grid.specs.GridState.{GridState, states, NoneFailed}
+use Rattle.grid.specs.Leaves.{TakesRoom}
 use Rattle.gate_core.proofs.gateway.Gateway.restore.Goals as goal
 
 pub returns-in-Err-clause-bad_image : goal.returns-in-Err-clause-bad_image
@@ -37,3 +38,13 @@ returns-in-Err-clause-down g c server e =
       leaves = refused.leaves;
       rose = (refused.down server).0 (ap Err (inner_fault c.in-Err.fault _ e));
     }
+
+pub returns-in-Ok-over-clause-none_failed : goal.returns-in-Ok-over-clause-none_failed
+returns-in-Ok-over-clause-none_failed g c =
+    subst (λ (x : GridState). NoneFailed (states g.S.Store.shares g.S.Store.room g.S.Store.held g.S.Store.failures g.S.Store.honest g.S.Store.history c.args.stores.items) x)
+    (sym (ap (λ (s : State). s.grid) c.in-Ok-over.ensures)) c.in-Ok-read_image.ensures.none_failed
+
+pub returns-in-Ok-over-clause-rooms : goal.returns-in-Ok-over-clause-rooms
+returns-in-Ok-over-clause-rooms g c all =
+    subst (λ (x : GridState). TakesRoom (states g.S.Store.shares g.S.Store.room g.S.Store.held g.S.Store.failures g.S.Store.honest g.S.Store.history c.args.stores.items) x)
+    (sym (ap (λ (s : State). s.grid) c.in-Ok-over.ensures)) (c.in-Ok-read_image.ensures.rooms all)

@@ -1,0 +1,75 @@
+-- What is kept of names that are looked up, among the entries of a cache.
+use Rattle.std.proofs.Common.{ℕ, zero, suc, inl, inr, List, [], ◌∷◌, ◌++◌, map, set, Contains, Option, Some, None, IfSome, sym, subst}
+use Rattle.std.proofs.lemmas.List.{map-set}
+use Rattle.std.proofs.lemmas.List.Elements.{Contains-append_left, Contains-append_right}
+use Rattle.std.specs.Option.{option_to_list}
+use Rattle.lru.proofs.Splits.{Contains-head, Contains-tail, Contains-cons, Contains-nil}
+use Rattle.chk_file.specs.Cached.{CacheEntry, IsWithin, IsWithinOr}
+use Rattle.chk_file.proofs.CacheEntries.{within_or_beside, within_behind, within_or_behind}
+
+-- what was found, or one that is looked through, among all
+pub among_steps : (kept pinned steps looking : List CacheEntry) (entry : CacheEntry) → Contains steps entry → Contains (kept ++ (pinned ++ (steps ++ looking))) entry
+among_steps kept pinned steps looking entry there =
+    Contains-append_right kept (pinned ++ (steps ++ looking)) entry (Contains-append_right pinned (steps ++ looking) entry (Contains-append_left steps looking entry there))
+
+pub among_looking : (kept pinned steps looking : List CacheEntry) (entry : CacheEntry) → Contains looking entry → Contains (kept ++ (pinned ++ (steps ++ looking))) entry
+among_looking kept pinned steps looking entry there =
+    Contains-append_right kept (pinned ++ (steps ++ looking)) entry (Contains-append_right pinned (steps ++ looking) entry (Contains-append_right steps looking entry there))
+
+-- what changes among the steps, or of what is looked through, changes the cache so
+pub within_or_steps : (kept pinned old new looking : List CacheEntry) (put : CacheEntry) → IsWithinOr old new put
+    → IsWithinOr (kept ++ (pinned ++ (old ++ looking))) (kept ++ (pinned ++ (new ++ looking))) put
+within_or_steps kept pinned old new looking put within =
+    within_or_behind kept (pinned ++ (old ++ looking)) (pinned ++ (new ++ looking)) put (within_or_behind pinned (old ++ looking) (new ++ looking) put (within_or_beside old new looking put within))
+
+pub none_left_within : (kept pinned steps old : List CacheEntry) → IsWithin (kept ++ (pinned ++ (steps ++ old))) (kept ++ (pinned ++ (steps ++ [])))
+none_left_within kept pinned steps old =
+    within_behind kept (pinned ++ (steps ++ old)) (pinned ++ (steps ++ [])) (within_behind pinned (steps ++ old) (steps ++ []) (within_behind steps old [] (λ entry there. absurd (Contains-nil entry there))))
+
+pub one_put_within : (kept pinned steps old : List CacheEntry) (put : CacheEntry) → IsWithinOr (kept ++ (pinned ++ (steps ++ old))) (kept ++ (pinned ++ (steps ++ put ∷ []))) put
+one_put_within kept pinned steps old put =
+    within_or_behind kept (pinned ++ (steps ++ old)) (pinned ++ (steps ++ put ∷ [])) put
+    (within_or_behind pinned (steps ++ old) (steps ++ put ∷ []) put (within_or_behind steps old (put ∷ []) put only))
+  where
+    only : IsWithinOr old (put ∷ []) put
+    only entry there = elim (Contains-cons put [] entry there) [
+      | inl is ↦ inr (sym is)
+      | inr later ↦ absurd (Contains-nil entry later)
+    ]
+
+-- of what there may be
+pub some_so : {A : Type 0} (P Q : A → Type 0) (o : Option A) → ((a : A) → P a → Q a) → IfSome o P → IfSome o Q
+some_so P Q None f h = tt
+some_so P Q (Some a) f h = f a h
+
+-- an entry that was taken out of a cache, or stands in it, and is put back
+pub put_back : (old mid new : List CacheEntry) (put : CacheEntry) → IsWithin old mid → Contains old put → IsWithinOr mid new put → IsWithin old new
+put_back old mid new put within there or entry is = elim (or entry is) [
+  | inl stood ↦ within entry stood
+  | inr same ↦ subst (Contains old) (sym same) there
+]
+
+pub within_both : (old mid new : List CacheEntry) → IsWithin old mid → IsWithin mid new → IsWithin old new
+within_both old mid new a b entry there = a entry (b entry there)
+
+pub looking_there : (kept pinned steps : List CacheEntry) (o : Option CacheEntry) → IfSome o (Contains (kept ++ (pinned ++ (steps ++ option_to_list o))))
+looking_there kept pinned steps None = tt
+looking_there kept pinned steps (Some looking) = among_looking kept pinned steps (looking ∷ []) looking (Contains-head looking [])
+
+-- one takes the place of another
+pub set_within : (old : List CacheEntry) (at : ℕ) (put : CacheEntry) → IsWithinOr old (set old at put) put
+set_within [] at put entry there = absurd (Contains-nil entry there)
+set_within (first ∷ old) zero put entry there = elim (Contains-cons put old entry there) [
+  | inl is ↦ inr (sym is)
+  | inr later ↦ inl (Contains-tail first old entry later)
+]
+set_within (first ∷ old) (suc at) put entry there = elim (Contains-cons first (set old at put) entry there) [
+  | inl is ↦ inl (subst (Contains (first ∷ old)) is (Contains-head first old))
+  | inr later ↦ elim (set_within old at put entry later) [
+    | inl stood ↦ inl (Contains-tail first old entry stood)
+    | inr is ↦ inr is
+  ]
+]
+
+pub set_within_mapped : {A : Type 0} (f : A → CacheEntry) (old : List A) (at : ℕ) (put : A) → IsWithinOr (map f old) (map f (set old at put)) (f put)
+set_within_mapped f old at put = subst (λ (new : List CacheEntry). IsWithinOr (map f old) new (f put)) (sym (map-set f old at put)) (set_within (map f old) at (f put))

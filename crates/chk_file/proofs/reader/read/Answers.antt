@@ -1,9 +1,0 @@
-use Rattle.grid.proofs.Turns.{stamped_unchanged}
-use Rattle.chk_file.proofs.Freshness.{fresh_stays}
-use Rattle.chk_file.proofs.reader.read.Goals as goal
-
-pub returns-then-fields-gt-MOST_KEPT-clause-fresh : goal.returns-then-fields-gt-MOST_KEPT-clause-fresh
-returns-then-fields-gt-MOST_KEPT-clause-fresh g c =
-    let old = c.args.grid.now in
-    let new = c.read_stores.new.grid in
-    fresh_stays c.args.cache.now old new c.read_stores.ensures.leaves (stamped_unchanged old new c.read_stores.ensures.stamps c.read_stores.ensures.unchanged)

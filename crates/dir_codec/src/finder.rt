@@ -1,0 +1,152 @@
+//! Looking a name up in a directory text, some entries at a time.
+ghost use Rattle.std.specs.Prelude.{◌≡◌, ℕ, List, IfOk};
+ghost use Rattle.dir_codec.specs.Sought.{sought_of, sought_in, IsFinding, IsFoundOn, IsAhead};
+
+use crate::entries::read_first;
+use crate::entry::Entry;
+use crate::fault::is_memory;
+use caps::Cap;
+use octets::Text;
+use std::alloc::{AllocError, Global};
+
+/// How many bytes of entries one step reads. Its last entry may end behind them.
+const STEP_BYTES: usize = 65_536;
+
+/// What is found under a name in bytes that are to be a directory text.
+#[derive(Debug, Drop)]
+pub enum Sought {
+    /// The cap of the child of that name.
+    Child(Cap),
+    /// The bytes are a directory text, and no child has that name.
+    NoChild,
+    /// The bytes are no directory text.
+    NoDirectory,
+}
+
+/// A name that is looked for in a directory text, some entries at a time. The whole text is judged, also behind the
+/// child.
+#[derive(Debug, Drop)]
+pub struct Finder {
+    /// The name that is looked for.
+    name: Text,
+    /// The name of the last entry that was read, the empty one where there is none.
+    last: Text,
+    /// How many bytes of the text were read.
+    at: usize,
+    /// The cap of the first entry of that name among those that were read.
+    found: Option<Cap>,
+}
+
+/// How far a finder is.
+#[derive(Debug, Drop)]
+pub enum Finding {
+    /// More of the text is to be read.
+    Going(Finder),
+    /// The whole text is judged, or a fault was met.
+    Done(Sought),
+}
+
+impl Finder {
+    /// A finder of a name, before the first entry.
+    ///
+    /// # Errors
+    /// `AllocError` where memory is refused.
+    pub fn new(alloc: Global, name: &str) -> Result<Finder, AllocError>
+        ensures { IfOk result (λ finder. (text : List ℕ) → IsFinding name.now text finder) }
+    {
+        Ok(Finder {
+            name: Text::from_string(String::from_str(alloc, name)?),
+            last: Text::from_string(String::new(alloc)),
+            at: 0,
+            found: None,
+        })
+    }
+
+    /// With the next entries read, some 65,536 bytes of them or one longer entry: whole entries, until they take that
+    /// many bytes or the text ends. The text has to be the same at each step.
+    ///
+    /// # Errors
+    /// `AllocError` where memory is refused, and never for what the text says.
+    pub fn step(self, alloc: Global, text: &[u8]) -> Result<Finding, AllocError>
+        ensures found { IfOk result (λ finding. (name : List ℕ) → IsFinding name text.now self
+            → IsFoundOn name text.now finding) }
+        ensures ahead { IfOk result (λ finding. IsAhead self finding) }
+    {
+        let start = self.at;
+        let mut finder = self;
+        while finder.at - start < STEP_BYTES {
+            match finder.with_next(alloc, text)? {
+                Finding::Going(next) => finder = next,
+                Finding::Done(sought) => return Ok(Finding::Done(sought)),
+            }
+        }
+        Ok(Finding::Going(finder))
+    }
+
+    /// With the next entry read, or done where none is left.
+    fn with_next(self, alloc: Global, text: &[u8]) -> Result<Finding, AllocError>
+        ensures found { IfOk result (λ finding. (name : List ℕ) → IsFinding name text.now self
+            → IsFoundOn name text.now finding) }
+        ensures ahead { IfOk result (λ finding. IsAhead self finding) }
+    {
+        let Finder {
+            name,
+            last,
+            at,
+            found,
+        } = self;
+        if at >= text.len() {
+            return Ok(Finding::Done(sought_of(found)));
+        }
+        match read_first(alloc, last.as_str().as_bytes(), &text[at..]) {
+            Ok((entry, size)) => {
+                let Entry {
+                    name: read,
+                    cap,
+                    metadata: _,
+                } = entry;
+                let is_sought = read.as_str() == name.as_str();
+                Ok(Finding::Going(Finder {
+                    name,
+                    last: read,
+                    at: at + size,
+                    found: found.or(is_sought.then_some(cap)),
+                }))
+            }
+            Err(fault) => {
+                if is_memory(&fault) {
+                    Err(AllocError)
+                } else {
+                    Ok(Finding::Done(Sought::NoDirectory))
+                }
+            }
+        }
+    }
+}
+
+/// What is found under the name, where the whole text was read.
+fn sought_of(found: Option<Cap>) -> Sought
+    ensures { result ≡ sought_of found }
+{
+    match found {
+        Some(cap) => Sought::Child(cap),
+        None => Sought::NoChild,
+    }
+}
+
+/// What is found under a name in the directory whose text this is: all of it is judged, one pass, and no directory is
+/// built.
+///
+/// # Errors
+/// `AllocError` where memory is refused, and never for what the text says.
+pub fn find_child(alloc: Global, text: &[u8], name: &str) -> Result<Sought, AllocError>
+    ensures { IfOk result (λ sought. sought ≡ sought_in name.now text.now) }
+{
+    let mut finder = Finder::new(alloc, name)?;
+    'entries: loop {
+        match finder.step(alloc, text)? {
+            Finding::Going(next) => finder = next,
+            Finding::Done(sought) => return Ok(sought),
+        }
+    }
+}
