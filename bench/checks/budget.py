@@ -19,7 +19,7 @@ import time
 
 HERE = os.path.dirname(os.path.abspath(__file__))
 sys.path.insert(0, os.path.join(HERE, "../tools"))
-from server import Client, built, fail, wozhinnam  # noqa: E402
+from server import Client, as_installed, built, fail, wozhinnam  # noqa: E402
 
 BUDGET = 64 * 1024 * 1024
 BODY = 16 * 1024 * 1024
@@ -120,7 +120,7 @@ def main():
     reader.add_argument("--whole", type=int, default=16)
     given = reader.parse_args()
     sys.argv = sys.argv[:1] + ([given.program] if given.program else [])
-    server = wozhinnam(built("wozhinnam"), "--store", "mem:4G", "--shares", "1,1", "--memory", str(BUDGET), control=True)
+    server = wozhinnam(built("wozhinnam"), "--store", "mem:4G", "--shares", "1,1", "--memory", str(BUDGET), control=True, env=as_installed())
     Client(server.address).put(b"x" * 1000)
     empty = server.memory()
 

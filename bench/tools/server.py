@@ -146,6 +146,13 @@ def wozhinnam(program, *options, control=False, **how):
     return started(Server(serve_words(program, *options, control=control), control, **how))
 
 
+def as_installed():
+    """The environment of this process, with what the unit of `install/` sets for the C library's memory."""
+    with open(os.path.join(os.path.dirname(os.path.abspath(__file__)), "../../install/wozhinnam.service")) as unit:
+        words = [line.strip().partition("Environment=")[2] for line in unit if line.startswith("Environment=MALLOC_")]
+    return dict(os.environ, **dict(word.split("=") for word in words))
+
+
 def serve_words(program, *options, control=False):
     return [program, "serve", "--listen", "127.0.0.1:0"] + (["--control", "127.0.0.1:0"] if control else []) + list(options)
 
