@@ -213,23 +213,29 @@ fn eager(
 
 #[test]
 fn a_reader_that_takes_nothing_is_cut(rt: HostRuntime) -> Result<(), Fail> {
-    assert!(rt; is_cut(&rt, gateway(rt.alloc())?)?);
+    let (mut many, request) = with_a_large_file(rt.alloc())?;
+    assert!(rt; is_cut(&rt, &mut many, &request)?);
     Ok(())
+}
+
+/// A lobby with a file of 4 MiB, and the request for it.
+fn with_a_large_file(alloc: Global) -> Result<(Lobby<MemStore>, Vec<u8>), Fail> {
+    let mut many = gateway(alloc)?;
+    let request = large_request(alloc, &mut many)?;
+    Ok((Lobby::new(many), request))
 }
 
 /// Whether a client is cut that asks for a large file eight times, and takes nothing.
 fn is_cut<R: Net<Stream = TcpStream> + Clock + CpuClock + AllocGlobal + Log>(
     rt: &R,
-    many: Gateway<MemStore>,
+    many: &mut Lobby<MemStore>,
+    request: &[u8],
 ) -> Result<bool, Fail> {
-    let mut many = many;
-    let request = large_request(rt.alloc(), &mut many)?;
-    let mut lobby = Lobby::new(many);
     let listener = listen(rt)?;
-    let stream = eager(rt, listener.local_addr()?, &request)?;
+    let stream = eager(rt, listener.local_addr()?, request)?;
     let mut limits = Limits::new(10, Duration::from_millis(300));
     limits.served = Some(1);
-    let counts = counts_on(rt, listener, &limits, &mut lobby)?;
+    let counts = counts_on(rt, listener, &limits, many)?;
     drop(stream);
     Ok(counts.late == 1 && counts.bytes_out > 0 && counts.bytes_out < 8 * 4_194_304)
 }

@@ -74,7 +74,7 @@ fn a_listing_is_the_same_where_it_is_prepared(rt: HostRuntime) -> Result<(), Fai
 fn listed(alloc: Global, is_prepared: bool) -> Result<Vec<u8>, Fail> {
     let mut gateway = with_directory(alloc)?;
     if is_prepared {
-        holds(steps_left(&mut gateway, 1, LIST) > 20, "nothing prepared")?;
+        holds(steps_left(&mut gateway, 1, LIST) > 10, "nothing prepared")?;
     }
     gateway.bytes(1, LIST)?;
     gateway.let_go_of(1);
