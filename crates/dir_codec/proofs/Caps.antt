@@ -26,4 +26,4 @@ cap_refused text r fault is (inr none) other =
 
 -- a cap that was read is read back from its text
 pub read_again : (text : List ℕ) (r : Result Cap CapFault) (cap : Cap) → ((cap : Cap) (text : List ℕ) → IsCapText cap text → text ≡ cap_text cap) → IsCapText cap text → r ≡ Ok cap → Answers text r → cap_reading (cap_text cap) ≡ Ok cap
-read_again text r cap one is_text is answer = ap cap_reading (sym (one cap text is_text)) ∙ cap_is text r cap is answer
+read_again text r cap one begins_text is answer = ap cap_reading (sym (one cap text begins_text)) ∙ cap_is text r cap is answer

@@ -1,5 +1,5 @@
 -- JSON that bytes are.
-use Rattle.std.proofs.Common.{◌≡◌, codes, ℕ, Bool, true, false, List, IsUtf8, Some, None, is_some, not, ◌≤◌, Option, refl, sym, ap, ◌∙◌, arith}
+use Rattle.std.proofs.Common.{◌≡◌, codes, ℕ, Bool, true, false, List, IsUtf8, Some, None, is_some, not, ◌≤◌, refl, sym, ap, arith}
 use Rattle.std.proofs.lemmas.Bool.{and_parts, leb-true}
 use Rattle.std.proofs.lemmas.Str.{is_utf8-from_IsUtf8, IsUtf8-from_is_utf8}
 use Rattle.std.specs.Str.{chars, is_utf8}
@@ -14,7 +14,7 @@ pub json_read : (bytes : List ℕ) (d : Data) → IsUtf8 bytes → read bytes �
 unfolding json_of
 json_read bytes d text is = rw (is_utf8-from_IsUtf8 bytes text) is
 
-not_true : (b : Bool) → not b ≡ true → b ≡ false
+pub not_true : (b : Bool) → not b ≡ true → b ≡ false
 not_true true h = sym h
 not_true false h = refl
 
@@ -41,7 +41,7 @@ unfolding spelling_of metadata_of
 spelled bytes d is good = rw (is, good)
 
 -- the text that is written for metadata is their spelling
-pub written : (d : Data) (text : List ℕ) → is_metadata d ≡ true → (has_float d ≡ false → text ≡ compact_text d) → text ≡ compact_text d
+written : (d : Data) (text : List ℕ) → is_metadata d ≡ true → (has_float d ≡ false → text ≡ compact_text d) → text ≡ compact_text d
 written d text good is =
     let whole = (and_parts (is_some (as_object d)) _ good).1 in
     is (not_true (has_float d) (and_parts (not (has_float d)) _ whole).0)
@@ -53,9 +53,6 @@ spells_itself d text utf8 good is back =
     let shallow = leb-true (depth d) 100 (and_parts (not (has_float d)) _ whole).1 in
     let read_back = json_read text d utf8 (back (omega (arith, shallow))) in
     rw (spelled text d read_back good) (ap Some (sym (written d text good is)))
-
-pub json_at : (bytes : List ℕ) (found : Option Data) → found ≡ json_of bytes → (d : Data) → found ≡ Some d → json_of bytes ≡ Some d
-json_at bytes found same d is = sym same ∙ is
 
 -- `{}` spells itself
 pub empty_spelled : spelling_of (codes "{}") ≡ Some (codes "{}")

@@ -1,4 +1,3 @@
-pub mod WholeLemmas
 pub mod Json
 pub mod Names
 pub mod Caps
@@ -10,12 +9,17 @@ pub mod Written
 pub mod Cuts
 pub mod Belong
 pub mod Ends
-pub mod Fields
 pub mod Making
+pub mod Outcomes
+pub mod ReadData
 pub mod SoundLemmas
 pub mod Printed
+pub mod AtFields
 pub mod Spellings
 pub mod Refused
 pub mod OneMember
+pub mod AtKeys
+pub mod PlainTexts
 pub mod OnePass
+pub mod ReadChildren
 pub mod Gathering

@@ -162,6 +162,6 @@ pub no_object : (json : List ℕ) (d : Data) → json_of json ≡ Some d → as_
 unfolding making
 no_object json d is none = ap (λ o. then_make (λ d. then_make (making_after []) (or_dir_fault BadShape (as_object d))) (or_dir_fault NotJson o)) is ∙ ap (λ o. then_make (making_after []) (or_dir_fault BadShape o)) none
 
-pub of_members : (json : List ℕ) (d : Data) (members : Members) → json_of json ≡ Some d → as_object d ≡ Some members → making json ≡ making_after [] members
+pub of_members : (json : List ℕ) (d : Data) (ms : Members) → json_of json ≡ Some d → as_object d ≡ Some ms → making json ≡ making_after [] ms
 unfolding making
-of_members json d members is some = ap (λ o. then_make (λ d. then_make (making_after []) (or_dir_fault BadShape (as_object d))) (or_dir_fault NotJson o)) is ∙ ap (λ o. then_make (making_after []) (or_dir_fault BadShape o)) some
+of_members json d ms is some = ap (λ o. then_make (λ d. then_make (making_after []) (or_dir_fault BadShape (as_object d))) (or_dir_fault NotJson o)) is ∙ ap (λ o. then_make (making_after []) (or_dir_fault BadShape o)) some

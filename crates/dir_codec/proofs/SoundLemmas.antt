@@ -7,10 +7,12 @@ use Rattle.std.specs.Float.{binary64, float_is_finite}
 use Rattle.std.specs.Ordering.{match_ordering, ordering_reverse}
 use Rattle.std.specs.Prelude.{⊤}
 use Rattle.fast_float.specs.Text.{minus, Parts, scan, digits_of, nearest, with_sign}
+use Rattle.json.specs.Token.{Token}
 use Rattle.json.specs.Lex.{tokens}
 use Rattle.json.specs.Json as json
 use Rattle.serde_json.specs.Data.{negative, Data, number, array, object, item, Members, no_members, member, put}
-use Rattle.serde_json.specs.Read.{is_integer, float_of, number_from, number_of, of_json, of_items, of_members, max_depth, read}
+use Rattle.serde_json.specs.Read.{is_integer, float_of, number_from, number_of, of_json, of_items, of_members, converted, max_depth, read}
+use Rattle.dir_codec.proofs.ReadData.{from_json}
 use Rattle.dir_codec.specs.Sound.{IsSoundNum, IsBelowAll, IsSound, ItemsAreSound, MembersAreSound}
 
 -- the fact, where there is a value
@@ -96,3 +98,6 @@ read_sound text d is =
     let o = option_and_then (λ p. json.if_last p.0 p.1) (json.value max_depth (tokens text)) in
     let whole = holds_then (λ _. ⊤) IsSound of_json (λ j _. json_sound j) o (any o) in
     subst (Holds IsSound) is whole
+
+pub converted_sound : (o : Option (json.Json × List Token)) (d : Data) (r : List Token) → converted of_json o ≡ Some (d, r) → IsSound d
+converted_sound o d r is = let j = from_json of_json o d r is in subst (Holds IsSound) j.2 (json_sound j.0)

@@ -14,4 +14,5 @@ pub mod Cuts
 pub mod Children
 pub mod MadeOf
 pub mod Named
+pub mod Kept
 pub mod Sound

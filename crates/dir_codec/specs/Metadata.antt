@@ -1,10 +1,10 @@
 -- Metadata of a directory's entries: JSON objects (RFC 8259, as `serde_json` reads it).
 use Rattle.std.specs.Prelude.{ℕ, ◌&&◌, not, nat_le, Bool, List, Option, Some, None, option_map, option_and_then, is_some, if◌then◌else◌}
 use Rattle.std.specs.Str.{is_utf8}
-use Rattle.serde_json.specs.Data.{Data, Items, Members, depth, items_depth, members_depth}
+use Rattle.serde_json.specs.Data.{Data, depth}
 use Rattle.serde_json.specs.Read.{read}
 use Rattle.serde_json.specs.Find.{as_object}
-use Rattle.serde_json.specs.Written.{has_float, items_have_float, members_have_float, compact_text}
+use Rattle.serde_json.specs.Written.{has_float, compact_text}
 
 -- the JSON that bytes are
 unfoldable pub json_of : List ℕ → Option Data
@@ -13,14 +13,6 @@ json_of bytes = if is_utf8 bytes then read bytes else None
 -- each number is a whole one of 64 bits, and arrays and objects nest at most so many levels
 abbrev pub is_whole : Data → ℕ → Bool
 is_whole d levels = not (has_float d) && nat_le (depth d) levels
-
--- for private clauses
-abbrev pub items_are_whole : Items → ℕ → Bool
-items_are_whole ds levels = not (items_have_float ds) && nat_le (items_depth ds) levels
-
--- for private clauses
-abbrev pub members_are_whole : Members → ℕ → Bool
-members_are_whole ms levels = not (members_have_float ms) && nat_le (members_depth ms) levels
 
 -- an object within these limits; `{}` is one level
 abbrev pub is_metadata : Data → Bool

@@ -1,5 +1,5 @@
 -- What one pass over the tokens of JSON writes; for private clauses.
-use Rattle.std.specs.Prelude.{◌≡◌, ℕ, ◌-◌, List, [], ◌∷◌, ◌++◌, length, Bool, true, false, ◌&&◌, ⊤, Option, Some, None, option_and_then, String, string_bytes}
+use Rattle.std.specs.Prelude.{◌≡◌, ℕ, max, List, [], ◌∷◌, ◌++◌, length, Bool, true, false, ◌||◌, ⊤, Option, Some, None, option_and_then, String, string_bytes}
 use Rattle.std.specs.Cmp.Lexicographic.{slice_cmp}
 use Rattle.std.specs.Ordering.{nat_cmp, is_lt}
 use Rattle.std.specs.Str.{IsUtf8}
@@ -7,31 +7,33 @@ use Rattle.std.specs.declared.alloc.Global.{Global}
 use Rattle.json.specs.Token.{Token}
 use Rattle.json.specs.Print.{quoted}
 use Rattle.json.specs.Json.{value, items, members, if_last}
-use Rattle.serde_json.specs.Data.{Data, Items, Members, no_members, member}
+use Rattle.serde_json.specs.Data.{Data, Items, Members, no_members, member, depth, items_depth, members_depth}
 use Rattle.serde_json.specs.Read.{of_json, of_items, of_members, converted, max_depth}
-use Rattle.serde_json.specs.Written.{comma_if, compact_text, items_text, members_text}
-use Rattle.dir_codec.specs.Metadata.{is_whole, items_are_whole, members_are_whole, is_metadata}
+use Rattle.serde_json.specs.Written.{has_float, items_have_float, members_have_float, comma_if, compact_text, items_text, members_text}
+use Rattle.dir_codec.specs.Metadata.{is_metadata}
+use Rattle.dir_codec.specs.declared.extent.Extent.{Extent}
 use Rattle.dir_codec.specs.declared.spelling.Spelled.{Spelled}
 
--- where `serde_json` reads so many levels more, metadata may have so many: it reads 127, and metadata have 100
-abbrev pub levels_left : ℕ → ℕ
-levels_left depth = depth - 27
+-- a value's extent: how many levels of arrays and objects it has, and whether a number in it is not a whole one
+abbrev pub IsExtent : Extent → ℕ → Bool → Type 0
+IsExtent extent levels fractional = (extent.levels ≡ levels) × (extent.fractional ≡ fractional)
 
--- the first of the tokens `old` are a value and `new` the rest; its spelling went behind `before`; `fits` says whether it may stand in metadata
-abbrev pub SpellsValue : ℕ → List Token → List Token → List ℕ → List ℕ → Bool → Type 0
-SpellsValue depth old new before after fits =
-    (d : Data) × (converted of_json (value depth old) ≡ Some (d, new)) × (after ≡ before ++ compact_text d) × (fits ≡ is_whole d (levels_left depth)) × IsUtf8 (compact_text d)
+-- the first of the tokens `old` are a value and `new` the rest; its spelling went behind `before`
+abbrev pub SpellsValue : ℕ → List Token → List Token → List ℕ → List ℕ → Extent → Type 0
+SpellsValue most old new before after extent =
+    (d : Data) × (converted of_json (value most old) ≡ Some (d, new)) × (after ≡ before ++ compact_text d) × IsExtent extent (depth d) (has_float d) × IsUtf8 (compact_text d)
 
 -- the same of an array's items
-abbrev pub SpellsItems : ℕ → List Token → List Token → List ℕ → List ℕ → Bool → Type 0
-SpellsItems depth old new before after fits =
-    (ds : Items) × (converted of_items (items (value depth) (length old) old) ≡ Some (ds, new)) × (after ≡ before ++ 91 ∷ items_text false ds) × (fits ≡ items_are_whole ds (levels_left depth)) × IsUtf8 (items_text false ds)
+abbrev pub SpellsItems : ℕ → List Token → List Token → List ℕ → List ℕ → Extent → Type 0
+SpellsItems most old new before after extent =
+    (ds : Items) × (converted of_items (items (value most) (length old) old) ≡ Some (ds, new)) × (after ≡ before ++ 91 ∷ items_text false ds) × IsExtent extent (items_depth ds) (items_have_float ds)
+    × IsUtf8 (items_text false ds)
 
 -- the same of an object's members
-abbrev pub SpellsMembers : ℕ → List Token → List Token → List ℕ → List ℕ → Bool → Type 0
-SpellsMembers depth old new before after fits =
-    (ms : Members) × (converted (λ j. of_members j no_members) (members (value depth) (length old) old) ≡ Some (ms, new)) × (after ≡ before ++ 123 ∷ members_text false ms)
-    × (fits ≡ members_are_whole ms (levels_left depth)) × IsUtf8 (members_text false ms)
+abbrev pub SpellsMembers : ℕ → List Token → List Token → List ℕ → List ℕ → Extent → Type 0
+SpellsMembers most old new before after extent =
+    (ms : Members) × (converted (λ j. of_members j no_members) (members (value most) (length old) old) ≡ Some (ms, new)) × (after ≡ before ++ 123 ∷ members_text false ms)
+    × IsExtent extent (members_depth ms) (members_have_float ms) × IsUtf8 (members_text false ms)
 
 -- the data that the tokens of a whole text are, as `read` of `serde_json` has it
 abbrev pub data_of : List Token → Option Data
@@ -48,21 +50,42 @@ abbrev pub begins_object : Token → Bool
 begins_object Token.begin_object = true
 begins_object _ = false
 
+abbrev pub begins_text : Token → Bool
+begins_text (Token.string s) = true
+begins_text _ = false
+
+abbrev pub begins_array : Token → Bool
+begins_array Token.begin_array = true
+begins_array _ = false
+
+-- values, each at its key, are of these members
+abbrev pub AreAt : {V : Type 0} → (List ℕ → Data → V → Type 0) → List (String Global × V) → Members → Type 0
+AreAt Is [] no_members = ⊤
+AreAt Is [] (member k d ms) = ⊥
+AreAt Is (e ∷ es) no_members = ⊥
+AreAt Is (e ∷ es) (member k d ms) = (string_bytes e.0 ≡ k) × Is k d e.1 × AreAt Is es ms
+
+-- a value, spelled
+abbrev pub IsSpelled : Spelled → Data → Type 0
+IsSpelled spelled d = (spelled.text.items ≡ compact_text d) × IsExtent spelled.extent (depth d) (has_float d) × IsUtf8 spelled.text.items
+
 -- spelled members, each at its key, are these members
-abbrev pub AreSpelled : ℕ → List (String Global × Spelled) → Members → Type 0
-AreSpelled levels [] no_members = ⊤
-AreSpelled levels [] (member k d ms) = ⊥
-AreSpelled levels (e ∷ es) no_members = ⊥
-AreSpelled levels (e ∷ es) (member k d ms) = (string_bytes e.0 ≡ k) × (e.1.text.items ≡ compact_text d) × (e.1.fits ≡ is_whole d levels) × IsUtf8 e.1.text.items × AreSpelled levels es ms
+abbrev pub AreSpelled : List (String Global × Spelled) → Members → Type 0
+AreSpelled es ms = AreAt (λ k d spelled. IsSpelled spelled d) es ms
 
 -- the text of spelled members, with the closing brace
 abbrev pub spelled_text : Bool → List (String Global × Spelled) → List ℕ
 spelled_text later [] = 125 ∷ []
 spelled_text later (e ∷ es) = comma_if later ++ (quoted (string_bytes e.0) ++ 58 ∷ (e.1.text.items ++ spelled_text true es))
 
-abbrev pub all_fit : List (String Global × Spelled) → Bool
-all_fit [] = true
-all_fit (e ∷ es) = e.1.fits && all_fit es
+-- the extent of spelled members, beside each other
+abbrev pub entries_levels : List (String Global × Spelled) → ℕ
+entries_levels [] = 0
+entries_levels (e ∷ es) = max e.1.extent.levels (entries_levels es)
+
+abbrev pub entries_fractional : List (String Global × Spelled) → Bool
+entries_fractional [] = false
+entries_fractional (e ∷ es) = e.1.extent.fractional || entries_fractional es
 
 -- the key is above the last one, where there is one
 abbrev pub rises : Option (List ℕ) → List ℕ → Bool

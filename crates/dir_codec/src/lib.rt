@@ -17,18 +17,26 @@ mod finder;
 /// From a directory to its text.
 mod encoder;
 /// From the JSON that a client names children with to their directory.
+mod children;
+/// What is made of a child in JSON.
 mod child;
+/// What is kept of a child in JSON.
+mod fields;
+/// Reads children JSON in one pass over its tokens.
+mod members;
 /// The four texts of an entry.
 mod parts;
 /// Metadata, and their one spelling.
 mod metadata;
 /// The one spelling of JSON, written while its tokens are read.
 mod spelling;
+/// How deep JSON nests, and whether all its numbers are whole.
+mod extent;
 
 /// What holds of directory texts.
 pub mod laws;
 
-pub use child::from_children_json;
+pub use children::from_children_json;
 pub use decoder::decode;
 pub use directory::Directory;
 pub use encoder::encode;

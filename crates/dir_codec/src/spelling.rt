@@ -1,18 +1,20 @@
 //! The one spelling of JSON, written while its tokens are read: no value of it is built.
-ghost use Rattle.std.specs.Prelude.{◌≡◌, ◌≢◌, ◌<◌, ◌==◌, [], ◌∷◌, ◌++◌, slice_index, string_bytes, IsTrue, length, MatchOption, nat_lt, not, true, false, Err, None, Some, IfOk, OnOk, option_map};
+ghost use Rattle.std.specs.Prelude.{◌≡◌, ◌≢◌, ◌<◌, ◌≤◌, ◌==◌, [], ◌∷◌, ◌++◌, slice_index, string_bytes, IsTrue, length, MatchOption, true, false, Err, None, Some, IfOk, OnOk, option_map};
 ghost use Rattle.std.specs.Bool.{MatchBool};
 ghost use Rattle.std.specs.Str.{IsUtf8};
 ghost use Rattle.json.specs.Lex.{tokens};
 ghost use Rattle.json.specs.Json.{value, items, members};
-ghost use Rattle.json.specs.Print.{IsPrintable, token_text};
+ghost use Rattle.json.specs.Print.{IsPrintable, quoted, token_text};
+ghost use Rattle.json.specs.Run.{is_plain};
+ghost use Rattle.std.specs.List.{list_all};
 ghost use Rattle.json.specs.Reads.{token_of};
 ghost use Rattle.serde_json.specs.Data.{Num, Members, no_members};
 ghost use Rattle.serde_json.specs.Find.{as_integer, is_float};
 ghost use Rattle.serde_json.specs.Read.{number_of, number_from, float_of, of_json, of_items, of_members, converted};
 ghost use Rattle.serde_json.specs.Written.{comma_if, number_text};
-ghost use Rattle.dir_codec.specs.Spelled.{levels_left, SpellsValue, SpellsItems, SpellsMembers, AreSpelled, SpellsMetadata, AreNoMetadata, begins_object, rises, spelled_text, all_fit};
+ghost use Rattle.dir_codec.specs.Spelled.{IsExtent, SpellsValue, SpellsItems, SpellsMembers, AreSpelled, SpellsMetadata, AreNoMetadata, begins_object, rises, spelled_text, entries_levels, entries_fractional};
 
-use crate::metadata::MOST_LEVELS;
+use crate::extent::Extent;
 use fast_float::Numeral;
 use json::{Invalid, Reader, Scratch, Token, Writer};
 use std::alloc::{AllocError, AllocFailed, Global};
@@ -75,13 +77,13 @@ impl From<Invalid> for Stop {
     }
 }
 
-/// A member's value, spelled.
+/// A value, spelled.
 #[derive(Debug, Drop)]
 pub(crate) struct Spelled {
     /// `serde_json`'s compact text, in which a number that isn't whole leaves nothing.
     pub(crate) text: Vec<u8>,
-    /// Whether each number is whole, and it nests no deeper than metadata may.
-    pub(crate) fits: bool,
+    /// Its extent.
+    pub(crate) extent: Extent,
 }
 
 /// The one spelling of the metadata that a text is, None where it is none. Where keys rise in each object, it takes
@@ -145,8 +147,8 @@ fn spell_metadata(
         return Ok(false);
     }
     match spell_members(alloc, reader, READ_LEVELS - 1, keys, out) {
-        Ok(fit) => match reader.next() {
-            None => Ok(fit),
+        Ok(extent) => match reader.next() {
+            None => Ok(extent.opened().fits()),
             Some(_) => Ok(false),
         },
         Err(Stop::NotJson) => Ok(false),
@@ -156,13 +158,13 @@ fn spell_metadata(
 }
 
 /// Whether a token opens an object.
-fn opens_object(token: Token<'_>) -> bool
+pub(crate) fn opens_object(token: Token<'_>) -> bool
     ensures { result ≡ begins_object (token_of token.entry) }
 {
     matches!(token, Token::BeginObject)
 }
 
-/// Spells the value that the next tokens are, and says whether it may stand in metadata.
+/// Spells the value that the next tokens are, and gives its extent.
 #[cycle(spell)]
 fn spell_value(
     alloc: Global,
@@ -170,41 +172,64 @@ fn spell_value(
     depth: usize,
     keys: Keys,
     out: &mut Vec<u8>,
-) -> Result<bool, Stop>
+) -> Result<Extent, Stop>
     ensures ok { IfOk result
-        (λ fits. SpellsValue depth reader.old reader.new out.old.items out.new.items fits) }
+        (λ extent. SpellsValue depth reader.old reader.new out.old.items out.new.items extent) }
+    ensures levels { IfOk result (λ extent. extent.levels ≤ depth) }
     ensures shorter { OnOk result (length reader.new < length reader.old) }
     ensures err { result ≡ Err Stop.NotJson → converted of_json (value depth reader.old) ≡ None }
     ensures order { keys ≡ Keys.Any → result ≢ Err Stop.NotRising }
 {
     let token = reader.next().ok_or(Stop::NotJson)?;
+    spell_token(alloc, reader, token, depth, keys, out)
+}
+
+/// Spells the value that a token and those behind it are, and gives its extent.
+#[cycle(spell)]
+pub(crate) fn spell_token(
+    alloc: Global,
+    reader: &mut Reader<'_>,
+    token: Token<'_>,
+    depth: usize,
+    keys: Keys,
+    out: &mut Vec<u8>,
+) -> Result<Extent, Stop>
+    requires { token ≢ Token.Bad → IsPrintable (token_of token) }
+    ensures ok { IfOk result (λ extent. SpellsValue depth (token_of token.entry ∷ reader.old)
+        reader.new out.old.items out.new.items extent) }
+    ensures levels { IfOk result (λ extent. extent.levels ≤ depth) }
+    ensures shorter { OnOk result (length reader.new ≤ length reader.old) }
+    ensures err { result ≡ Err Stop.NotJson
+        → converted of_json (value depth (token_of token.entry ∷ reader.old)) ≡ None }
+    ensures order { keys ≡ Keys.Any → result ≢ Err Stop.NotRising }
+{
     match token {
         Token::Null => {
             put(alloc, out, Token::Null)?;
-            Ok(true)
+            Ok(Extent::flat())
         }
         Token::Bool(b) => {
             put(alloc, out, Token::Bool(b))?;
-            Ok(true)
+            Ok(Extent::flat())
         }
         Token::String(text) => {
             put(alloc, out, Token::String(text))?;
-            Ok(true)
+            Ok(Extent::flat())
         }
         Token::Number(text) => spell_number(text, out),
         Token::BeginArray => {
             if depth == 0 {
                 return Err(Stop::NotJson);
             }
-            let fit = spell_items(alloc, reader, depth - 1, keys, out)?;
-            Ok(fit & may_open(depth))
+            let extent = spell_items(alloc, reader, depth - 1, keys, out)?;
+            Ok(extent.opened())
         }
         Token::BeginObject => {
             if depth == 0 {
                 return Err(Stop::NotJson);
             }
-            let fit = spell_members(alloc, reader, depth - 1, keys, out)?;
-            Ok(fit & may_open(depth))
+            let extent = spell_members(alloc, reader, depth - 1, keys, out)?;
+            Ok(extent.opened())
         }
         Token::EndObject | Token::EndArray | Token::Key(_) | Token::Bad => Err(Stop::NotJson),
     }
@@ -212,31 +237,32 @@ fn spell_value(
 
 /// Spells an array's items, with its brackets.
 #[cycle(spell)]
-fn spell_items(
+pub(crate) fn spell_items(
     alloc: Global,
     reader: &mut Reader<'_>,
     depth: usize,
     keys: Keys,
     out: &mut Vec<u8>,
-) -> Result<bool, Stop>
+) -> Result<Extent, Stop>
     ensures ok { IfOk result
-        (λ fit. SpellsItems depth reader.old reader.new out.old.items out.new.items fit) }
+        (λ extent. SpellsItems depth reader.old reader.new out.old.items out.new.items extent) }
+    ensures levels { IfOk result (λ extent. extent.levels ≤ depth) }
     ensures shorter { OnOk result (length reader.new < length reader.old) }
     ensures err { result ≡ Err Stop.NotJson
         → converted of_items (items (value depth) (length reader.old) reader.old) ≡ None }
     ensures order { keys ≡ Keys.Any → result ≢ Err Stop.NotRising }
 {
     out.push(b'[')?;
-    let mut fit = true;
+    let mut extent = Extent::flat();
     let mut later = false;
     'items: while !reader.take_end_array() {
         separate(out, later)?;
         later = true;
         let item = spell_value(alloc, reader, depth, keys, out)?;
-        fit = fit & item;
+        extent = extent.beside(item);
     }
     out.push(b']')?;
-    Ok(fit)
+    Ok(extent)
 }
 
 /// Spells an object's members, with its braces.
@@ -247,9 +273,10 @@ fn spell_members(
     depth: usize,
     keys: Keys,
     out: &mut Vec<u8>,
-) -> Result<bool, Stop>
+) -> Result<Extent, Stop>
     ensures ok { IfOk result
-        (λ fit. SpellsMembers depth reader.old reader.new out.old.items out.new.items fit) }
+        (λ extent. SpellsMembers depth reader.old reader.new out.old.items out.new.items extent) }
+    ensures levels { IfOk result (λ extent. extent.levels ≤ depth) }
     ensures shorter { OnOk result (length reader.new < length reader.old) }
     ensures err { result ≡ Err Stop.NotJson → converted (λ j. of_members j no_members)
         (members (value depth) (length reader.old) reader.old) ≡ None }
@@ -271,15 +298,16 @@ fn spell_rising(
     reader: &mut Reader<'_>,
     depth: usize,
     out: &mut Vec<u8>,
-) -> Result<bool, Stop>
+) -> Result<Extent, Stop>
     ensures ok { IfOk result
-        (λ fit. SpellsMembers depth reader.old reader.new out.old.items out.new.items fit) }
+        (λ extent. SpellsMembers depth reader.old reader.new out.old.items out.new.items extent) }
+    ensures levels { IfOk result (λ extent. extent.levels ≤ depth) }
     ensures shorter { OnOk result (length reader.new < length reader.old) }
     ensures err { result ≡ Err Stop.NotJson → converted (λ j. of_members j no_members)
         (members (value depth) (length reader.old) reader.old) ≡ None }
 {
     out.push(b'{')?;
-    let mut fit = true;
+    let mut extent = Extent::flat();
     let mut last: Option<&str> = None;
     'members: while let Some(name) = reader.next_key()? {
         if !rises(last, name) {
@@ -288,11 +316,11 @@ fn spell_rising(
         separate(out, last.is_some())?;
         put(alloc, out, Token::Key(name))?;
         let member = spell_value(alloc, reader, depth, Keys::Rising, out)?;
-        fit = fit & member;
+        extent = extent.beside(member);
         last = Some(name);
     }
     out.push(b'}')?;
-    Ok(fit)
+    Ok(extent)
 }
 
 /// An object's members, spelled, of equal keys the last.
@@ -305,7 +333,8 @@ fn gather_members(
     ensures ok { IfOk result (λ found. (ms : Members)
         × (converted (λ j. of_members j no_members)
         (members (value depth) (length reader.old) reader.old) ≡ Some (ms, reader.new))
-        × AreSpelled (levels_left depth) found.entries ms) }
+        × AreSpelled found.entries ms) }
+    ensures levels { IfOk result (λ found. entries_levels found.entries ≤ depth) }
     ensures shorter { OnOk result (length reader.new < length reader.old) }
     ensures err { result ≡ Err Stop.NotJson → converted (λ j. of_members j no_members)
         (members (value depth) (length reader.old) reader.old) ≡ None }
@@ -315,8 +344,8 @@ fn gather_members(
     'members: while let Some(name) = reader.next_key()? {
         let key = String::from_str(alloc, name)?;
         let mut text = Vec::new(alloc);
-        let fits = spell_value(alloc, reader, depth, Keys::Any, &mut text)?;
-        drop(found.insert(key, Spelled { text, fits })?);
+        let extent = spell_value(alloc, reader, depth, Keys::Any, &mut text)?;
+        drop(found.insert(key, Spelled { text, extent })?);
     }
     Ok(found)
 }
@@ -331,35 +360,29 @@ fn rises(last: Option<&str>, key: &str) -> bool
     }
 }
 
-/// Whether metadata may have an array or an object where `serde_json` reads so many levels more.
-fn may_open(depth: usize) -> bool
-    ensures { result ≡ nat_lt 27 depth }
-{
-    depth > READ_LEVELS - MOST_LEVELS
-}
-
-/// Writes the spelling of members, with the braces, and says whether each may stand in metadata.
+/// Writes the spelling of members, with the braces, and gives the extent of their values, beside each other.
 fn put_members(
     alloc: Global,
     out: &mut Vec<u8>,
     members: &BTreeMap<String, Spelled>,
-) -> Result<bool, AllocError>
+) -> Result<Extent, AllocError>
     ensures text { OnOk result
         (out.new.items ≡ out.old.items ++ 123 ∷ spelled_text false members.now.entries) }
-    ensures fits { IfOk result (λ fit. fit ≡ all_fit members.now.entries) }
+    ensures extent { IfOk result (λ extent. IsExtent extent
+        (entries_levels members.now.entries) (entries_fractional members.now.entries)) }
 {
     out.push(b'{')?;
-    let mut fit = true;
+    let mut extent = Extent::flat();
     let mut later = false;
     for (name, member) in members.iter() {
         separate(out, later)?;
         later = true;
         put(alloc, out, Token::Key(name.as_str()))?;
         out.extend_from_slice(member.text.as_slice())?;
-        fit = fit & member.fits;
+        extent = extent.beside(member.extent);
     }
     out.push(b'}')?;
-    Ok(fit)
+    Ok(extent)
 }
 
 /// Writes a comma, where something stands before.
@@ -372,8 +395,58 @@ fn separate(out: &mut Vec<u8>, later: bool) -> Result<(), AllocError>
     Ok(())
 }
 
-/// Writes one token.
+/// Writes one token. A text that has nothing to escape is copied whole.
 fn put(alloc: Global, out: &mut Vec<u8>, token: Token<'_>) -> Result<(), AllocError>
+    requires { IsPrintable (token_of token) }
+    ensures written { OnOk result
+        (out.new.items ≡ out.old.items ++ token_text (token_of token.entry)) }
+    ensures utf8 { OnOk result (IsUtf8 (token_text (token_of token.entry))) }
+{
+    match token {
+        Token::Key(name) => put_key(alloc, out, name),
+        Token::String(text) => put_string(alloc, out, text),
+        other => write(alloc, out, other),
+    }
+}
+
+/// Writes a key, and the colon behind it.
+fn put_key(alloc: Global, out: &mut Vec<u8>, name: &str) -> Result<(), AllocError>
+    ensures written { OnOk result (out.new.items ≡ out.old.items ++ (quoted name.now ++ 58 ∷ [])) }
+    ensures utf8 { OnOk result (IsUtf8 (quoted name.now ++ 58 ∷ [])) }
+{
+    if !is_plain(name.as_bytes()) {
+        return write(alloc, out, Token::Key(name));
+    }
+    out.push(b'"')?;
+    out.extend_from_slice(name.as_bytes())?;
+    out.extend_from_slice(b"\":")?;
+    Ok(())
+}
+
+/// Writes a text.
+fn put_string(alloc: Global, out: &mut Vec<u8>, text: &str) -> Result<(), AllocError>
+    ensures written { OnOk result (out.new.items ≡ out.old.items ++ quoted text.now) }
+    ensures utf8 { OnOk result (IsUtf8 (quoted text.now)) }
+{
+    if !is_plain(text.as_bytes()) {
+        return write(alloc, out, Token::String(text));
+    }
+    out.push(b'"')?;
+    out.extend_from_slice(text.as_bytes())?;
+    out.push(b'"')?;
+    Ok(())
+}
+
+/// Whether each byte stands for itself in a JSON string.
+fn is_plain(text: &[u8]) -> bool
+    ensures { result ≡ list_all is_plain text.now }
+{
+    text.iter()
+        .all(|byte| *byte >= 32 && *byte != b'"' && *byte != b'\\')
+}
+
+/// Writes one token, by `json`'s writer. It clears some memory ahead, up to 16 KiB.
+fn write(alloc: Global, out: &mut Vec<u8>, token: Token<'_>) -> Result<(), AllocError>
     requires { IsPrintable (token_of token) }
     ensures written { OnOk result
         (out.new.items ≡ out.old.items ++ token_text (token_of token.entry)) }
@@ -385,21 +458,25 @@ fn put(alloc: Global, out: &mut Vec<u8>, token: Token<'_>) -> Result<(), AllocEr
     Ok(())
 }
 
-/// Writes a number where it is whole, and says whether it is.
-fn spell_number(text: &str, out: &mut Vec<u8>) -> Result<bool, Stop>
-    ensures ok { IfOk result (λ whole. (n : Num) × (number_of text.now ≡ Some n)
-        × (out.new.items ≡ out.old.items ++ number_text n) × (whole ≡ not (is_float n))
+/// Writes a number where it is whole, and gives its extent.
+fn spell_number(text: &str, out: &mut Vec<u8>) -> Result<Extent, Stop>
+    ensures ok { IfOk result (λ extent. (n : Num) × (number_of text.now ≡ Some n)
+        × (out.new.items ≡ out.old.items ++ number_text n) × IsExtent extent 0 (is_float n)
         × IsUtf8 (number_text n)) }
+    ensures levels { IfOk result (λ extent. extent.levels ≡ 0) }
     ensures err { result ≡ Err Stop.NotJson → number_of text.now ≡ None }
     ensures order { result ≢ Err Stop.NotRising }
 {
     match integer_in(text) {
         None => Err(Stop::NotJson),
-        Some(None) => Ok(false),
+        Some(None) => Ok(Extent {
+            levels: 0,
+            fractional: true,
+        }),
         Some(Some(n)) => {
             let mut buffer = itoa::Buffer::new();
             out.extend_from_slice(buffer.format(n).as_bytes())?;
-            Ok(true)
+            Ok(Extent::flat())
         }
     }
 }

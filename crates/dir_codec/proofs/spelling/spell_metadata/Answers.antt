@@ -1,6 +1,7 @@
 use Rattle.std.proofs.Common.{◌≡◌, [], ◌∷◌, sym, ◌∙◌, arith}
 use Rattle.json.specs.Reads.{token_of}
-use Rattle.dir_codec.proofs.OnePass.{none_there, other_there, refused_there, more_there, metadata_there, object_first}
+use Rattle.dir_codec.proofs.ReadData.{object_first}
+use Rattle.dir_codec.proofs.OnePass.{none_there, other_there, refused_there, more_there, object_fits, metadata_there}
 use Rattle.dir_codec.proofs.spelling.spell_metadata.Goals as goal
 
 pub returns-in_default-clause-ok : goal.returns-in_default-clause-ok
@@ -31,4 +32,5 @@ returns-in-None-clause-ok c =
     let opened = object_first c.args.reader.now (token_of c.in-Some.token) c.next.new.self first (sym c.opens_object.ensures ∙ c.if-not-opens_object.false) in
     let got = c.in-Ok.ensures.ok in
     let over : c.spell_members.new.reader ≡ [] = grind arith in
-    metadata_there c.args.reader.now c.next.new.self c.spell_members.new.reader got.0 opened got.1 c.args.out.now.items c.spell_members.new.out.items c.in-Ok.fit over got.3 got.2 got.4
+    let fits = object_fits _ _ got.0 _ got.3 c.opened.ensures c.fits.ensures in
+    metadata_there c.args.reader.now c.next.new.self c.spell_members.new.reader got.0 opened got.1 c.args.out.now.items c.spell_members.new.out.items c.fits.result over fits got.2 got.4

@@ -1,0 +1,60 @@
+-- What the reading of children JSON keeps of it; for private clauses.
+use Rattle.std.specs.Prelude.{◌≡◌, ℕ, List, ⊤, codes, true, Option, Some, None, Result, Ok, Err, String, string_bytes}
+use Rattle.std.specs.declared.alloc.Global.{Global}
+use Rattle.json.specs.Token.{Token}
+use Rattle.serde_json.specs.Data.{Data, null, string, object, Members}
+use Rattle.serde_json.specs.Find.{get_member, as_str, as_object}
+use Rattle.dir_codec.specs.Sound.{IsSound}
+use Rattle.dir_codec.specs.Entries.{IsEntry}
+use Rattle.dir_codec.specs.Children.{fields_of, gives_write, entry_made}
+use Rattle.dir_codec.specs.Named.{entry_of_child}
+use Rattle.dir_codec.specs.Spelled.{data_of, AreAt, IsSpelled}
+use Rattle.dir_codec.specs.declared.child.Child.{Child}
+use Rattle.dir_codec.specs.declared.fields.Field.{Field}
+use Rattle.dir_codec.specs.declared.fields.Fields.{Fields}
+use Rattle.dir_codec.specs.declared.fault.DirFault.{DirFault}
+use Rattle.dir_codec.specs.declared.fault.DirFault.TheVariants.{NotJson, BadShape}
+
+-- the value that a field was
+abbrev pub IsField : Field → Data → Type 0
+IsField Field.Null d = d ≡ null
+IsField (Field.Text text) d = d ≡ string (string_bytes text)
+IsField (Field.Object spelled) d = (ms : Members) × (d ≡ object ms) × IsSpelled spelled d × IsSound d
+IsField Field.Other d = (as_str d ≡ None) × (as_object d ≡ None) × (gives_write d ≡ true)
+
+-- the same where there may be none
+abbrev pub IsFieldAt : Option Field → Option Data → Type 0
+IsFieldAt None None = ⊤
+IsFieldAt None (Some d) = ⊥
+IsFieldAt (Some field) None = ⊥
+IsFieldAt (Some field) (Some d) = IsField field d
+
+-- the members that the fields of a child were
+pub record AreChildFields (fields : Fields) (ms : Members) : Type 0 where
+  pub ro_uri : IsFieldAt fields.ro_uri (get_member (codes "ro_uri") ms)
+  pub rw_uri : IsFieldAt fields.rw_uri (get_member (codes "rw_uri") ms)
+  pub metadata : IsFieldAt fields.metadata (get_member (codes "metadata") ms)
+
+-- the fields of an object, None of another value
+abbrev pub IsObject : Option Fields → Data → Type 0
+IsObject None d = as_object d ≡ None
+IsObject (Some fields) d = (ms : Members) × (d ≡ object ms) × AreChildFields fields ms
+
+-- the fields of a list of just two items, a text and an object, None of another value
+abbrev pub IsChildNode : Option Fields → Data → Type 0
+IsChildNode None d = fields_of d ≡ None
+IsChildNode (Some fields) d = (ms : Members) × (fields_of d ≡ Some (object ms)) × AreChildFields fields ms
+
+-- what was made of a member
+abbrev pub IsOutcome : List ℕ → Data → Result (String Global × Child) DirFault → Type 0
+IsOutcome key d (Ok named) = (entry_made key d ≡ Ok (entry_of_child named)) × IsEntry (entry_of_child named)
+IsOutcome key d (Err fault) = entry_made key d ≡ Err fault
+
+abbrev pub AreOutcomes : List (String Global × Result (String Global × Child) DirFault) → Members → Type 0
+AreOutcomes es ms = AreAt IsOutcome es ms
+
+-- why the tokens are no object
+abbrev pub IsNoObject : DirFault → List Token → Type 0
+IsNoObject NotJson ts = data_of ts ≡ None
+IsNoObject BadShape ts = (d : Data) × (data_of ts ≡ Some d) × (as_object d ≡ None)
+IsNoObject other ts = ⊥
