@@ -41,67 +41,89 @@ EndsAreTexts = (last text : List ℕ) (entries : List Entry) → reading_after l
 regroup : (old comma child rest : List ℕ) → old ++ (comma ++ (child ++ rest)) ≡ (old ++ (comma ++ child)) ++ rest
 regroup old comma child rest = simp append_assoc
 
-pub child_put : EndsAreTexts → (text : List ℕ) (at next : ℕ) (old new : List ℕ) (entry : Entry) → IsReadable at text → IsChildPut [] text at old new entry next → AreChildrenPut text at old new next
-child_put ends text at next old new entry readable put =
+pub child_put : EndsAreTexts → (text : List ℕ) (later : Bool) (at next : ℕ) (old new : List ℕ) (entry : Entry) → IsReadable at text → IsChildPut [] text later at old new entry next → AreChildrenPut text later at old new true next
+child_put ends text later at next old new entry readable put =
     let r = reading_after entry.name (drop next text) in
     let both = more_read entry r (entries_in (drop at text)) (sym put.read ∙ begins (drop at text) ∙ readable.read) in
     let rest : directory_reading (drop next text) ≡ Ok (entries_read r) = ends entry.name (drop next text) (entries_read r) both.0 in
     let is : entries_in (drop next text) ≡ entries_read r = ap entries_read rest in
-    let later = later_place at next put.further in
     record {
       readable = record { within = put.within; read = rest ∙ ap Ok (sym is) };
       put = λ end.
-          ap (λ entries. old ++ with_commas (nat_lt 0 at) (map child_text entries) end) both.1
-          ∙ regroup old (comma_if (nat_lt 0 at)) (child_text entry) (with_commas true (map child_text (entries_read r)) end)
-          ∙ (λ i. sym put.put i ++ with_commas (sym later i) (map child_text (sym is i)) end);
+          ap (λ entries. old ++ with_commas later (map child_text entries) end) both.1
+          ∙ regroup old (comma_if later) (child_text entry) (with_commas true (map child_text (entries_read r)) end)
+          ∙ (λ i. sym put.put i ++ with_commas true (map child_text (sym is i)) end);
     }
 
-pub children_put : (text : List ℕ) (from at next : ℕ) (old middle new : List ℕ) → AreChildrenPut text from old middle at → AreChildrenPut text at middle new next → AreChildrenPut text from old new next
-children_put text from at next old middle new first second = record {
-  readable = second.readable;
-  put = λ end. first.put end ∙ second.put end;
+pub children_put : (text : List ℕ) (first second third : Bool) (from at next : ℕ) (old middle new : List ℕ) → AreChildrenPut text first from old middle second at → AreChildrenPut text second at middle new third next → AreChildrenPut text first from old new third next
+children_put text first second third from at next old middle new one more = record {
+  readable = more.readable;
+  put = λ end. one.put end ∙ more.put end;
 }
 
 -- ---- pieces
 
-nothing_from : (text end : List ℕ) (at : ℕ) → length text ≤ at → children_from at text end ≡ end
-nothing_from text end at past =
-    ap (λ t. with_commas (nat_lt 0 at) (map child_text (entries_in t)) end) (drop_all at text past)
-    ∙ ap (λ entries. with_commas (nat_lt 0 at) (map child_text entries) end) none_in
+nothing_from : (text end : List ℕ) (later : Bool) (at : ℕ) → length text ≤ at → children_from later at text end ≡ end
+nothing_from text end later at past =
+    ap (λ t. with_commas later (map child_text (entries_in t)) end) (drop_all at text past)
+    ∙ ap (λ entries. with_commas later (map child_text entries) end) none_in
 
-pub piece_put : (text end : List ℕ) (at next : ℕ) (head middle piece : List ℕ) (ended : Bool) → head ≡ head_unless (nat_lt 0 at) → AreChildrenPut text at head middle next
-    → (next < length text → (0 < next) × (0 < length middle)) → piece ≡ middle ++ (if ended then end else []) → ended ≡ (next == length text) → IsPiece text end at piece next ended
-piece_put text end at next head middle piece true begun put some is at_end =
+-- at the end of a text it is the same whether children stand before
+pub all_put : (text : List ℕ) (later : Bool) (from : ℕ) (old new : List ℕ) (after : Bool) (at : ℕ) → AreChildrenPut text later from old new after at → length text ≤ at → AreChildrenPut text later from old new true at
+all_put text later from old new after at put past = record {
+  readable = put.readable;
+  put = λ end. put.put end ∙ ap (λ t. new ++ t) (nothing_from text end after at past ∙ sym (nothing_from text end true at past));
+}
+
+pub piece_put : (text end : List ℕ) (later : Bool) (at next : ℕ) (head middle piece : List ℕ) (ended : Bool) → head ≡ head_unless later → AreChildrenPut text later at head middle true next
+    → (next < length text → 0 < length middle) → piece ≡ middle ++ (if ended then end else []) → ended ≡ (next == length text) → IsPiece text end later at piece next ended
+piece_put text end later at next head middle piece true begun put some is at_end =
     let past : length text ≤ next = (let e = eqb-true next (length text) (sym at_end) in omega arith) in
     record {
       readable = put.readable;
       some = λ no. absurd cc;
-      is = ap (λ t. t ++ children_from at text end) (sym begun) ∙ put.put end ∙ ap (λ t. middle ++ t) (nothing_from text end next past) ∙ sym is ∙ sym (append-nil piece);
+      is = ap (λ t. t ++ children_from later at text end) (sym begun) ∙ put.put end ∙ ap (λ t. middle ++ t) (nothing_from text end true next past) ∙ sym is ∙ sym (append-nil piece);
     }
-piece_put text end at next head middle piece false begun put some is at_end =
+piece_put text end later at next head middle piece false begun put some is at_end =
     let other = eqb-false next (length text) (sym at_end) in
     let within = put.readable.within in
     let inside : next < length text = omega (arith, other, within) in
     let same : piece ≡ middle = is ∙ append-nil middle in
-    let later = later_place 0 next (some inside).0 in
     record {
       readable = put.readable;
-      some = λ no. subst (λ t. 0 < length t) (sym same) (some inside).1;
-      is = ap (λ t. t ++ children_from at text end) (sym begun) ∙ put.put end ∙ (λ i. sym same i ++ (head_unless (sym later i) ++ children_from next text end));
+      some = λ no. subst (λ t. 0 < length t) (sym same) (some inside);
+      is = ap (λ t. t ++ children_from later at text end) (sym begun) ∙ put.put end ∙ ap (λ t. t ++ children_from true next text end) (sym same);
     }
 
-pub piece_given : (ended last : Bool) (at next left : ℕ) (text end piece : List ℕ) → 0 < left → left ≡ length (listing_left ended at text end) → IsPiece text end at piece next last
-    → (0 < length piece) × (listing_left ended at text end ≡ piece ++ listing_left last next text end)
-piece_given true last at next left text end piece some counted is = absurd (omega arith)
-piece_given false true at next left text end piece some counted is =
+pub piece_given : (ended later last : Bool) (at next left : ℕ) (text end piece : List ℕ) → 0 < left → left ≡ length (listing_left ended later at text end) → IsPiece text end later at piece next last
+    → (0 < length piece) × (listing_left ended later at text end ≡ piece ++ listing_left last true next text end)
+piece_given true later last at next left text end piece some counted is = absurd (omega arith)
+piece_given false later true at next left text end piece some counted is =
     let same : left ≡ length piece = counted ∙ ap length (is.is ∙ append-nil piece) in
     (omega arith, is.is)
-piece_given false false at next left text end piece some counted is = (is.some refl, is.is)
+piece_given false later false at next left text end piece some counted is = (is.some refl, is.is)
 
 pub left_is : (left : ℕ) (whole piece rest : List ℕ) → left ≡ length whole → whole ≡ piece ++ rest → (length piece ≤ left) × (left - length piece ≡ length rest)
 left_is left whole piece rest counted is =
     let e : left ≡ length piece + length rest = counted ∙ ap length is ∙ length-append piece rest in
     (omega arith, omega arith)
+
+-- what stands in a text from a place on is a text by itself
+pub rest_readable : (at : ℕ) (text rest : List ℕ) → rest ≡ drop at text → IsReadable at text → IsReadable 0 rest
+rest_readable at text rest is readable = record {
+  within = omega arith;
+  read = subst (λ t. directory_reading t ≡ Ok (entries_in t)) (sym is) readable.read;
+}
+
+pub rest_left : (ended later : Bool) (at : ℕ) (text rest end : List ℕ) → rest ≡ drop at text → listing_left ended later 0 rest end ≡ listing_left ended later at text end
+rest_left ended later at text rest end is = ap (λ t. listing_left ended later 0 t end) is
+
+pub rest_kept : (ended later : Bool) (at left : ℕ) (text rest end : List ℕ) → rest ≡ drop at text → IsListing at left text (listing_left ended later at text end)
+    → IsListing 0 left rest (listing_left ended later 0 rest end)
+rest_kept ended later at left text rest end is kept = record {
+  readable = rest_readable at text rest is kept.readable;
+  counted = kept.counted ∙ ap length (sym (rest_left ended later at text rest end is));
+}
 
 -- ---- how many bytes there are
 
@@ -109,7 +131,7 @@ left_is left whole piece rest counted is =
 pub record IsCountedTo (last text : List ℕ) (at count : ℕ) : Type 0 where
   pub within : at ≤ length text
   pub read : (more : List Entry) → reading_after last (drop at text) ≡ Ok more
-      → (directory_reading text ≡ Ok (entries_in text)) × (count + length (with_commas (nat_lt 0 at) (map child_text more) []) ≡ length (children_from 0 text []))
+      → (directory_reading text ≡ Ok (entries_in text)) × (count + length (with_commas (nat_lt 0 at) (map child_text more) []) ≡ length (children_from false 0 text []))
   pub refused : (fault : DirFault) → reading_after last (drop at text) ≡ Err fault → directory_reading text ≡ Err fault
 
 pub count_begun : (last text : List ℕ) → last ≡ [] → IsCountedTo last text 0 0
@@ -132,7 +154,7 @@ count_more count comma text rest child all is whole =
     let e : length child ≡ length comma + length text = ap length is ∙ length-append comma text in
     omega arith
 
-pub count_step : (last name text : List ℕ) (at next count : ℕ) (none child : List ℕ) (entry : Entry) → IsCountedTo last text at count → none ≡ [] → IsChildPut last text at none child entry next → name ≡ entry.name
+pub count_step : (last name text : List ℕ) (at next count : ℕ) (none child : List ℕ) (entry : Entry) → IsCountedTo last text at count → none ≡ [] → IsChildPut last text (nat_lt 0 at) at none child entry next → name ≡ entry.name
     → IsCountedTo name text next (count + length child)
 count_step last name text at next count none child entry counted empty put named =
     let later = later_place at next put.further in
@@ -155,19 +177,19 @@ count_done last text at count counted past =
 
 -- ---- the whole
 
-pub whole_is : (cap : Cap) (text end : List ℕ) (count : ℕ) → IsCountOfChildren text count → end ≡ dir_end cap → IsListingOf cap text (listing_left false 0 text end)
+pub whole_is : (cap : Cap) (text end : List ℕ) (count : ℕ) → IsCountOfChildren text count → end ≡ dir_end cap → IsListingOf cap text (listing_left false false 0 text end)
 unfolding dir_text
 whole_is cap text end count counted is = record {
   entries = entries_in text;
   read = counted.read;
-  is = ap (λ t. head_unless false ++ children_from 0 text t) is ∙ ap (λ t. head_unless false ++ t) (parted_joined (map child_text (entries_in text)) (dir_end cap));
+  is = ap (λ t. head_unless false ++ children_from false 0 text t) is ∙ ap (λ t. head_unless false ++ t) (parted_joined (map child_text (entries_in text)) (dir_end cap));
 }
 
-pub whole_counted : (text end head : List ℕ) (count left : ℕ) → IsCountOfChildren text count → head ≡ head_unless false → left ≡ length head + count + length end → IsListing 0 left text (listing_left false 0 text end)
+pub whole_counted : (text end head : List ℕ) (count left : ℕ) → IsCountOfChildren text count → head ≡ head_unless false → left ≡ length head + count + length end → IsListing 0 left text (listing_left false false 0 text end)
 whole_counted text end head count left counted begun is =
     let joined = join_with_byte 44 (map child_text (entries_in text)) in
     let bare : count ≡ length joined = counted.is ∙ ap length (parted_joined (map child_text (entries_in text)) [] ∙ append-nil joined) in
-    let all : length (children_from 0 text end) ≡ length joined + length end = ap length (parted_joined (map child_text (entries_in text)) end) ∙ length-append joined end in
-    let first = length-append (head_unless false) (children_from 0 text end) in
+    let all : length (children_from false 0 text end) ≡ length joined + length end = ap length (parted_joined (map child_text (entries_in text)) end) ∙ length-append joined end in
+    let first = length-append (head_unless false) (children_from false 0 text end) in
     let size = ap length begun in
     record { readable = record { within = omega arith; read = counted.read }; counted = omega (arith, bare, all, first, size, is) }

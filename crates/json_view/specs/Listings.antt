@@ -1,6 +1,6 @@
 -- The JSON of a directory that is made of the directory's text as it is taken. Read IsListingOf; all that follows is for
 -- the model of a listing and for private clauses.
-use Rattle.std.specs.Prelude.{◌≡◌, ℕ, ◌<◌, ◌≤◌, nat_lt, Bool, true, false, List, [], ◌∷◌, ◌++◌, length, map, drop, codes, Result, Ok, Err, if◌then◌else◌}
+use Rattle.std.specs.Prelude.{◌≡◌, ℕ, ◌<◌, ◌≤◌, Bool, true, false, List, [], ◌∷◌, ◌++◌, length, map, drop, codes, Result, Ok, Err, if◌then◌else◌}
 use Rattle.std.specs.List.{concat}
 use Rattle.serde_json.specs.Written.{comma_if}
 use Rattle.caps.specs.declared.cap.Cap.{Cap}
@@ -37,12 +37,12 @@ abbrev pub dir_end : Cap → List ℕ
 dir_end cap = concat (codes "}," ∷ node_members cap ∷ codes "}]" ∷ [])
 
 -- the children whose entries stand from a place of a text on, and then an end
-abbrev pub children_from : ℕ → List ℕ → List ℕ → List ℕ
-children_from at text end = with_commas (nat_lt 0 at) (map child_text (entries_in (drop at text))) end
+abbrev pub children_from : Bool → ℕ → List ℕ → List ℕ → List ℕ
+children_from later at text end = with_commas later (map child_text (entries_in (drop at text))) end
 
 -- what is left where a listing has come to a place of a text; past its end nothing is
-abbrev pub listing_left : Bool → ℕ → List ℕ → List ℕ → List ℕ
-listing_left ended at text end = if ended then [] else (head_unless (nat_lt 0 at) ++ children_from at text end)
+abbrev pub listing_left : Bool → Bool → ℕ → List ℕ → List ℕ → List ℕ
+listing_left ended later at text end = if ended then [] else (head_unless later ++ children_from later at text end)
 
 -- a text has no fault from a place on
 pub record IsReadable (at : ℕ) (text : List ℕ) : Type 0 where
@@ -54,25 +54,25 @@ pub record IsListing (at left : ℕ) (text bytes : List ℕ) : Type 0 where
   pub readable : IsReadable at text
   pub counted : left ≡ length bytes
 
--- the child whose entry stands at a place was put, with the comma before it
-pub record IsChildPut (last text : List ℕ) (at : ℕ) (old new : List ℕ) (entry : Entry) (next : ℕ) : Type 0 where
+-- the child whose entry stands at a place was put, with the comma before it that a later one has
+pub record IsChildPut (last text : List ℕ) (later : Bool) (at : ℕ) (old new : List ℕ) (entry : Entry) (next : ℕ) : Type 0 where
   pub further : at < next
   pub within : next ≤ length text
   pub read : reading_after last (drop at text) ≡ before_more entry (reading_after entry.name (drop next text))
-  pub put : new ≡ old ++ (comma_if (nat_lt 0 at) ++ child_text entry)
+  pub put : new ≡ old ++ (comma_if later ++ child_text entry)
 
 -- a text has no fault, and its children so many bytes with the commas between them
 pub record IsCountOfChildren (text : List ℕ) (count : ℕ) : Type 0 where
   pub read : directory_reading text ≡ Ok (entries_in text)
-  pub is : count ≡ length (children_from 0 text [])
+  pub is : count ≡ length (children_from false 0 text [])
 
--- the children from one place to another were put
-pub record AreChildrenPut (text : List ℕ) (from : ℕ) (old new : List ℕ) (at : ℕ) : Type 0 where
+-- the children from one place to another were put; whether others stand before the one, and before the other
+pub record AreChildrenPut (text : List ℕ) (later : Bool) (from : ℕ) (old new : List ℕ) (after : Bool) (at : ℕ) : Type 0 where
   pub readable : IsReadable at text
-  pub put : (end : List ℕ) → old ++ children_from from text end ≡ new ++ children_from at text end
+  pub put : (end : List ℕ) → old ++ children_from later from text end ≡ new ++ children_from after at text end
 
 -- the next bytes, and the place to which they come
-pub record IsPiece (text end : List ℕ) (at : ℕ) (piece : List ℕ) (next : ℕ) (ended : Bool) : Type 0 where
+pub record IsPiece (text end : List ℕ) (later : Bool) (at : ℕ) (piece : List ℕ) (next : ℕ) (ended : Bool) : Type 0 where
   pub readable : IsReadable next text
   pub some : ended ≡ false → 0 < length piece
-  pub is : listing_left false at text end ≡ piece ++ listing_left ended next text end
+  pub is : listing_left false later at text end ≡ piece ++ listing_left ended true next text end

@@ -1,5 +1,5 @@
 //! The JSON of directories that is made as it is taken.
-ghost use Rattle.std.specs.Prelude.{◌≡◌, ◌≢◌, ◌<◌, ◌+◌, [], ◌++◌, length, nat_lt, drop, Err, IfOk, IfErr, IfSome, OnOk, OnErr, IsOk, MatchOption, if◌then◌else◌};
+ghost use Rattle.std.specs.Prelude.{◌≡◌, ◌≢◌, ◌<◌, ◌≤◌, ◌+◌, [], ◌++◌, length, true, drop, Err, IfOk, IfErr, IfSome, OnOk, OnErr, IsOk, MatchOption, if◌then◌else◌};
 ghost use Rattle.std.specs.Rc.{rc_slice_items};
 ghost use Rattle.dir_codec.specs.Reading.{reading_after, directory_reading};
 ghost use Rattle.dir_codec.specs.declared.fault.DirFault.TheVariants.{NoMemory};
@@ -16,13 +16,20 @@ use std::rc::RcSlice;
 /// A piece has this many bytes at least, unless it is the last one.
 const PIECE: usize = 65_536;
 
+/// Of a text, a part with this many bytes or more is let go of.
+const LET_GO: usize = 65_536;
+
 /// The bytes that are left of a directory's JSON, which are made of its text as they are taken. It holds the text, and of
-/// the JSON nothing but what stands behind the children. Contracts see it as these bytes.
+/// the JSON nothing but what stands behind the children. The part of the text whose children were given is let go of once
+/// it has 65,536 bytes, and as many as the rest, which is copied for that. So between two calls fewer bytes of the text are
+/// held than twice the rest, or than 65,536 more than it. Where memory for the copy is refused the text is held as it is,
+/// until a later call can copy the rest. Contracts see a listing as the bytes that are left.
 #[derive(Debug, Drop)]
 pub struct Listing {
     text: RcSlice<u8>,
     end: Vec<u8>,
     at: usize,
+    begun: bool,
     ended: bool,
     left: usize,
 }
@@ -34,10 +41,10 @@ impl Model for Listing {
 
     ghost Value = { List ℕ };
 
-    ghost view = { λ l. listing_left l.ended l.at (rc_slice_items l.text) l.end.items };
+    ghost view = { λ l. listing_left l.ended l.begun l.at (rc_slice_items l.text) l.end.items };
 
     ghost invariant = { λ l. IsListing l.at l.left (rc_slice_items l.text)
-        (listing_left l.ended l.at (rc_slice_items l.text) l.end.items) };
+        (listing_left l.ended l.begun l.at (rc_slice_items l.text) l.end.items) };
 }
 
 impl Listing {
@@ -64,6 +71,7 @@ impl Listing {
             text,
             end,
             at: 0,
+            begun: false,
             ended: false,
             left,
         })
@@ -77,7 +85,8 @@ impl Listing {
     }
 
     /// The next bytes, of which there is one at least, or none where no byte is left: those of whole children until there
-    /// are 65,536, with what stands before the first child and behind the last one.
+    /// are 65,536, with what stands before the first child and behind the last one. What was given is then let go of, as
+    /// [`Listing`] says: what is left of the text may be copied.
     ///
     /// # Errors
     /// Only where memory is refused. Then the same bytes are left: the call can be made again.
@@ -92,11 +101,25 @@ impl Listing {
             return Ok(None);
         }
         let text = self.text.as_slice();
-        let (piece, next, ended) = next_piece(alloc, text, self.end.as_slice(), self.at)?;
+        let end = self.end.as_slice();
+        let (piece, next, ended) = next_piece(alloc, text, end, self.begun, self.at)?;
         self.at = next;
+        self.begun = true;
         self.ended = ended;
         self.left -= piece.len();
+        self.let_go(alloc);
         Ok(Some(piece))
+    }
+
+    /// Lets go of the part of the text whose children were given, where that is worth a copy of the rest, and memory for it
+    /// isn't refused.
+    fn let_go(&mut self, alloc: Global)
+        ensures { self.new ≡ self.old }
+    {
+        if let Some(rest) = copy_of_rest(alloc, self.text.as_slice(), self.at) {
+            self.text = rest;
+            self.at = 0;
+        }
     }
 }
 
@@ -112,7 +135,7 @@ fn count_children(alloc: Global, text: &[u8]) -> Result<usize, DirFault>
     let mut at = 0;
     while at < text.len() {
         child.clear();
-        let (entry, next) = put_at(alloc, &mut child, &last, text, at)?;
+        let (entry, next) = put_at(alloc, &mut child, &last, text, at > 0, at)?;
         let Some(more) = count.checked_add(child.len()) else {
             return Err(DirFault::NoMemory);
         };
@@ -131,21 +154,35 @@ fn sum(first: usize, second: usize, third: usize) -> Option<usize>
     first.checked_add(second)?.checked_add(third)
 }
 
+/// A copy of what stands from a place of a text on, where the part before it has as many bytes as the copy, and 65,536 or
+/// more. None else, or where memory for the copy is refused.
+fn copy_of_rest(alloc: Global, text: &[u8], at: usize) -> Option<RcSlice<u8>>
+    requires { at ≤ length text.now }
+    ensures rest { IfSome result (λ rest. rc_slice_items rest ≡ drop at text.now) }
+    ensures halved { IfSome result (λ rest. length (rc_slice_items rest) ≤ at) }
+{
+    if at < LET_GO || at < text.len() - at {
+        return None;
+    }
+    RcSlice::from_slice(alloc, &text[at..]).ok()
+}
+
 /// The next bytes of a listing that has come to a place of a text, the place to which they come, and whether they are the
-/// last ones.
+/// last ones. The listing says whether it has begun, which is that its head was put.
 fn next_piece(
     alloc: Global,
     text: &[u8],
     end: &[u8],
+    begun: bool,
     at: usize,
 ) -> Result<(Vec<u8>, usize, bool), AllocError>
     requires { IsReadable at text.now }
     ensures { IfOk result (λ given.
-        IsPiece text.now end.now at given.0.items given.1 given.2) }
+        IsPiece text.now end.now begun at given.0.items given.1 given.2) }
 {
     let mut piece = Vec::new(alloc);
-    put_head_unless(&mut piece, at > 0)?;
-    let next = put_from(alloc, &mut piece, text, at)?;
+    put_head_unless(&mut piece, begun)?;
+    let next = put_from(alloc, &mut piece, text, begun, at)?;
     let ended = next == text.len();
     put_end_if(&mut piece, end, ended)?;
     Ok((piece, next, ended))
@@ -173,20 +210,28 @@ fn put_end_if(out: &mut Vec<u8>, end: &[u8], ended: bool) -> Result<(), AllocErr
 }
 
 /// Puts the children whose entries stand from a place of a directory's text on, one at least, until there are enough
-/// bytes. It gives the place behind them. The text was read before, so that it has no fault.
-fn put_from(alloc: Global, out: &mut Vec<u8>, text: &[u8], from: usize) -> Result<usize, AllocError>
+/// bytes; whether the first of them is a later one, and so has a comma before it, is said. It gives the place behind them.
+/// The text was read before, so that it has no fault.
+fn put_from(
+    alloc: Global,
+    out: &mut Vec<u8>,
+    text: &[u8],
+    later: bool,
+    from: usize,
+) -> Result<usize, AllocError>
     requires { IsReadable from text.now }
     ensures put { IfOk result (λ at.
-        AreChildrenPut text.now from out.old.items out.new.items at) }
-    ensures some { IfOk result (λ at. at < length text.now
-        → (0 < at) × (0 < length out.new.items)) }
+        AreChildrenPut text.now later from out.old.items out.new.items true at) }
+    ensures some { IfOk result (λ at. at < length text.now → 0 < length out.new.items) }
 {
     dir_codec::laws::ends_of_texts_are_texts();
+    let mut after = later;
     let mut at = from;
     while at < text.len() {
-        let Ok((_, next)) = put_at(alloc, out, &[], text, at) else {
+        let Ok((_, next)) = put_at(alloc, out, &[], text, after, at) else {
             return Err(AllocError);
         };
+        after = true;
         at = next;
         if out.len() >= PIECE {
             return Ok(at);
@@ -196,22 +241,23 @@ fn put_from(alloc: Global, out: &mut Vec<u8>, text: &[u8], from: usize) -> Resul
 }
 
 /// Puts the child whose entry stands at a place of a directory's text, behind an entry of that name, with the comma before
-/// it. It gives the entry and the place behind it.
+/// it that a later one has. It gives the entry and the place behind it.
 fn put_at(
     alloc: Global,
     out: &mut Vec<u8>,
     last: &[u8],
     text: &[u8],
+    later: bool,
     at: usize,
 ) -> Result<(Entry, usize), DirFault>
     requires { at < length text.now }
     ensures put { IfOk result (λ child.
-        IsChildPut last.now text.now at out.old.items out.new.items child.0 child.1) }
+        IsChildPut last.now text.now later at out.old.items out.new.items child.0 child.1) }
     ensures refused { IfErr result (λ fault. fault ≢ NoMemory
         → reading_after last.now (drop at text.now) ≡ Err fault) }
 {
     let (entry, size) = read_first(alloc, last, &text[at..])?;
-    put_comma(out, at > 0)?;
+    put_comma(out, later)?;
     put_child(alloc, out, &entry)?;
     Ok((entry, at + size))
 }

@@ -1,4 +1,4 @@
-use Rattle.std.proofs.Common.{◌≡◌, ◌+◌, ◌++◌, length, ap, subst, ◌∙◌, arith}
+use Rattle.std.proofs.Common.{◌≡◌, ◌+◌, ◌++◌, nat_lt, length, ap, subst, ◌∙◌, arith}
 use Rattle.json_view.specs.Listings.{IsChildPut}
 use Rattle.json_view.proofs.Listings.{IsCountedTo, count_begun, count_step, count_done}
 use Rattle.json_view.proofs.listing.count_children.Goals as goal
@@ -15,7 +15,7 @@ loop-at-preserved c =
     let last = c.extend_from_slice.new.self.items in
     let none = c.clear.new.self.items in
     let child = c.put_at.new.out.items in
-    let put = subst (λ name. IsChildPut name text at none child entry next) c.deref.ensures.value c.in_ok-entry.ensures.put in
+    let put = subst (λ name. IsChildPut name text (nat_lt 0 at) at none child entry next) c.deref.ensures.value c.in_ok-entry.ensures.put in
     let named = c.in_ok-extend_from_slice.ensures.items ∙ ap (λ t. t ++ c.as_bytes.result.now) c.clear-in-loop-at.ensures.items ∙ c.as_bytes.ensures.value ∙ c.as_str.ensures in
     let more : c.loop-at.count + length child ≡ c.in-Some.more = omega (arith, c.in-Some.ensures.1, c.len.ensures) in
     subst (IsCountedTo last text next) more

@@ -3,7 +3,7 @@ use Rattle.json_view.specs.Listings.{AreChildrenPut}
 use Rattle.json_view.proofs.listing.put_from.Given as goal
 
 abbrev pub invariant-loop-at : goal.invariant-loop-at
-invariant-loop-at l = AreChildrenPut l.text l.from l.fn.out.items l.out.items l.at
+invariant-loop-at l = AreChildrenPut l.text l.later l.from l.fn.out.items l.out.items l.after l.at
 
 abbrev pub decreases-loop-at : goal.decreases-loop-at
 decreases-loop-at l = length l.text - l.at
