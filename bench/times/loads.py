@@ -9,7 +9,8 @@ untaken       200 GETs of one file of 4 MiB, of 200 files, and of 100 bytes of o
 came          100,000 connections that come and go, one after the other; million: 1,000,000
 pipelined     500 GETs of a file of 4 MiB on one connection, written before anything is read
 cut           a minute of connections that send and take a part of something and are cut, some by a reset, beside small GETs
-listings      20 GETs of the `t=json` of a directory of names that JSON escapes six times as long, of which nothing is read
+listings      20 GETs of the `t=json` of a directory of names that JSON escapes six times as long, of which nothing is read,
+              and 20 of which all is but the last 1,000,000 bytes
 
 Beside small GETs, each by a client that asks again and again:
 puts          puts of 16 MiB; many_puts: by four clients
@@ -378,14 +379,36 @@ def listings(program):
         stream = socket.socket()
         stream.setsockopt(socket.SOL_SOCKET, socket.SO_RCVBUF, 4096)
         stream.connect(server.address)
-        stream.sendall(b"GET /uri/%s?t=json HTTP/1.1\r\nHost: g\r\n\r\n" % cap.encode())
+        stream.sendall(listing_request(cap))
         streams.append(stream)
     time.sleep(10)
     small(quick)
     print("20 GETs of a listing that nobody takes: %.1f MB of memory beside, %d MB at most" % ((server.memory() - before) / 1e6, server.memory("VmHWM") >> 20))
+    for stream in streams:
+        stream.close()
+    streams = [all_but_the_end(server, cap) for _ in range(20)]
+    small(quick)
+    print("20 of which all but 1 MB is taken: %.1f MB of memory beside" % ((server.memory() - before) / 1e6))
     for stream in streams + [quick]:
         stream.close()
     server.stop()
+
+
+def listing_request(cap):
+    return b"GET /uri/%s?t=json HTTP/1.1\r\nHost: g\r\n\r\n" % cap.encode()
+
+
+def all_but_the_end(server, cap):
+    """A connection on which all of a listing was taken but the last 1,000,000 bytes."""
+    stream = server.connect()
+    stream.sendall(listing_request(cap))
+    head = b""
+    while b"\r\n\r\n" not in head:
+        head += stream.recv(65_536)
+    fields, _, body = head.partition(b"\r\n\r\n")
+    length = int(fields.split(b"Content-Length: ")[1].split(b"\r\n")[0])
+    taken(stream, length - len(body) - 1_000_000)
+    return stream
 
 
 def cut(program):
