@@ -22,20 +22,37 @@ pub within_or_steps : (kept pinned old new looking : List CacheEntry) (put : Cac
 within_or_steps kept pinned old new looking put within =
     within_or_behind kept (pinned ++ (old ++ looking)) (pinned ++ (new ++ looking)) put (within_or_behind pinned (old ++ looking) (new ++ looking) put (within_or_beside old new looking put within))
 
-pub none_left_within : (kept pinned steps old : List CacheEntry) → IsWithin (kept ++ (pinned ++ (steps ++ old))) (kept ++ (pinned ++ (steps ++ [])))
-none_left_within kept pinned steps old =
-    within_behind kept (pinned ++ (steps ++ old)) (pinned ++ (steps ++ [])) (within_behind pinned (steps ++ old) (steps ++ []) (within_behind steps old [] (λ entry there. absurd (Contains-nil entry there))))
+-- what changes behind the steps changes the cache so
+pub within_last : (kept pinned steps old new : List CacheEntry) → IsWithin old new → IsWithin (kept ++ (pinned ++ (steps ++ old))) (kept ++ (pinned ++ (steps ++ new)))
+within_last kept pinned steps old new within =
+    within_behind kept (pinned ++ (steps ++ old)) (pinned ++ (steps ++ new)) (within_behind pinned (steps ++ old) (steps ++ new) (within_behind steps old new within))
 
-pub one_put_within : (kept pinned steps old : List CacheEntry) (put : CacheEntry) → IsWithinOr (kept ++ (pinned ++ (steps ++ old))) (kept ++ (pinned ++ (steps ++ put ∷ []))) put
-one_put_within kept pinned steps old put =
-    within_or_behind kept (pinned ++ (steps ++ old)) (pinned ++ (steps ++ put ∷ [])) put
-    (within_or_behind pinned (steps ++ old) (steps ++ put ∷ []) put (within_or_behind steps old (put ∷ []) put only))
-  where
-    only : IsWithinOr old (put ∷ []) put
-    only entry there = elim (Contains-cons put [] entry there) [
-      | inl is ↦ inr (sym is)
-      | inr later ↦ absurd (Contains-nil entry later)
-    ]
+pub within_or_last : (kept pinned steps old new : List CacheEntry) (put : CacheEntry) → IsWithinOr old new put → IsWithinOr (kept ++ (pinned ++ (steps ++ old))) (kept ++ (pinned ++ (steps ++ new))) put
+within_or_last kept pinned steps old new put within =
+    within_or_behind kept (pinned ++ (steps ++ old)) (pinned ++ (steps ++ new)) put (within_or_behind pinned (steps ++ old) (steps ++ new) put (within_or_behind steps old new put within))
+
+only : (old : List CacheEntry) (put : CacheEntry) → IsWithinOr old (put ∷ []) put
+only old put entry there = elim (Contains-cons put [] entry there) [
+  | inl is ↦ inr (sym is)
+  | inr later ↦ absurd (Contains-nil entry later)
+]
+
+-- what is looked through is let go of, or another one is in its place
+pub none_left_within : (kept pinned steps old listed : List CacheEntry) → IsWithin (kept ++ (pinned ++ (steps ++ (old ++ listed)))) (kept ++ (pinned ++ (steps ++ listed)))
+none_left_within kept pinned steps old listed = within_last kept pinned steps (old ++ listed) listed (λ entry there. Contains-append_right old listed entry there)
+
+pub one_put_within : (kept pinned steps old listed : List CacheEntry) (put : CacheEntry) → IsWithinOr (kept ++ (pinned ++ (steps ++ (old ++ listed)))) (kept ++ (pinned ++ (steps ++ (put ∷ listed)))) put
+one_put_within kept pinned steps old listed put =
+    within_or_last kept pinned steps (old ++ listed) (put ∷ listed) put (within_or_beside old (put ∷ []) listed put (only old put))
+
+-- the same of what is listed
+pub none_listed_within : (kept pinned steps looking old : List CacheEntry) → IsWithin (kept ++ (pinned ++ (steps ++ (looking ++ old)))) (kept ++ (pinned ++ (steps ++ (looking ++ []))))
+none_listed_within kept pinned steps looking old =
+    within_last kept pinned steps (looking ++ old) (looking ++ []) (within_behind looking old [] (λ entry there. absurd (Contains-nil entry there)))
+
+pub one_listed_within : (kept pinned steps looking old : List CacheEntry) (put : CacheEntry) → IsWithinOr (kept ++ (pinned ++ (steps ++ (looking ++ old)))) (kept ++ (pinned ++ (steps ++ (looking ++ put ∷ [])))) put
+one_listed_within kept pinned steps looking old put =
+    within_or_last kept pinned steps (looking ++ old) (looking ++ put ∷ []) put (within_or_behind looking old (put ∷ []) put (only old put))
 
 -- of what there may be
 pub some_so : {A : Type 0} (P Q : A → Type 0) (o : Option A) → ((a : A) → P a → Q a) → IfSome o P → IfSome o Q
@@ -52,9 +69,14 @@ put_back old mid new put within there or entry is = elim (or entry is) [
 pub within_both : (old mid new : List CacheEntry) → IsWithin old mid → IsWithin mid new → IsWithin old new
 within_both old mid new a b entry there = a entry (b entry there)
 
-pub looking_there : (kept pinned steps : List CacheEntry) (o : Option CacheEntry) → IfSome o (Contains (kept ++ (pinned ++ (steps ++ option_to_list o))))
-looking_there kept pinned steps None = tt
-looking_there kept pinned steps (Some looking) = among_looking kept pinned steps (looking ∷ []) looking (Contains-head looking [])
+pub looking_there : (kept pinned steps : List CacheEntry) (o : Option CacheEntry) (listed : List CacheEntry) → IfSome o (Contains (kept ++ (pinned ++ (steps ++ (option_to_list o ++ listed)))))
+looking_there kept pinned steps None listed = tt
+looking_there kept pinned steps (Some looking) listed = among_looking kept pinned steps (looking ∷ listed) looking (Contains-head looking listed)
+
+pub listed_there : (kept pinned steps looking : List CacheEntry) (o : Option CacheEntry) → IfSome o (Contains (kept ++ (pinned ++ (steps ++ (looking ++ option_to_list o)))))
+listed_there kept pinned steps looking None = tt
+listed_there kept pinned steps looking (Some listed) =
+    among_looking kept pinned steps (looking ++ listed ∷ []) listed (Contains-append_right looking (listed ∷ []) listed (Contains-head listed []))
 
 -- one takes the place of another
 pub set_within : (old : List CacheEntry) (at : ℕ) (put : CacheEntry) → IsWithinOr old (set old at put) put

@@ -30,6 +30,12 @@ mod steps;
 mod looking;
 /// Looking names up in directories.
 mod look_ahead;
+/// Directories whose listing is prepared.
+mod listed;
+/// Preparing listings, and reading directories to be listed.
+mod listing_ahead;
+/// Files that the cache has.
+mod held;
 /// Reading files.
 mod reader;
 /// Reading long files.
@@ -77,11 +83,12 @@ mod fault;
 /// Laws of the definitions.
 pub mod laws;
 
-pub use cache::Cache;
+pub use cache::{Cache, MOST_KEPT};
 pub use checker::check;
 pub use download::Download;
 pub use fault::ReadFault;
 pub use health::Health;
+pub use listing_ahead::read_counted;
 pub use look_ahead::sought;
 pub use reader::{begin, read};
 pub use uploader::upload;

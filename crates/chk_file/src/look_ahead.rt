@@ -8,10 +8,10 @@ ghost use Rattle.chk_file.specs.Seen.{step_entry};
 ghost use Rattle.chk_file.specs.Steps.{IsSought};
 ghost use Rattle.chk_file.specs.Told.{told_in};
 
-use crate::cache::{Cache, MOST_KEPT};
-use crate::download::Download;
+use crate::cache::Cache;
+use crate::held::{held_now, read_step};
 use crate::looking::{Looked, Looking};
-use crate::reader::{begin, whole};
+use crate::reader::begin;
 use crate::steps::{MOST_IN_A_NAME, Step};
 use caps::{ReadFields, storage_index};
 use dir_codec::{Sought, find_child};
@@ -50,7 +50,7 @@ impl Cache {
     ///
     /// The directory's file is read as `read_ahead` and `begin` do, its bytes are gathered a segment at a time, and then the
     /// name is looked for in some 65,536 bytes at a time. What was found is kept for `sought`, with the stamp of the
-    /// directory's storage index: of the last 256 names of at most 1,024 bytes, unless it is a cap in which more than 1,024
+    /// directory's storage index: of the last 256 names of at most 16,384 bytes, unless it is a cap in which more than 16,384
     /// bytes stand. One directory is looked through at a time; one that is looked through for another name, or was stored
     /// again since, is let go. Where the file isn't found, a store fails or memory is refused, no step is left.
     pub fn look_ahead<S: Store>(
@@ -179,13 +179,11 @@ fn read_first<S: Store>(
     ensures unchanged { IsHonest grid.old → IsUnchanged grid.old grid.new }
     ensures fresh { IsCacheCurrent cache.old grid.old → IsCacheCurrent cache.new grid.new }
 {
-    if cache.read_ahead(alloc, grid, fields) {
-        return true;
+    match read_step(alloc, grid, cache, fields) {
+        Ok(true) => look_first(alloc, grid, cache, fields, name),
+        Ok(false) => true,
+        Err(_) => false,
     }
-    if begin(alloc, grid, cache, fields).is_err() {
-        return false;
-    }
-    look_first(alloc, grid, cache, fields, name)
 }
 
 /// Begins to look through a directory that the cache has.
@@ -220,51 +218,8 @@ fn looking_at<S: Store>(
     ensures bound { IfOk result (λ found. IfSome found (λ looking.
         Bound looking.0 looking.1.1)) }
 {
-    let Some(stamp) = grid.stamp(&storage_index(&fields.key)) else {
-        return Ok(None);
-    };
-    let Some(download) = held(alloc, cache, fields, stamp)? else {
+    let Some((stamp, download)) = held_now(alloc, grid, cache, fields)? else {
         return Ok(None);
     };
     Ok(Some(Looking::new(alloc, fields, stamp, name, download)?))
-}
-
-/// The bytes that the cache has of a file at this stamp.
-fn held(
-    alloc: Global,
-    cache: &mut Cache,
-    fields: &ReadFields,
-    stamp: u64,
-) -> Result<Option<Download>, AllocError>
-    ensures within { IsWithin cache.old cache.new }
-    ensures there { IfOk result (λ found. IfSome found (λ download.
-        Contains cache.old (fields.now, (stamp, download.left)))) }
-    ensures bound { IfOk result (λ found. IfSome found (λ download.
-        Bound fields.now download.left)) }
-{
-    if fields.size > MOST_KEPT {
-        return held_long(alloc, cache, fields, stamp);
-    }
-    let Some(bytes) = cache.get(fields, stamp)? else {
-        return Ok(None);
-    };
-    Ok(Some(whole(alloc, fields, bytes)))
-}
-
-/// The same of a long file.
-fn held_long(
-    alloc: Global,
-    cache: &Cache,
-    fields: &ReadFields,
-    stamp: u64,
-) -> Result<Option<Download>, AllocError>
-    ensures there { IfOk result (λ found. IfSome found (λ download.
-        Contains cache.now (fields.now, (stamp, download.left)))) }
-    ensures bound { IfOk result (λ found. IfSome found (λ download.
-        Bound fields.now download.left)) }
-{
-    let Some(shares) = cache.pinned(fields, stamp)? else {
-        return Ok(None);
-    };
-    Ok(Some(Download::pinned(alloc, shares)))
 }

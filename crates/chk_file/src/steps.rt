@@ -18,11 +18,11 @@ const MOST_OTHERS: usize = 16;
 
 const MOST_STEPS: usize = 272;
 
-/// The most bytes of a name that is kept.
-pub(crate) const MOST_IN_A_NAME: usize = 1_024;
+/// The most bytes of a name that is kept. A request has no longer one, since its head is shorter.
+pub(crate) const MOST_IN_A_NAME: usize = 16_384;
 
 /// The most bytes that stand in a cap that is kept.
-const MOST_IN_A_LITERAL: usize = 1_024;
+const MOST_IN_A_LITERAL: usize = 16_384;
 
 /// What was found under a name in a directory, and the stamp of its storage index at that time. Its bytes are told of, and
 /// not held.

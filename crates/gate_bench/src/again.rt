@@ -310,15 +310,29 @@ fn restore(alloc: Global, image: &[u8]) -> Result<Gateway<MemStore>, RestoreFaul
 
 /// An upload below the gateway, and a download of it a segment at a time.
 fn through_the_file(alloc: Global, room: &Room, outcome: Outcome) -> Result<Outcome, Ended> {
-    let (Ok(stores), Ok(mut cache)) = (stores(alloc), Cache::new(alloc)) else {
+    let Ok(stores) = stores(alloc) else {
         return Err(Ended::Early);
     };
     if stores.is_empty() || stores.len() > 256 {
         return Err(Ended::Wrong("there are other stores"));
     }
     let mut grid = Grid::new(stores);
-    let was_refused = uploaded(alloc, &mut grid, &mut cache, &room.file)?;
-    let was_refused_too = given(alloc, &mut grid, &mut cache, &room.file)?;
+    match Cache::new(alloc) {
+        Ok(mut cache) => through_the_grid(alloc, &mut grid, &mut cache, room, outcome),
+        Err(_) => Err(Ended::Early),
+    }
+}
+
+/// The same over a grid.
+fn through_the_grid(
+    alloc: Global,
+    grid: &mut Grid<MemStore>,
+    cache: &mut Cache,
+    room: &Room,
+    outcome: Outcome,
+) -> Result<Outcome, Ended> {
+    let was_refused = uploaded(alloc, grid, cache, &room.file)?;
+    let was_refused_too = given(alloc, grid, cache, &room.file)?;
     Ok(both(outcome, said(was_refused || was_refused_too)))
 }
 

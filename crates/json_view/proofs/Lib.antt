@@ -2,7 +2,6 @@ pub mod Pushed
 pub mod Plain
 pub mod Commas
 pub mod Listings
-pub mod Sharemap
 pub mod Replies
 pub mod ReadBack
 pub mod Nodes
@@ -10,6 +9,3 @@ pub mod Files
 pub mod Metadata
 pub mod Lengths
 pub mod Directories
-pub mod Checks
-pub mod Ordered
-pub mod Mapped

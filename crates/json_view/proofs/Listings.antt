@@ -9,7 +9,7 @@ use Rattle.dir_codec.specs.Reading.{before_more, reading_after, directory_readin
 use Rattle.dir_codec.specs.declared.entry.Entry.{Entry}
 use Rattle.dir_codec.specs.declared.fault.DirFault.{DirFault}
 use Rattle.json_view.specs.Nodes.{child_text, dir_text}
-use Rattle.json_view.specs.Listings.{IsListingOf, entries_read, entries_in, with_commas, head_unless, dir_end, children_from, listing_left, IsReadable, IsListing, IsChildPut, IsCountOfChildren, AreChildrenPut, IsPiece}
+use Rattle.json_view.specs.Listings.{IsListingOf, entries_read, entries_in, with_commas, head_unless, dir_end, children_from, listing_left, IsReadable, IsListing, IsChildPut, IsCountOfChildren, IsCountedTo, AreChildrenPut, IsPiece}
 use Rattle.json_view.proofs.Commas.{parted_joined}
 
 -- ---- entries
@@ -126,13 +126,6 @@ rest_kept ended later at left text rest end is kept = record {
 }
 
 -- ---- how many bytes there are
-
--- the entries from a place on make up what is not counted yet
-pub record IsCountedTo (last text : List ℕ) (at count : ℕ) : Type 0 where
-  pub within : at ≤ length text
-  pub read : (more : List Entry) → reading_after last (drop at text) ≡ Ok more
-      → (directory_reading text ≡ Ok (entries_in text)) × (count + length (with_commas (nat_lt 0 at) (map child_text more) []) ≡ length (children_from false 0 text []))
-  pub refused : (fault : DirFault) → reading_after last (drop at text) ≡ Err fault → directory_reading text ≡ Err fault
 
 pub count_begun : (last text : List ℕ) → last ≡ [] → IsCountedTo last text 0 0
 count_begun last text empty =

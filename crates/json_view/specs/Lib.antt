@@ -1,6 +1,6 @@
--- Read Nodes and Checks; the texts are of Strings and Values.
+-- Read Nodes; the texts are of Strings and Values.
 pub mod Strings
 pub mod Nodes
 pub mod Listings
-pub mod Checks
+pub mod Counts
 pub mod Values

@@ -1,6 +1,6 @@
 -- The JSON of a directory that is made of the directory's text as it is taken. Read IsListingOf; all that follows is for
--- the model of a listing and for private clauses.
-use Rattle.std.specs.Prelude.{◌≡◌, ℕ, ◌<◌, ◌≤◌, Bool, true, false, List, [], ◌∷◌, ◌++◌, length, map, drop, codes, Result, Ok, Err, if◌then◌else◌}
+-- the models of a listing and of a count, and for private clauses.
+use Rattle.std.specs.Prelude.{◌≡◌, ℕ, ◌+◌, ◌<◌, ◌≤◌, nat_lt, Bool, true, false, List, [], ◌∷◌, ◌++◌, length, map, drop, codes, Result, Ok, Err, if◌then◌else◌}
 use Rattle.std.specs.List.{concat}
 use Rattle.serde_json.specs.Written.{comma_if}
 use Rattle.caps.specs.declared.cap.Cap.{Cap}
@@ -65,6 +65,18 @@ pub record IsChildPut (last text : List ℕ) (later : Bool) (at : ℕ) (old new 
 pub record IsCountOfChildren (text : List ℕ) (count : ℕ) : Type 0 where
   pub read : directory_reading text ≡ Ok (entries_in text)
   pub is : count ≡ length (children_from false 0 text [])
+
+-- the entries from a place of a text on, behind one of that name, make up what is not counted yet
+pub record IsCountedTo (last text : List ℕ) (at count : ℕ) : Type 0 where
+  pub within : at ≤ length text
+  pub read : (more : List Entry) → reading_after last (drop at text) ≡ Ok more
+      → (directory_reading text ≡ Ok (entries_in text)) × (count + length (with_commas (nat_lt 0 at) (map child_text more) []) ≡ length (children_from false 0 text []))
+  pub refused : (fault : DirFault) → reading_after last (drop at text) ≡ Err fault → directory_reading text ≡ Err fault
+
+-- how many bytes the children of a text have, or the fault in it
+abbrev pub IsCountOrFault : List ℕ → Result ℕ DirFault → Type 0
+IsCountOrFault text (Ok count) = IsCountOfChildren text count
+IsCountOrFault text (Err fault) = directory_reading text ≡ Err fault
 
 -- the children from one place to another were put; whether others stand before the one, and before the other
 pub record AreChildrenPut (text : List ℕ) (later : Bool) (from : ℕ) (old new : List ℕ) (after : Bool) (at : ℕ) : Type 0 where

@@ -1,14 +1,14 @@
 //! The JSON of directories that is made as it is taken.
 ghost use Rattle.std.specs.Prelude.{◌≡◌, ◌≢◌, ◌<◌, ◌≤◌, ◌+◌, [], ◌++◌, length, true, drop, Err, IfOk, IfErr, IfSome, OnOk, OnErr, IsOk, MatchOption, if◌then◌else◌};
 ghost use Rattle.std.specs.Rc.{rc_slice_items};
-ghost use Rattle.dir_codec.specs.Reading.{reading_after, directory_reading};
+ghost use Rattle.dir_codec.specs.Reading.{directory_reading};
 ghost use Rattle.dir_codec.specs.declared.fault.DirFault.TheVariants.{NoMemory};
-ghost use Rattle.json_view.specs.Listings.{IsListingOf, head_unless, IsReadable, IsChildPut, IsCountOfChildren, AreChildrenPut, IsPiece};
+ghost use Rattle.json_view.specs.Listings.{IsListingOf, head_unless, IsReadable, AreChildrenPut, IsPiece};
 
-use crate::node::{put_child, put_dir_end, put_dir_head};
-use crate::text::put_comma;
+use crate::counting::Counted;
+use crate::node::{put_at, put_dir_end, put_dir_head};
 use caps::Cap;
-use dir_codec::{DirFault, Entry, read_first};
+use dir_codec::DirFault;
 use std::alloc::{AllocError, Global};
 use std::marker::Model;
 use std::rc::RcSlice;
@@ -48,23 +48,23 @@ impl Model for Listing {
 }
 
 impl Listing {
-    /// The JSON of the directory whose text this is, as [`crate::dir_json`] makes it. The text is read whole, and its JSON
-    /// is counted, with one entry in memory at a time.
+    /// The JSON of the directory whose text was counted, as [`crate::dir_json`] makes it. Nothing of the text is read
+    /// again.
     ///
     /// # Errors
-    /// As those of [`dir_codec::decode`]. A text whose JSON has more bytes than a `usize` counts is refused as memory is.
-    pub fn new(alloc: Global, cap: &Cap, text: RcSlice<u8>) -> Result<Listing, DirFault>
-        ensures read { IfOk result (λ listing.
-            IsListingOf cap.now (rc_slice_items text) listing) }
-        ensures refused { IfErr result (λ fault. fault ≢ NoMemory
-            → directory_reading (rc_slice_items text) ≡ Err fault) }
+    /// The fault that was met in the text, and `NoMemory` where memory is refused. A text whose JSON has more bytes than a
+    /// `usize` counts is refused as memory is.
+    pub fn new(alloc: Global, cap: &Cap, counted: Counted) -> Result<Listing, DirFault>
+        ensures read { IfOk result (λ listing. IsListingOf cap.now counted listing) }
+        ensures refused { IfErr result (λ fault. fault ≢ NoMemory → directory_reading counted ≡ Err fault) }
     {
-        let children = count_children(alloc, text.as_slice())?;
+        let Counted { text, children } = counted;
+        let count = children?;
         let mut head = Vec::new(alloc);
         put_head_unless(&mut head, false)?;
         let mut end = Vec::new(alloc);
         put_dir_end(alloc, &mut end, cap)?;
-        let Some(left) = sum(head.len(), children, end.len()) else {
+        let Some(left) = sum(head.len(), count, end.len()) else {
             return Err(DirFault::NoMemory);
         };
         Ok(Listing {
@@ -121,30 +121,6 @@ impl Listing {
             self.at = 0;
         }
     }
-}
-
-/// How many bytes the children have that stand in a directory's text, with the commas between them.
-fn count_children(alloc: Global, text: &[u8]) -> Result<usize, DirFault>
-    ensures counted { IfOk result (λ count. IsCountOfChildren text.now count) }
-    ensures refused { IfErr result (λ fault. fault ≢ NoMemory
-        → directory_reading text.now ≡ Err fault) }
-{
-    let mut count: usize = 0;
-    let mut child = Vec::new(alloc);
-    let mut last = Vec::new(alloc);
-    let mut at = 0;
-    while at < text.len() {
-        child.clear();
-        let (entry, next) = put_at(alloc, &mut child, &last, text, at > 0, at)?;
-        let Some(more) = count.checked_add(child.len()) else {
-            return Err(DirFault::NoMemory);
-        };
-        last.clear();
-        last.extend_from_slice(entry.name.as_str().as_bytes())?;
-        count = more;
-        at = next;
-    }
-    Ok(count)
 }
 
 /// The sum of three counts, None where it is too large.
@@ -238,26 +214,4 @@ fn put_from(
         }
     }
     Ok(at)
-}
-
-/// Puts the child whose entry stands at a place of a directory's text, behind an entry of that name, with the comma before
-/// it that a later one has. It gives the entry and the place behind it.
-fn put_at(
-    alloc: Global,
-    out: &mut Vec<u8>,
-    last: &[u8],
-    text: &[u8],
-    later: bool,
-    at: usize,
-) -> Result<(Entry, usize), DirFault>
-    requires { at < length text.now }
-    ensures put { IfOk result (λ child.
-        IsChildPut last.now text.now later at out.old.items out.new.items child.0 child.1) }
-    ensures refused { IfErr result (λ fault. fault ≢ NoMemory
-        → reading_after last.now (drop at text.now) ≡ Err fault) }
-{
-    let (entry, size) = read_first(alloc, last, &text[at..])?;
-    put_comma(out, later)?;
-    put_child(alloc, out, &entry)?;
-    Ok((entry, at + size))
 }

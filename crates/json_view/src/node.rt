@@ -1,13 +1,15 @@
 //! Nodes: files, and directories with their children.
-ghost use Rattle.std.specs.Prelude.{◌≡◌, ◌++◌, false, map, IfOk, OnOk};
+ghost use Rattle.std.specs.Prelude.{◌≡◌, ◌≢◌, ◌<◌, ◌++◌, length, drop, false, map, Err, IfOk, IfErr, OnOk};
 ghost use Rattle.std.specs.List.{join_with_byte};
 ghost use Rattle.caps.specs.Weakening.{weakened};
+ghost use Rattle.dir_codec.specs.Reading.{reading_after};
+ghost use Rattle.dir_codec.specs.declared.fault.DirFault.TheVariants.{NoMemory};
 ghost use Rattle.json_view.specs.Nodes.{size_member, verify_member, node_members, node_kind, file_text, child_text, dir_text};
-ghost use Rattle.json_view.specs.Listings.{head_unless, dir_end};
+ghost use Rattle.json_view.specs.Listings.{head_unless, dir_end, IsChildPut};
 
 use crate::text::{put_all, put_cap, put_comma, put_string};
 use caps::{Cap, weaken};
-use dir_codec::{Directory, Entry};
+use dir_codec::{DirFault, Directory, Entry, read_first};
 use itoa::Buffer;
 use std::alloc::{AllocError, Global};
 
@@ -84,6 +86,28 @@ pub(crate) fn put_child(alloc: Global, out: &mut Vec<u8>, entry: &Entry) -> Resu
     put_members(alloc, out, &entry.cap)?;
     out.extend_from_slice(b"}]")?;
     Ok(())
+}
+
+/// Puts the child whose entry stands at a place of a directory's text, behind an entry of that name, with the comma before
+/// it that a later one has. It gives the entry and the place behind it.
+pub(crate) fn put_at(
+    alloc: Global,
+    out: &mut Vec<u8>,
+    last: &[u8],
+    text: &[u8],
+    later: bool,
+    at: usize,
+) -> Result<(Entry, usize), DirFault>
+    requires { at < length text.now }
+    ensures put { IfOk result (λ child.
+        IsChildPut last.now text.now later at out.old.items out.new.items child.0 child.1) }
+    ensures refused { IfErr result (λ fault. fault ≢ NoMemory
+        → reading_after last.now (drop at text.now) ≡ Err fault) }
+{
+    let (entry, size) = read_first(alloc, last, &text[at..])?;
+    put_comma(out, later)?;
+    put_child(alloc, out, &entry)?;
+    Ok((entry, at + size))
 }
 
 /// The kind of the node that a cap names.

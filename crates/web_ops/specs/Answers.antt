@@ -15,7 +15,7 @@ use Rattle.path_walk.specs.Walk.{FileLookup, walked}
 use Rattle.path_walk.specs.declared.fault.WalkFault.{WalkFault}
 use Rattle.path_walk.specs.declared.fault.WalkFault.TheVariants.{NoChild, NotDirectory, NotEnoughShares, NoMemory}
 use Rattle.json_view.specs.Nodes.{file_text, dir_text}
-use Rattle.json_view.specs.Checks.{check_text, mapped_check_text, literal_check_text}
+use Rattle.health_json.specs.Checks.{check_text, mapped_check_text, literal_check_text}
 use Rattle.web_request.specs.declared.request.Request.{Request}
 use Rattle.web_request.specs.declared.request.Request.TheVariants.{Put, Mkdir, Get, Check}
 use Rattle.web_ops.specs.declared.reply.Reply.{Reply}

@@ -13,7 +13,7 @@ use Rattle.chk_file.specs.Upload.{upload_cap}
 use Rattle.path_walk.specs.Way.{NamesLeadTo, WalkStops}
 use Rattle.path_walk.specs.declared.fault.WalkFault.{WalkFault}
 use Rattle.json_view.specs.Nodes.{file_text}
-use Rattle.json_view.specs.Checks.{literal_check_text}
+use Rattle.health_json.specs.Checks.{literal_check_text}
 use Rattle.web_request.specs.declared.request.Request.{Request}
 use Rattle.web_request.specs.declared.request.Request.TheVariants.{Put, Mkdir, Get, Check}
 use Rattle.web_ops.specs.declared.reply.Reply.{Reply}

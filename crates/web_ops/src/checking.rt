@@ -15,7 +15,7 @@ use crate::reply::Reply;
 use caps::{Cap, is_verify_cap, weaken};
 use chk_file::{Cache, Health};
 use grid::Grid;
-use json_view::{check_json, literal_check_json, mapped_check_json};
+use health_json::{check_json, literal_check_json, mapped_check_json};
 use path_walk::{Names, walk};
 use share_store::Store;
 use std::alloc::{AllocError, Global};

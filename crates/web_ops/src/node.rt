@@ -12,10 +12,10 @@ use crate::failed::{Failure, failure_reply};
 use crate::replies::{bytes_reply, download_reply, json_reply, listing_reply};
 use crate::reply::Reply;
 use caps::{Cap, ReadFields, VerifyFields, is_verify_cap, weaken};
-use chk_file::{Cache, ReadFault, begin, read};
+use chk_file::{Cache, ReadFault, begin, read_counted};
 use dir_codec::is_memory;
 use grid::Grid;
-use json_view::{Listing, file_json};
+use json_view::{Counted, Listing, file_json};
 use octets::Bytes;
 use path_walk::{Names, WalkFault, walk};
 use share_store::Store;
@@ -131,8 +131,8 @@ fn node_json<S: Store>(
 {
     match cap {
         Cap::Chk(_) | Cap::Lit(_) => Ok(json_reply(file_json(alloc, cap)?)),
-        Cap::DirChk(fields) => match read(alloc, grid, cache, fields) {
-            Ok(bytes) => listing(alloc, cap, bytes),
+        Cap::DirChk(fields) => match read_counted(alloc, grid, cache, fields) {
+            Ok(counted) => listing(alloc, cap, counted),
             Err(ReadFault::NotEnoughShares) => failure_reply(alloc, Failure::NotEnoughShares),
             Err(ReadFault::NoMemory) => Err(AllocError),
         },
@@ -145,17 +145,17 @@ fn node_json<S: Store>(
 fn literal_listing(alloc: Global, cap: &Cap, bytes: &Bytes) -> Result<Reply, AllocError>
     ensures { IfOk result (λ reply. reply ≡ listing_reply cap.now bytes.now) }
 {
-    let text = Vec::from_slice(alloc, bytes.as_slice())?;
-    listing(alloc, cap, text)
+    let text = RcSlice::from_slice(alloc, bytes.as_slice())?;
+    listing(alloc, cap, Counted::new(alloc, text)?)
 }
 
-/// The JSON of a directory whose text these bytes are. It is made as it is taken, of the text, which is held.
-fn listing(alloc: Global, cap: &Cap, bytes: Vec<u8>) -> Result<Reply, AllocError>
-    ensures { IfOk result (λ reply. reply ≡ listing_reply cap.now bytes.items) }
+/// The JSON of a directory whose text this is, with its children counted. It is made as it is taken, of the text, which is
+/// held.
+fn listing(alloc: Global, cap: &Cap, counted: Counted) -> Result<Reply, AllocError>
+    ensures { IfOk result (λ reply. reply ≡ listing_reply cap.now counted) }
 {
     dir_codec::laws::texts_and_entries_belong_together();
-    let text = RcSlice::from_vec(bytes)?;
-    match Listing::new(alloc, cap, text) {
+    match Listing::new(alloc, cap, counted) {
         Ok(listing) => Ok(listing_reply(listing)),
         Err(fault) if is_memory(&fault) => Err(AllocError),
         Err(_) => failure_reply(alloc, Failure::NotDirectory),

@@ -188,8 +188,15 @@ fn end_of(alloc: Global, cap: &Cap) -> Result<String, Fail> {
     let mut cache = Cache::new(alloc)?;
     match walk(alloc, &mut grid, &mut cache, cap, &names) {
         Ok(_) => Err(Fail::from("a child")),
-        Err(WalkFault::NoChild(name)) => Ok(format!(in alloc; "no such child {}", name.as_str())?),
-        Err(fault) => Ok(format!(in alloc; "{fault}")?),
+        Err(fault) => words_of(alloc, fault),
+    }
+}
+
+/// What a fault says, with the name that wasn't found.
+fn words_of(alloc: Global, fault: WalkFault) -> Result<String, Fail> {
+    match fault {
+        WalkFault::NoChild(name) => Ok(format!(in alloc; "no such child {}", name.as_str())?),
+        fault => Ok(format!(in alloc; "{fault}")?),
     }
 }
 

@@ -9,7 +9,7 @@ use Rattle.web_ops.proofs.node.node_json.Goals as goal
 
 pub returns-in-Ok-clause-found : goal.returns-in-Ok-clause-found
 returns-in-Ok-clause-found g c =
-    subst (λ cap. IsFound (IsCacheCurrent c.args.cache.now c.args.grid.now) (IsNodeJson cap) (λ look. node_json_reply look.gives cap) c.listing.result c.args.grid.now c.read.new.grid)
+    subst (λ cap. IsFound (IsCacheCurrent c.args.cache.now c.args.grid.now) (IsNodeJson cap) (λ look. node_json_reply look.gives cap) c.listing.result c.args.grid.now c.read_counted.new.grid)
     (sym c.in-DirChk.is)
-    (read_found _ (listing_reply (DirChk c.in-DirChk.fields)) c.in-DirChk.fields c.in-Ok.bytes.items c.listing.result c.args.grid.now c.read.new.grid
-    (rw c.in-DirChk.is at c.listing.ensures) c.read.ensures.leaves c.read.ensures.unchanged c.in-Ok.ensures.bound c.in-Ok.ensures.fit)
+    (read_found _ (listing_reply (DirChk c.in-DirChk.fields)) c.in-DirChk.fields c.in-Ok.counted c.listing.result c.args.grid.now c.read_counted.new.grid
+    (rw c.in-DirChk.is at c.listing.ensures) c.read_counted.ensures.leaves c.read_counted.ensures.unchanged c.in-Ok.ensures.bound c.in-Ok.ensures.fit)

@@ -12,7 +12,8 @@ invariant_of-self c =
     let pinned : List CacheEntry = pinned_entries c.self.inside.pinned in
     let steps : List CacheEntry = c.self.inside.steps in
     let old : List CacheEntry = option_to_list c.self.inside.looking in
-    (bound_within _ _ (none_left_within kept pinned steps old) c.self.invariant.0, c.self.invariant.1)
+    let listed : List CacheEntry = option_to_list c.self.inside.listed in
+    (bound_within _ _ (none_left_within kept pinned steps old listed) c.self.invariant.0, c.self.invariant.1)
 
 pub returns : goal.returns
 returns c entry there =
@@ -20,4 +21,5 @@ returns c entry there =
     let pinned : List CacheEntry = pinned_entries c.self.inside.pinned in
     let steps : List CacheEntry = c.self.inside.steps in
     let old : List CacheEntry = option_to_list c.self.inside.looking in
-    subst (λ entries. Contains entries entry) c.self.view_is (none_left_within kept pinned steps old entry there)
+    let listed : List CacheEntry = option_to_list c.self.inside.listed in
+    subst (λ entries. Contains entries entry) c.self.view_is (none_left_within kept pinned steps old listed entry there)

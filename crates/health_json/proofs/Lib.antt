@@ -1,0 +1,5 @@
+pub mod Sharemap
+pub mod Replies
+pub mod Checks
+pub mod Ordered
+pub mod Mapped

@@ -1,0 +1,3 @@
+-- Read Checks; the texts are of Values.
+pub mod Checks
+pub mod Values
