@@ -245,39 +245,47 @@ fn ids_are_opened_once_and_secrets_are_short(rt: HostRuntime) -> Result<(), Fail
     Ok(())
 }
 
-/// Bytes, and how many of them are brought at once.
-const PARTS: &[(&[u8], usize)] = &[
-    (b"x", 1),
-    (b"\n\n", 2),
-    (b"GET / HTTP/1.1\r\nHost: g\r\n\r\nGET", 30),
+/// How many bytes belong to a body, bytes, and how many of them are brought at once.
+const PARTS: &[(usize, &[u8], usize)] = &[
+    (0, b"x", 1),
+    (0, b"\n\n", 2),
+    (0, b"\r\n\r\nGET", 4),
+    (0, b"x\n\ny", 3),
+    (0, b"GET / HTTP/1.1\r\nHost: g\r\n\r\nGET", 27),
+    (5, b"\n\nx\n\nGET", 5),
 ];
 
-/// Places in heads of 33 bytes each, and how many bytes between them are brought at once: four heads are the fewest that have
-/// 128 bytes, and a blank line that is cut isn't one.
+/// Places in heads of 33 bytes each, and how many bytes between them are brought at once: up to the end of the first blank line,
+/// of which the last bytes may come first. One that is cut isn't one.
 const CUT: &[(usize, usize, usize)] = &[
-    (0, 396, 132),
-    (1, 396, 131),
-    (5, 396, 160),
-    (0, 131, 131),
-    (131, 396, 133),
+    (0, 396, 33),
+    (1, 396, 32),
+    (5, 396, 28),
+    (0, 32, 32),
+    (31, 396, 2),
+    (32, 396, 1),
 ];
 
-/// How many of these bytes are brought at once, where there are any.
-fn part(bytes: &[u8]) -> usize {
-    if bytes.is_empty() { 0 } else { part_len(bytes) }
+/// How many of these bytes are brought at once, of which so many belong to a body, where there are any.
+fn part(of_body: usize, bytes: &[u8]) -> usize {
+    if of_body < bytes.len() {
+        part_len(of_body, bytes)
+    } else {
+        0
+    }
 }
 
 #[test]
 fn parts_end_behind_blank_lines(rt: HostRuntime) -> Result<(), Fail> {
-    for (bytes, wanted) in PARTS {
-        assert_eq!(rt; part(*bytes), *wanted);
+    for (of_body, bytes, wanted) in PARTS {
+        assert_eq!(rt; part(*of_body, *bytes), *wanted);
     }
     let mut heads = Vec::new(rt.alloc());
     for _ in 0..12u32 {
         heads.extend_from_slice(b"GET / HTTP/1.1\r\nHost: gateway\r\n\r\n")?;
     }
     for (from, to, wanted) in CUT {
-        assert_eq!(rt; part(heads.get(*from..*to).unwrap_or(b"")), *wanted);
+        assert_eq!(rt; part(0, heads.get(*from..*to).unwrap_or(b"")), *wanted);
     }
     Ok(())
 }

@@ -123,8 +123,55 @@ const CLOSES: &[u8] =
 const CLOSED: &[u8] =
     b"HTTP/1.1 200 OK\r\nContent-Type: application/octet-stream\r\nContent-Length: 3\r\nConnection: close\r\n\r\nfoo";
 
+/// What is tried with a loop over a gateway that has nothing yet.
+#[derive(Clone, Copy)]
+enum Trial {
+    Answers,
+    Cuts,
+    Stops,
+    TwoCaps,
+    Token,
+    HeadAlone,
+    Silent,
+}
+
+/// Whether a trial holds. A lobby is held here alone, and by no function that may leave at several places: its proof is dear
+/// there.
+fn is_tried<R: Net<Stream = TcpStream> + Clock + CpuClock + AllocGlobal + Log + Abort>(
+    rt: &R,
+    trial: Trial,
+) -> Result<bool, Fail> {
+    let mut many = lobby(rt.alloc())?;
+    is_tried_over(rt, &mut many, trial)
+}
+
+fn is_tried_over<R: Net<Stream = TcpStream> + Clock + CpuClock + AllocGlobal + Log + Abort>(
+    rt: &R,
+    many: &mut Lobby<MemStore>,
+    trial: Trial,
+) -> Result<bool, Fail> {
+    match trial {
+        Trial::Answers => are_answered(rt, many),
+        Trial::Cuts => are_cut(rt, many),
+        Trial::Stops => is_stopped(rt, many),
+        Trial::TwoCaps => have_two_caps(rt, many),
+        Trial::Token => is_stopped_by_the_token(rt, many),
+        Trial::HeadAlone => is_head_alone(rt, many),
+        Trial::Silent => are_not_waited_for(rt, many),
+    }
+}
+
 #[test]
 fn connections_are_answered(rt: HostRuntime) -> Result<(), Fail> {
+    assert!(rt; is_tried(&rt, Trial::Answers)?);
+    Ok(())
+}
+
+/// Whether three clients are given what they are to be given, and are counted.
+fn are_answered<R: Net<Stream = TcpStream> + Clock + CpuClock + AllocGlobal + Log + Abort>(
+    rt: &R,
+    many: &mut Lobby<MemStore>,
+) -> Result<bool, Fail> {
     let limits = Limits::new(2, Duration::from_secs(20));
     let whole = Row {
         sent: GET,
@@ -142,17 +189,24 @@ fn connections_are_answered(rt: HostRuntime) -> Result<(), Fail> {
         given: b"",
     };
     let rows = [whole, closing, nothing];
-    let counts = serves(&rt, &limits, &mut lobby(rt.alloc())?, &rows)?;
-    assert_eq!(rt; counts.open, 0);
-    assert_eq!(rt; counts.opened, 3);
-    assert_eq!(rt; counts.over, 3);
-    assert_eq!(rt; counts.bytes_in, (GET.len() + CLOSES.len()) as u64);
-    assert_eq!(rt; counts.bytes_out, (FOO.len() + CLOSED.len()) as u64);
-    Ok(())
+    let counts = serves(rt, &limits, many, &rows)?;
+    let are_over = counts.open == 0 && counts.opened == 3 && counts.over == 3;
+    let is_in = counts.bytes_in == (GET.len() + CLOSES.len()) as u64;
+    let is_out = counts.bytes_out == (FOO.len() + CLOSED.len()) as u64;
+    Ok(are_over && is_in && is_out)
 }
 
 #[test]
 fn connections_that_take_too_long_are_cut(rt: HostRuntime) -> Result<(), Fail> {
+    assert!(rt; is_tried(&rt, Trial::Cuts)?);
+    Ok(())
+}
+
+/// Whether three clients that stop are cut.
+fn are_cut<R: Net<Stream = TcpStream> + Clock + CpuClock + AllocGlobal + Log + Abort>(
+    rt: &R,
+    many: &mut Lobby<MemStore>,
+) -> Result<bool, Fail> {
     let mut limits = Limits::new(10, Duration::from_millis(300));
     limits.grace = Duration::from_millis(100);
     let silent = Row {
@@ -171,11 +225,8 @@ fn connections_that_take_too_long_are_cut(rt: HostRuntime) -> Result<(), Fail> {
         given: FOO,
     };
     let rows = [silent, slow_head, idle];
-    let counts = serves(&rt, &limits, &mut lobby(rt.alloc())?, &rows)?;
-    assert_eq!(rt; counts.opened, 3);
-    assert_eq!(rt; counts.late, 3);
-    assert_eq!(rt; counts.over, 0);
-    Ok(())
+    let counts = serves(rt, &limits, many, &rows)?;
+    Ok(counts.opened == 3 && counts.late == 3 && counts.over == 0)
 }
 
 /// Stores a file of 4 MiB, and gives the request for it.
@@ -315,7 +366,7 @@ const STOPPED: &[u8] =
 
 #[test]
 fn a_control_request_stops_the_loop(rt: HostRuntime) -> Result<(), Fail> {
-    assert!(rt; is_stopped(&rt, &mut lobby(rt.alloc())?)?);
+    assert!(rt; is_tried(&rt, Trial::Stops)?);
     Ok(())
 }
 
@@ -366,7 +417,7 @@ const PUT: &[u8] =
 
 #[test]
 fn equal_files_have_two_caps_at_two_listeners(rt: HostRuntime) -> Result<(), Fail> {
-    assert!(rt; have_two_caps(&rt, &mut lobby(rt.alloc())?)?);
+    assert!(rt; is_tried(&rt, Trial::TwoCaps)?);
     Ok(())
 }
 
@@ -425,7 +476,7 @@ const WITHOUT_THE_TOKEN: &[u8] =
 
 #[test]
 fn only_the_token_stops_the_loop(rt: HostRuntime) -> Result<(), Fail> {
-    assert!(rt; is_stopped_by_the_token(&rt, &mut lobby(rt.alloc())?)?);
+    assert!(rt; is_tried(&rt, Trial::Token)?);
     Ok(())
 }
 
@@ -472,18 +523,33 @@ const HEAD_ALONE: &[u8] =
 
 #[test]
 fn a_control_request_for_a_head_gets_no_body(rt: HostRuntime) -> Result<(), Fail> {
-    let answer = answer_past(&rt, 0, HEAD, &mut lobby(rt.alloc())?)?;
-    assert!(rt; answer.as_slice() == HEAD_ALONE);
+    assert!(rt; is_tried(&rt, Trial::HeadAlone)?);
     Ok(())
+}
+
+/// Whether a control request for a head gets no body.
+fn is_head_alone<R: Net<Stream = TcpStream> + Clock + CpuClock + AllocGlobal + Log + Abort>(
+    rt: &R,
+    many: &mut Lobby<MemStore>,
+) -> Result<bool, Fail> {
+    Ok(answer_past(rt, 0, HEAD, many)?.as_slice() == HEAD_ALONE)
 }
 
 #[test]
 fn silent_control_connections_delay_nobody(rt: HostRuntime) -> Result<(), Fail> {
-    let began = Instant::now(&rt)?;
-    let answer = answer_past(&rt, 100, STOP, &mut lobby(rt.alloc())?)?;
-    assert!(rt; answer.as_slice() == STOPPED);
-    assert!(rt; Instant::now(&rt)?.duration_since(began) < Duration::from_secs(5));
+    assert!(rt; is_tried(&rt, Trial::Silent)?);
     Ok(())
+}
+
+/// Whether a control request is answered within five seconds behind a hundred connections that send nothing.
+fn are_not_waited_for<R: Net<Stream = TcpStream> + Clock + CpuClock + AllocGlobal + Log + Abort>(
+    rt: &R,
+    many: &mut Lobby<MemStore>,
+) -> Result<bool, Fail> {
+    let began = Instant::now(rt)?;
+    let answer = answer_past(rt, 100, STOP, many)?;
+    let is_soon = Instant::now(rt)?.duration_since(began) < Duration::from_secs(5);
+    Ok(is_soon && answer.as_slice() == STOPPED)
 }
 
 /// What a control request is answered behind so many connections that send nothing. It stops the loop, which waits for none

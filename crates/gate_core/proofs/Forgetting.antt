@@ -19,7 +19,7 @@ use Rattle.gate_core.specs.Came.{Opening, Came, GoesOn}
 use Rattle.gate_core.specs.ConnectionState.{ConnectionState, Connections, State, IsBare, connection_at, waiting, waiting_in, is_closed_in, bytes_refusal, take_refusal, forget_refusal, going_refusal}
 use Rattle.gate_core.specs.AfterCall.{with_held, taken}
 use Rattle.gate_core.specs.Forgotten.{gone, gone_in, gone_at, with_gone}
-use Rattle.gate_core.specs.Kept.{kept_in}
+use Rattle.gate_core.specs.Kept.{kept_in, bytes_of_body_in}
 use Rattle.gate_core.proofs.Maps.{get_viewed, written, insert_same, get-insert_other, Changed}
 use Rattle.gate_core.proofs.Arrivals.{same_state, is_with_held, meant, some_is}
 
@@ -157,6 +157,10 @@ nothing_kept : (b : Bool) → kept_in (cond b (Some gone) None) ≡ 0
 nothing_kept true = refl
 nothing_kept false = refl
 
+nothing_of_body : (b : Bool) (bytes : List ℕ) → bytes_of_body_in (cond b (Some gone) None) bytes ≡ 0
+nothing_of_body true bytes = refl
+nothing_of_body false bytes = refl
+
 module _ (g h : State) (id : ℕ) (ids : set.FinSet nat_cmp) (unheld : connection_at g id ≡ gone_in ids id) where
   pub unheld_refused : (P : Type 0) (Q : GatewayFault → Type 0) → Q NotOpen → h ≡ g → MatchOption (bytes_refusal (connection_at g id)) P (λ e. Q e × (h ≡ g))
   unheld_refused P Q refused same = subst (λ o. MatchOption o P (λ e. Q e × (h ≡ g))) (sym (ap bytes_refusal unheld ∙ no_bytes (set.contains ids id))) (refused, same)
@@ -166,6 +170,9 @@ module _ (g h : State) (id : ℕ) (ids : set.FinSet nat_cmp) (unheld : connectio
 
   pub unheld_keeps : kept_in (connection_at g id) ≡ 0
   unheld_keeps = ap kept_in unheld ∙ nothing_kept (set.contains ids id)
+
+  pub unheld_of_body : (bytes : List ℕ) → bytes_of_body_in (connection_at g id) bytes ≡ 0
+  unheld_of_body bytes = ap (λ o. bytes_of_body_in o bytes) unheld ∙ nothing_of_body (set.contains ids id) bytes
 
   pub unheld_closed : set.contains ids id ≡ is_closed_in (connection_at g id)
   unheld_closed = sym (ap is_closed_in unheld ∙ gone_closed (set.contains ids id))

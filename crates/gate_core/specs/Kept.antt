@@ -1,9 +1,14 @@
--- How much is kept of a connection.
-use Rattle.std.specs.Prelude.{ℕ, ◌+◌, length, Option, Some, None}
-use Rattle.http_edge.specs.Kept.{kept_bytes}
+-- How much is kept of a connection, and how many bytes go on with a body.
+use Rattle.std.specs.Prelude.{ℕ, ◌+◌, List, length, Option, Some, None}
+use Rattle.http_edge.specs.Kept.{kept_bytes, bytes_of_body}
 use Rattle.gate_core.specs.ConnectionState.{ConnectionState}
 
 -- the bytes of a request that isn't whole yet, and those that wait to be taken
 abbrev pub kept_in : Option ConnectionState → ℕ
 kept_in None = 0
 kept_in (Some held) = kept_bytes held.conn + length held.waiting
+
+-- how many of these bytes belong to the body under way
+abbrev pub bytes_of_body_in : Option ConnectionState → List ℕ → ℕ
+bytes_of_body_in None bytes = 0
+bytes_of_body_in (Some held) bytes = bytes_of_body held.conn bytes

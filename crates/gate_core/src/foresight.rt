@@ -1,17 +1,22 @@
 //! What is done of a long request before the call that completes it.
-ghost use Rattle.std.specs.Prelude.{◌≡◌};
+ghost use Rattle.std.specs.Prelude.{◌≡◌, if◌then◌else◌};
+ghost use Rattle.gate_core.specs.Holds.{content_shares, content_text, listing_text, wanted_shares, wanted_text};
 ghost use Rattle.grid.specs.GridState.{IsHonest};
 ghost use Rattle.grid.specs.Leaves.{Leaves, IsUnchanged};
 ghost use Rattle.chk_file.specs.Cached.{IsCacheCurrent, IsWithin};
 
+use crate::holds::{Holds, Prospect};
 use crate::parameters::Parameters;
-use caps::{Cap, ReadFields, VerifyFields, parse_bytes, weaken};
-use chk_file::Cache;
+use caps::{Cap, ReadFields, VerifyFields, storage_index, weaken};
+use chk_file::{Cache, MOST_KEPT};
 use grid::Grid;
 use http_edge::{Awaited, Conn, Head, LastChunks};
-use path_walk::{Ahead, names, walk_ahead};
+use octets::Bytes;
+use path_walk::{Ahead, Names, walk_ahead};
 use share_store::Store;
-use std::alloc::Global;
+use std::alloc::{AllocError, Global};
+use std::rc::RcSlice;
+use web_request::{Fields, Request, interpret};
 
 /// How many bytes an upload has at least that is prepared: a shorter one takes a few milliseconds in all.
 const LEAST: usize = 262_144;
@@ -103,6 +108,7 @@ fn let_go_of_read(cache: &mut Cache)
     cache.let_go_of_read();
     cache.let_go_of_check();
     cache.let_go_of_look();
+    cache.let_go_of_listing();
 }
 
 /// An upload whose body is whole with the bytes that come next: what is kept of it, and what they add.
@@ -121,24 +127,32 @@ enum Rest<'a> {
     Read(Vec<u8>),
 }
 
-/// The upload that these bytes complete, if it is one that is prepared: a PUT to `/uri` with a body of 262,144 bytes at
-/// least, whose length its head tells or which comes in chunks.
-pub fn whole_upload<'a>(conn: &'a Conn, next: &'a [u8]) -> Option<WholeUpload<'a>> {
+/// The upload that these bytes complete, if it is one that is prepared: a file with a body of 262,144 bytes at least, whose
+/// length its head tells or which comes in chunks. None where memory is refused.
+pub fn whole_upload<'a>(alloc: Global, conn: &'a Conn, next: &'a [u8]) -> Option<WholeUpload<'a>> {
     if conn.kept().saturating_add(next.len()) < LEAST {
         return None;
     }
     match conn.under_way() {
-        Some((awaited, kept)) => of_length(awaited, kept, next),
-        None => in_chunks(conn, next),
+        Some((awaited, kept)) => of_length(alloc, awaited, kept, next),
+        None => in_chunks(alloc, conn, next),
     }
 }
 
 /// The same of a body whose length its head tells.
-fn of_length<'a>(awaited: &Awaited, kept: &'a [u8], next: &'a [u8]) -> Option<WholeUpload<'a>> {
-    if awaited.length < LEAST || !is_upload(&awaited.head) {
+fn of_length<'a>(
+    alloc: Global,
+    awaited: &Awaited,
+    kept: &'a [u8],
+    next: &'a [u8],
+) -> Option<WholeUpload<'a>> {
+    if awaited.length < LEAST {
         return None;
     }
     let rest = next.get(..awaited.length.saturating_sub(kept.len()))?;
+    if !is_upload(alloc, &awaited.head) {
+        return None;
+    }
     Some(WholeUpload {
         kept,
         rest: Rest::Lent(rest),
@@ -146,18 +160,39 @@ fn of_length<'a>(awaited: &Awaited, kept: &'a [u8], next: &'a [u8]) -> Option<Wh
 }
 
 /// The same of a body that comes in chunks.
-fn in_chunks<'a>(conn: &'a Conn, next: &[u8]) -> Option<WholeUpload<'a>> {
+fn in_chunks<'a>(alloc: Global, conn: &'a Conn, next: &[u8]) -> Option<WholeUpload<'a>> {
     let LastChunks {
         request,
         content,
         added,
     } = conn.last_chunks(next)?;
-    if content.len().saturating_add(added.len()) < LEAST || !is_upload(&request.head) {
+    if content.len().saturating_add(added.len()) < LEAST || !is_upload(alloc, &request.head) {
         return None;
     }
     Some(WholeUpload {
         kept: content,
         rest: Rest::Read(added),
+    })
+}
+
+/// Whether a request with this head asks for its body to be stored as a file.
+fn is_upload(alloc: Global, head: &Head) -> bool {
+    matches!(asked_by(alloc, head), Some(Request::Put(_)))
+}
+
+/// What a request with this head asks for, by the very reading that carries it out. Its fields and its body, which decide
+/// nothing here, are left out. None where it is refused, or memory is.
+fn asked_by(alloc: Global, head: &Head) -> Option<Request> {
+    let bare = bare_head(alloc, head).ok()?;
+    interpret(alloc, &bare, Bytes::new(alloc)).ok()
+}
+
+/// The method and the target of a head.
+fn bare_head(alloc: Global, head: &Head) -> Result<web_request::Head, AllocError> {
+    Ok(web_request::Head {
+        method: Bytes::from_slice(alloc, head.method.as_slice())?,
+        target: Bytes::from_slice(alloc, head.target.as_slice())?,
+        fields: Fields::from_vec(Vec::new(alloc)),
     })
 }
 
@@ -179,18 +214,14 @@ pub fn prepare_upload(
     cache.prepare(alloc, k, n, secret, upload.kept, rest)
 }
 
-/// Whether a head asks for bytes to be stored.
-fn is_upload(head: &Head) -> bool {
-    let target = head.target.as_slice();
-    head.method.as_slice() == b"PUT".as_slice()
-        && (target == b"/uri".as_slice() || target.starts_with(b"/uri?"))
-}
-
-/// What a request looks at: a path behind `/uri/`, and what is done with what it leads to.
-#[derive(Clone, Copy)]
-pub struct Asked<'a> {
-    path: &'a [u8],
+/// What a request looks at: what names lead to from a cap, and what is done with that.
+#[derive(Drop)]
+pub struct Asked {
+    cap: Cap,
+    names: Names,
     wanted: Wanted,
+    /// Whether the head of the reply is asked for alone.
+    head_only: bool,
 }
 
 /// What is wanted of what a path leads to.
@@ -202,116 +233,241 @@ enum Wanted {
     Listing,
     /// A check of its shares, all of which are verified.
     Verification,
-    /// A check that looks at no share, or nothing that is known.
+    /// A check that looks at no share.
     Nothing,
 }
 
-/// What these bytes ask for, where they begin with the target of a GET or a HEAD, or of a POST, and nothing of another
-/// request came before. It is a guess: no field is looked at, and of the query only `t=json` and `verify=true` count.
-pub fn asked_for<'a>(conn: &Conn, next: &'a [u8]) -> Option<Asked<'a>> {
-    if conn.kept() > 0 {
-        return None;
+/// What the request asks for that these bytes complete first, where it looks at what is stored. However its bytes were cut,
+/// this is the request that the gateway will carry out next. None where memory is refused.
+pub fn asked_for(alloc: Global, conn: &Conn, next: &[u8]) -> Option<Asked> {
+    match next_request(alloc, conn, next)? {
+        Request::Get {
+            cap,
+            names,
+            json,
+            head_only,
+            range: _,
+        } => Some(Asked {
+            cap,
+            names,
+            wanted: if json {
+                Wanted::Listing
+            } else {
+                Wanted::Content
+            },
+            head_only,
+        }),
+        Request::Check { cap, names, verify } => Some(Asked {
+            cap,
+            names,
+            wanted: if verify {
+                Wanted::Verification
+            } else {
+                Wanted::Nothing
+            },
+            head_only: false,
+        }),
+        Request::Put(_) | Request::Mkdir(_) => None,
     }
-    let is_post = next.starts_with(b"POST ".as_slice());
-    let target = behind_method(next)?;
-    let end = target.iter().position(|byte| *byte == b' ')?;
-    let target = target.get(..end)?;
-    let length = target.iter().position(|byte| *byte == b'?').unwrap_or(end);
-    let path = target.get(..length)?;
-    let query = target.get(length..)?;
-    Some(Asked {
-        path,
-        wanted: wanted_of(is_post, query),
-    })
 }
 
-/// What a request wants, by its query.
-fn wanted_of(is_post: bool, query: &[u8]) -> Wanted {
-    if is_post {
-        return if has_field(query, b"verify=true".as_slice()) {
-            Wanted::Verification
-        } else {
-            Wanted::Nothing
-        };
+/// The request that these bytes complete first: the one whose body is under way, or one without a body.
+fn next_request(alloc: Global, conn: &Conn, next: &[u8]) -> Option<Request> {
+    if let Some((awaited, kept)) = conn.under_way() {
+        if kept.len().saturating_add(next.len()) < awaited.length {
+            return None;
+        }
+        return asked_by(alloc, &awaited.head);
     }
-    if has_field(query, b"t=json".as_slice()) {
-        Wanted::Listing
-    } else {
-        Wanted::Content
+    if let Some(last) = conn.last_chunks(next) {
+        return asked_by(alloc, &last.request.head);
     }
+    let head = conn.first_head(next).ok()??;
+    asked_by(alloc, &head)
 }
 
-/// What is behind `/uri/` in the target of a request that reads.
-fn behind_method(next: &[u8]) -> Option<&[u8]> {
-    if let Some(target) = next.strip_prefix(b"GET /uri/".as_slice()) {
-        return Some(target);
-    }
-    if let Some(target) = next.strip_prefix(b"HEAD /uri/".as_slice()) {
-        return Some(target);
-    }
-    next.strip_prefix(b"POST /uri/".as_slice())
-}
-
-/// Whether a query has this field.
-fn has_field(query: &[u8], wanted: &[u8]) -> bool {
-    query
-        .split(|byte| *byte == b'&' || *byte == b'?')
-        .any(|field| field == wanted)
-}
-
-/// Takes a step of the work that such a request needs, and says whether steps are left, or those of another connection's
-/// are: names are looked up in directories, and then what they lead to is read, if it is a long file or a long directory
-/// that is listed, or its shares are verified.
+/// Takes a step of the work that such a request needs, and says how far it is: names are looked up in directories, and then
+/// what they lead to is read, if it is a long file or a long directory that is listed, or its shares are verified. It waits
+/// too where the steps of another connection's read come first.
 pub fn prepare_read<S: Store>(
     alloc: Global,
     id: u64,
-    asked: Asked<'_>,
+    asked: Asked,
+    may_hold: bool,
     grid: &mut Grid<S>,
     cache: &mut Cache,
     prepared_for: &mut PreparedFor,
-) -> bool
+) -> Prospect
     ensures leaves { Leaves grid.old grid.new }
     ensures unchanged { IsHonest grid.old → IsUnchanged grid.old grid.new }
     ensures fresh { IsCacheCurrent cache.old grid.old → IsCacheCurrent cache.new grid.new }
 {
-    let Ok((text, names)) = names(alloc, asked.path) else {
-        return false;
-    };
-    let Ok(cap) = parse_bytes(alloc, text.as_str().as_bytes()) else {
-        return false;
-    };
     let is_its_turn = prepared_for.is_turn_to_read(id);
-    match walk_ahead(alloc, grid, cache, &cap, &names, is_its_turn) {
-        Ahead::Waits => !is_its_turn || prepared_for.may_go_on(id),
+    let (holds, waits) = step(alloc, &asked, may_hold, is_its_turn, grid, cache);
+    if waits && (!is_its_turn || prepared_for.may_go_on(id)) {
+        return Prospect::Waits;
+    }
+    Prospect::Ready(holds)
+}
+
+/// Takes the step: what the reply will hold, as far as is known, and whether steps are left. None is taken of a reply that will
+/// hold much and may not.
+fn step<S: Store>(
+    alloc: Global,
+    asked: &Asked,
+    may_hold: bool,
+    is_its_turn: bool,
+    grid: &mut Grid<S>,
+    cache: &mut Cache,
+) -> (Holds, bool)
+    ensures leaves { Leaves grid.old grid.new }
+    ensures unchanged { IsHonest grid.old → IsUnchanged grid.old grid.new }
+    ensures fresh { IsCacheCurrent cache.old grid.old → IsCacheCurrent cache.new grid.new }
+{
+    match walk_ahead(alloc, grid, cache, &asked.cap, &asked.names, is_its_turn) {
+        Ahead::Waits => (Holds::nothing(), true),
         Ahead::At(end) => {
-            let is_left = prepare_end(alloc, &end, asked.wanted, is_its_turn, grid, cache);
-            is_left && (!is_its_turn || prepared_for.may_go_on(id))
+            let holds = held_by(asked, &end, grid);
+            if !may_hold && holds.is_much() {
+                return (holds, false);
+            }
+            (
+                holds,
+                prepare_end(alloc, &end, asked.wanted, is_its_turn, grid, cache),
+            )
         }
-        Ahead::Over => false,
+        Ahead::Over => (Holds::nothing(), false),
     }
 }
 
-/// The same of what the names lead to.
+/// What the reply to such a request will hold, where names lead to this cap. A reply that is its head alone holds nothing.
+fn held_by<S: Store>(asked: &Asked, end: &Cap, grid: &Grid<S>) -> Holds {
+    if asked.head_only {
+        return Holds::nothing();
+    }
+    held_for(asked.wanted, end, lends(grid, end))
+}
+
+/// What the reply will hold where this is wanted of what a cap names, of which stores lend the shares or don't.
+fn held_for(wanted: Wanted, end: &Cap, lent: bool) -> Holds
+    ensures shares { result.shares ≡ wanted_shares wanted end.now lent }
+    ensures text { result.text ≡ wanted_text wanted end.now lent }
+{
+    match wanted {
+        Wanted::Content => content_held(end, lent),
+        Wanted::Listing => listing_held(end),
+        Wanted::Verification | Wanted::Nothing => Holds::nothing(),
+    }
+}
+
+/// The same where its bytes are wanted: a literal file, or one that is kept whole, or the shares of a longer one; or the
+/// segment that is made, where stores have the shares in memory anyway.
+fn content_held(end: &Cap, lent: bool) -> Holds
+    ensures shares { result.shares ≡ content_shares end.now lent }
+    ensures text { result.text ≡ content_text end.now lent }
+{
+    match end {
+        Cap::Chk(fields) => {
+            if lent {
+                Holds::segment(fields.size)
+            } else {
+                Holds::shares(fields.size)
+            }
+        }
+        Cap::Lit(bytes) => Holds::shares(bytes.len() as u64),
+        Cap::DirChk(_) | Cap::DirLit(_) | Cap::ChkVerify(_) | Cap::DirChkVerify(_) =>
+            Holds::nothing(),
+    }
+}
+
+/// The same where its children are listed: its text.
+fn listing_held(end: &Cap) -> Holds
+    ensures shares { result.shares ≡ 0 }
+    ensures text { result.text ≡ listing_text end.now }
+{
+    match end {
+        Cap::DirChk(fields) => Holds::text(fields.size),
+        Cap::DirLit(bytes) => Holds::text(bytes.len() as u64),
+        Cap::Chk(_) | Cap::Lit(_) | Cap::ChkVerify(_) | Cap::DirChkVerify(_) => Holds::nothing(),
+    }
+}
+
+/// Whether a cap names a file that isn't kept whole, and stores have shares of each number below k in memory.
+fn lends<S: Store>(grid: &Grid<S>, end: &Cap) -> bool {
+    let Cap::Chk(fields) = end else {
+        return false;
+    };
+    if fields.size <= MOST_KEPT {
+        return false;
+    }
+    match grid.peek_below(storage_index(&fields.key), fields.k) {
+        Ok(found) => has_each_below(&found, fields.k),
+        Err(_) => false,
+    }
+}
+
+/// Whether among these strings there is one of each number below k.
+fn has_each_below(found: &[(usize, u16, RcSlice<u8>)], k: u16) -> bool {
+    for number in 0..k {
+        if !has_number(found, number) {
+            return false;
+        }
+    }
+    true
+}
+
+/// Whether one of these strings has a number.
+fn has_number(found: &[(usize, u16, RcSlice<u8>)], number: u16) -> bool {
+    for (_, other, _) in found {
+        if *other == number {
+            return true;
+        }
+    }
+    false
+}
+
+/// The same of what the names lead to: whether steps are left.
 fn prepare_end<S: Store>(
     alloc: Global,
     end: &Cap,
     wanted: Wanted,
     is_its_turn: bool,
-    grid: &Grid<S>,
+    grid: &mut Grid<S>,
     cache: &mut Cache,
 ) -> bool
-    ensures { cache.new ≡ cache.old }
+    ensures leaves { Leaves grid.old grid.new }
+    ensures unchanged { IsHonest grid.old → IsUnchanged grid.old grid.new }
+    ensures fresh { IsCacheCurrent cache.old grid.old → IsCacheCurrent cache.new grid.new }
 {
     match (wanted, end) {
         (Wanted::Verification, _) => match weaken(end) {
             Some(verify_cap) => { check_ahead(alloc, &verify_cap.fields, is_its_turn, grid, cache) }
             None => false,
         },
-        (Wanted::Content, Cap::Chk(fields)) | (Wanted::Listing, Cap::DirChk(fields)) => {
-            read_ahead(alloc, fields, is_its_turn, grid, cache)
+        (Wanted::Content, Cap::Chk(fields)) => read_ahead(alloc, fields, is_its_turn, grid, cache),
+        (Wanted::Listing, Cap::DirChk(fields)) => {
+            list_ahead(alloc, fields, is_its_turn, grid, cache)
         }
         _ => false,
     }
+}
+
+/// The same of the listing of the directory with these fields.
+fn list_ahead<S: Store>(
+    alloc: Global,
+    fields: &ReadFields,
+    is_its_turn: bool,
+    grid: &mut Grid<S>,
+    cache: &mut Cache,
+) -> bool
+    ensures leaves { Leaves grid.old grid.new }
+    ensures unchanged { IsHonest grid.old → IsUnchanged grid.old grid.new }
+    ensures fresh { IsCacheCurrent cache.old grid.old → IsCacheCurrent cache.new grid.new }
+{
+    if !cache.can_list_ahead(grid, fields) {
+        return false;
+    }
+    !is_its_turn || cache.list_ahead(alloc, grid, fields)
 }
 
 /// The same of the reading of the file with these fields.

@@ -22,8 +22,10 @@ mod output;
 mod server;
 /// How far a connection's calls went.
 mod stage;
-/// What is done of an upload before the call that completes it.
+/// What is done of a long request before the call that completes it.
 mod foresight;
+/// What a reply holds in memory while it waits.
+mod holds;
 /// One connection: what framing goes on with, and what waits to be taken.
 mod connection;
 /// How many replies there were, by status.
@@ -37,5 +39,6 @@ pub mod laws;
 
 pub use fault::{GatewayFault, RestoreFault};
 pub use gateway::Gateway;
+pub use holds::{Holds, MUCH, Prospect};
 pub use pages::{Page, Pages};
 pub use tally::Tally;

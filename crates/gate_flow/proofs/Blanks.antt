@@ -36,11 +36,11 @@ no_blank bytes m some le other = by (ends_in_empty_line (take m bytes)) refl
     by true e = absurd (other (sym (get_or-take m bytes (m - 1) 0 (omega arith)) ∙ (ap (λ k. get_or (take m bytes) (k - 1) 0) (sym (length-take-le m bytes le)) ∙ last_of_blank (take m bytes) e)))
 
 -- where none ended up to a place, and the next bytes hold no LF, none ends before these are over
-pub none_yet : (bytes : List ℕ) (end n : ℕ) → ((m : ℕ) → 128 ≤ m → m ≤ end → ends_in_empty_line (take m bytes) ≡ false) →
+pub none_yet : (bytes : List ℕ) (end n : ℕ) → ((m : ℕ) → m ≤ end → ends_in_empty_line (take m bytes) ≡ false) →
     ((k : ℕ) → 0 ≤ k → k < n → nat_eq (get_or (take (length bytes - end) (drop end bytes)) k 0) 10 ≡ true → ⊥) → end + n ≤ length bytes →
-    (m : ℕ) → 128 ≤ m → m ≤ end + n → ends_in_empty_line (take m bytes) ≡ false
-none_yet bytes end n before nowhere within m least le =
-    ⊎_elim (λ t. before m least (t.1)) (λ t. no_blank bytes m (omega arith) (omega arith) (other (t.1))) (leb_tells m end)
+    (m : ℕ) → m ≤ end + n → ends_in_empty_line (take m bytes) ≡ false
+none_yet bytes end n before nowhere within m le =
+    ⊎_elim (λ t. before m (t.1)) (λ t. no_blank bytes m (omega arith) (omega arith) (other (t.1))) (leb_tells m end)
   where
     other : end < m → get_or bytes (m - 1) 0 ≡ 10 → ⊥
     other past is = nowhere (m - 1 - end) (omega arith) (omega arith) (eq-eqb (get_or (take (length bytes - end) (drop end bytes)) (m - 1 - end) 0) 10 (at ∙ is))

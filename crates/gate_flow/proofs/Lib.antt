@@ -1,4 +1,5 @@
 mod Blanks
+mod Ends
 pub mod Leading
 pub mod Moving
 pub mod Standing

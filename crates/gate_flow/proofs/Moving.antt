@@ -11,6 +11,7 @@ use Rattle.std.proofs.lemmas.List.Folds.{list_any-append}
 use Rattle.gate_core.specs.ConnectionState.{State, connection_at, waiting, bytes_refusal, is_closed_in}
 use Rattle.gate_core.specs.Came.{GoesOn}
 use Rattle.gate_core.specs.Faithful.{Faithful}
+use Rattle.gate_core.specs.Kept.{bytes_of_body_in}
 use Rattle.gate_flow.specs.Parts.{IsFeedPart}
 use Rattle.gate_flow.specs.Brought.{AreBrought, AreInParts}
 use Rattle.gate_flow.specs.Led.{AreOf, IsMove, AreMoves, TakesBytes, IsTimely, AreTimely, IsLed, IsLedAsWritten, IsMoved, IsMovedAsWritten, IsGivenUp}
@@ -170,7 +171,7 @@ in_parts : (id : ℕ) (a b : List Event) (g m h : State) (p q : List ℕ) → Ar
 in_parts id a b g m h p q brought after bare = record { parts = a; others = b; all = refl; at = m; brought = brought; after = after; bare = bare }
 
 -- one part
-pub part_moves : (id n : ℕ) (g h : State) (piece left part : List ℕ) → part ≡ take n piece → left ≡ drop n piece → IsFeedPart piece n → waiting g id ≡ []
+pub part_moves : (id n : ℕ) (g h : State) (piece left part : List ℕ) → part ≡ take n piece → left ≡ drop n piece → IsFeedPart (bytes_of_body_in (connection_at g id) piece) piece n → waiting g id ≡ []
     → is_closed_in (connection_at g id) ≡ false → TakesBytes (connection_at h id) → IsLed id (Bytes id part ∷ []) g h → IsLedAsWritten (Bytes id part ∷ []) g h
     → (now : IsMovedAsWritten id g h piece left [] []) × AreBrought id now.moved.calls g h piece left
 unfolding moved_bytes moved_one

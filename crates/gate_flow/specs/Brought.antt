@@ -2,6 +2,7 @@
 use Rattle.std.specs.Prelude.{◌≡◌, ◌≢◌, ◌⊎◌, ℕ, List, [], ◌∷◌, ◌++◌, take, drop, false, IsTrue, Option}
 use Rattle.gate_core.specs.Events.{Event, Bytes, bytes_of_calls}
 use Rattle.gate_core.specs.ConnectionState.{ConnectionState, State, connection_at, waiting, waiting_in, is_closed_in}
+use Rattle.gate_core.specs.Kept.{bytes_of_body_in}
 use Rattle.gate_flow.specs.Parts.{IsFeedPart}
 use Rattle.gate_flow.specs.Led.{IsLed, IsLedAsWritten}
 
@@ -9,7 +10,7 @@ use Rattle.gate_flow.specs.Led.{IsLed, IsLedAsWritten}
 -- for the connection and more bytes counted, and it led from one state of a gateway to another.
 pub record IsBrought (id : ℕ) (e : Event) (g h : State) (piece left : List ℕ) : Type 0 where
   pub size : ℕ
-  pub cut : IsFeedPart piece size
+  pub cut : IsFeedPart (bytes_of_body_in (connection_at g id) piece) piece size
   pub call : e ≡ Bytes id (take size piece)
   pub rest : left ≡ drop size piece
   pub quiet : waiting g id ≡ []

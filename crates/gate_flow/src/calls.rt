@@ -126,7 +126,8 @@ fn feed_part<S: Store>(
     ensures faults { IfErr result (IsCallFault (connection_at gateway.old id)) }
 {
     let bytes = piece.as_slice();
-    let len = part_len(bytes);
+    let of_body = gateway.of_body(id, bytes)?;
+    let len = part_len(of_body, bytes);
     feed(gateway, id, &bytes[..len])?;
     piece.skip(len);
     Ok(())

@@ -1,7 +1,7 @@
 //! A gateway as a loop over sockets sees it.
-ghost use Rattle.std.specs.Prelude.{◌≡◌, ◌≢◌, ◌+◌, ◌-◌, ◌^◌, min, [], ◌∷◌, length, OnOk, OnErr, IfOk, IfErr, IsOkUnless, MatchOption, None, unwrap_or, option_copied};
+ghost use Rattle.std.specs.Prelude.{◌≡◌, ◌≢◌, ◌+◌, ◌-◌, ◌^◌, min, [], ◌∷◌, length, OnOk, OnErr, IfOk, IfErr, IsOkUnless, MatchBool, MatchOption, None, unwrap_or, option_copied};
 ghost use Rattle.gate_core.specs.Events.{Open};
-ghost use Rattle.gate_core.specs.ConnectionState.{connection_at, open_refusal, OthersSame};
+ghost use Rattle.gate_core.specs.ConnectionState.{connection_at, open_refusal, waiting, OthersSame};
 ghost use Rattle.gate_core.specs.Kept.{kept_in};
 ghost use Rattle.gate_flow.specs.Faults.{IsCallFault};
 ghost use Rattle.gate_flow.specs.State.{opened_flow};
@@ -10,9 +10,10 @@ ghost use Rattle.gate_flow.specs.Steps.{Advances, AdvancesAsWritten, Rests};
 ghost use Rattle.gate_flow.specs.Hosted.{IsForgotten, IsHosted, IsHostedWith};
 ghost use Rattle.gate_flow.specs.declared.want.Want.TheVariants as want;
 
+use crate::calls::waits;
 use crate::fault::FlowFault;
 use crate::flow::Flow;
-use gate_core::Gateway;
+use gate_core::{Gateway, Prospect};
 use share_store::Store;
 use std::alloc::Global;
 use std::marker::Model;
@@ -106,15 +107,22 @@ impl<S: Store> Lobby<S> {
         Flow::open(alloc, &mut self.gateway, id, secret)
     }
 
+    /// Whether bytes wait for a flow's connection.
+    pub fn waits(&self, flow: &Flow) -> bool
+        ensures { MatchBool result (waiting self.now flow.now.id ≢ []) (waiting self.now flow.now.id ≡ []) }
+    {
+        waits(&self.gateway, flow.id())
+    }
+
     /// Takes a step of what the gateway will do with the bytes that a flow has at hand, and says whether it had better not
-    /// go on yet, as `Gateway::prepare` does. It is no call of a connection.
-    pub fn prepare(&mut self, flow: &Flow) -> bool
+    /// go on yet, and else what the reply will hold, as `Gateway::prepare` does. It is no call of a connection.
+    pub fn prepare(&mut self, flow: &Flow, may_hold: bool) -> Prospect
         ensures led { IsLed flow.now.id [] self.old self.new }
         ensures as_written { IsLedAsWritten [] self.old self.new }
         ensures hosted { IsHosted flow.now.id (flow.now.id + 1) self.old self.new }
     {
         crate::laws::gateways_are_hosted();
-        self.gateway.prepare(flow.id(), flow.at_hand())
+        self.gateway.prepare(flow.id(), flow.at_hand(), may_hold)
     }
 
     /// Lets go of what was prepared for a connection.

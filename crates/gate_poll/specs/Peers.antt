@@ -22,9 +22,10 @@ owes_at Nothing lingers = true
 abbrev pub owes : Peer → Bool
 owes peer = owes_at peer.flow.want peer.lingers
 
--- it waits for a side of its socket that its flow wants; one that is only waited for waits for bytes
+-- It waits for a side of its socket that its flow wants. One that is only waited for waits for bytes, and so does one that waits
+-- for memory before its request is carried out.
 abbrev pub WaitsFor : Side → Peer → Type 0
-WaitsFor side.Read peer = (peer.flow.want ≡ Read) ⊎ (peer.lingers ≡ true)
+WaitsFor side.Read peer = (peer.flow.want ≡ Read) ⊎ ((peer.flow.want ≡ Advance) ⊎ (peer.lingers ≡ true))
 WaitsFor side.Write peer = peer.flow.want ≡ Write
 
 abbrev pub EndsFor : End → Peer → Type 0
@@ -48,7 +49,7 @@ IsGoing (Blocked side) = ⊥
 IsGoing Over = ⊤
 
 -- A connection went on, and ends its turn so or not: the calls of the gateway were of its own, and where it waits for a side
--- of its socket its flow wants that side.
+-- of its socket that is the one which WaitsFor says.
 pub record IsStepped (old new : Peer) (end : Option End) (g h : State) : Type 0 where
   pub id : new.flow.id ≡ old.flow.id
   pub waits : EndsForSome end new

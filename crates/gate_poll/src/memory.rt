@@ -10,9 +10,10 @@ use std::collections::BTreeSet;
 /// From how many kept bytes on a request is long.
 pub const LONG: usize = 16_384;
 
-/// What is kept of all connections, of their requests that aren't whole yet and of their replies that wait, and who waits
-/// until there is less of it. Where the budget is used up, those that send long requests are read no further, but for one:
-/// it goes on until its request is whole, so that somebody always does. Shorter requests never wait.
+/// What is kept of all connections, of their requests that aren't whole yet and by their replies that wait, and who waits
+/// until there is less of it. Where the budget is used up, those that send long requests are read no further, and none is
+/// carried out whose reply would hold much, but for one: it goes on until less is kept of it, so that somebody always does.
+/// Shorter ones never wait.
 #[derive(Drop)]
 pub struct Memory {
     /// How many bytes may be kept.
@@ -54,6 +55,13 @@ impl Memory {
         self.waiting.contains(&id)
     }
 
+    /// Whether a connection might go on of which much is kept, or would be.
+    pub fn has_room_for(&self, id: u64) -> bool
+        ensures { IsTrue result ↔ MayBeRead self.now id 16384 }
+    {
+        !self.is_full() || self.first.is_none() || self.first == Some(id)
+    }
+
     /// So many bytes are kept of a connection, where it was so many before.
     pub fn changes(&mut self, before: usize, now: usize)
         ensures kept { self.new.kept ≡ min (self.old.kept - before + now) (2 ^ 64 - 1) }
@@ -67,7 +75,7 @@ impl Memory {
             .saturating_add(now as u64);
     }
 
-    /// A connection sends no request any more: its request is whole, or it is gone.
+    /// Little is kept of a connection any more, or it is gone.
     pub fn lets_go(&mut self, id: u64)
         ensures kept { self.new.kept ≡ self.old.kept }
         ensures most { self.new.most ≡ self.old.most }
@@ -81,8 +89,8 @@ impl Memory {
         self.waiting.remove(&id);
     }
 
-    /// Whether a connection of which so many bytes are kept may be read from. Else it waits until it is called by
-    /// [`Memory::next`]. Refused memory is that of its place among those that wait; then it may be read from too.
+    /// Whether a connection of which so many bytes are kept, or would be, may go on. Else it waits until it is called by
+    /// [`Memory::next`]. Refused memory is that of its place among those that wait; then it may go on too.
     pub fn admits(&mut self, id: u64, kept: usize) -> Result<bool, AllocError>
         ensures exact { IfOk result (λ yes. IsTrue yes ↔ MayBeRead self.old id kept) }
         ensures short { kept < 16384 → result ≡ Ok true }

@@ -1,7 +1,8 @@
 //! One connection with its socket.
-ghost use Rattle.std.specs.Prelude.{◌≡◌, ◌≢◌, ◌<◌, ◌-◌, ◌^◌, min, IsTrue, IsFalse, Some, None, false, true};
-ghost use Rattle.gate_core.specs.ConnectionState.{connection_at};
+ghost use Rattle.std.specs.Prelude.{◌≡◌, ◌≢◌, ◌<◌, ◌-◌, ◌^◌, min, IsTrue, IsFalse, Some, None, [], false, true};
+ghost use Rattle.gate_core.specs.ConnectionState.{connection_at, waiting};
 ghost use Rattle.gate_core.specs.Kept.{kept_in};
+ghost use Rattle.gate_core.specs.Holds.{held_while};
 ghost use Rattle.gate_flow.specs.declared.want.Want.TheVariants as want;
 ghost use Rattle.gate_turns.specs.declared.seat.Side.TheVariants as side;
 
@@ -9,6 +10,7 @@ use crate::memory::LONG;
 use crate::pace::{Pace, Way};
 use crate::stopwatch::Stopwatch;
 use crate::tools::Tools;
+use gate_core::{Holds, Prospect};
 use gate_flow::{Flow, FlowFault, Lobby, Step, Want};
 use gate_turns::{End, Seat, Side, Turned};
 use mio::net::TcpStream;
@@ -19,6 +21,9 @@ use std::time::{Clock, CpuClock, Duration, Instant};
 
 /// How often a socket is called in one turn.
 const CALLS: u32 = 4;
+
+/// From how many bytes on a reply holds much.
+const MUCH: usize = 1_048_576;
 
 /// From how many milliseconds of processor time on a step of the gateway is long.
 const LONG_MILLIS: u128 = 2;
@@ -83,8 +88,10 @@ pub struct Peer {
     lingers: bool,
     /// How many bytes were dropped.
     dropped: u64,
-    /// How many bytes the gateway kept of it when it was last called.
+    /// How many bytes were kept of it when the gateway was last called: of its request, or by its reply.
     kept: usize,
+    /// What the reply holds that was made last.
+    holds: Holds,
 }
 
 impl Outcome {
@@ -170,30 +177,36 @@ impl Peer {
             lingers: false,
             dropped: 0,
             kept: 0,
+            holds: Holds::nothing(),
         }
     }
 
     /// Whether its time is over. It isn't while it waits for memory, and while memory is used up more bytes a second are
-    /// expected of a long request.
+    /// expected of one of which much is kept.
     pub fn is_late(&self, now: Instant, tools: &Tools) -> bool {
         let limits = &tools.limits;
         if self.lingers {
             self.pace.is_over(now, limits.linger)
         } else if tools.memory.waits(self.flow.id()) {
             false
-        } else if tools.memory.is_full() && self.sends_long() {
+        } else if tools.memory.is_full() && self.is_long() {
             self.pace.is_late(now, &limits.while_full())
         } else {
             self.pace.is_late(now, limits)
         }
     }
 
-    /// Whether it sends a request of which much is kept.
-    fn sends_long(&self) -> bool {
-        self.flow.want() == Want::Read && self.kept >= LONG
+    /// Whether much is kept of it, of its request or by its reply.
+    fn is_long(&self) -> bool {
+        let least = if self.flow.want() == Want::Read {
+            LONG
+        } else {
+            MUCH
+        };
+        self.kept >= least
     }
 
-    /// How many bytes the gateway kept of it when it was last called.
+    /// How many bytes were kept of it when the gateway was last called: of its request, or by its reply.
     pub fn kept(&self) -> usize
         ensures { result ≡ self.now.kept }
     {
@@ -391,11 +404,50 @@ impl Peer {
             return Stepped::goes_on();
         }
         self.stopwatch.sees(self.flow.at_hand(), moment.now);
-        if lobby.prepare(&self.flow) {
-            moment.skips(rt);
-            return Stepped::waits();
+        if lobby.waits(&self.flow) {
+            return self.brings(rt, lobby, tools, before, moment);
         }
-        self.brings(rt, lobby, tools, before, moment)
+        self.begins(rt, lobby, tools, before, moment)
+    }
+
+    /// The same, where nothing waits of an earlier reply. What its next request needs is prepared first. While the memory for
+    /// connections is used up none is carried out whose reply would hold much: it waits for its turn.
+    fn begins<S: Store, R: Clock + CpuClock>(
+        &mut self,
+        rt: &R,
+        lobby: &mut Lobby<S>,
+        tools: &mut Tools,
+        before: Want,
+        moment: &mut Moment,
+    ) -> Stepped
+        requires { self.old.flow.want ≡ want.Advance }
+        ensures { IsStepped self.old self.new result.end lobby.old lobby.new }
+    {
+        gate_flow::laws::gateways_are_hosted();
+        let id = self.flow.id();
+        let may_hold = tools.memory.has_room_for(id);
+        if tools.memory.waits(id) {
+            if !may_hold {
+                return Stepped::ends(End::Blocked(Side::Read));
+            }
+            tools.memory.lets_go(id);
+        }
+        self.recounts(self.kept_by(lobby), tools);
+        match lobby.prepare(&self.flow, may_hold) {
+            Prospect::Waits => {
+                moment.skips(rt);
+                Stepped::waits()
+            }
+            Prospect::Ready(holds) => {
+                if let Ok(false) = tools.memory.admits(id, holds.len()) {
+                    lobby.let_go_of(id);
+                    moment.skips(rt);
+                    return Stepped::ends(End::Blocked(Side::Read));
+                }
+                self.holds = holds;
+                self.brings(rt, lobby, tools, before, moment)
+            }
+        }
     }
 
     /// The same, once nothing is left to be prepared.
@@ -446,14 +498,23 @@ impl Peer {
         }
     }
 
-    /// How many bytes the gateway keeps of it.
+    /// How many bytes are kept of it: those of a request that isn't whole yet, or what its reply holds while it waits.
     fn kept_by<S: Store>(&self, lobby: &Lobby<S>) -> usize
-        ensures { result ≡ min (kept_in (connection_at lobby.now self.now.flow.id)) (2 ^ 64 - 1) }
+        ensures sends { waiting lobby.now self.now.flow.id ≡ []
+            → result ≡ min (kept_in (connection_at lobby.now self.now.flow.id)) (2 ^ 64 - 1) }
+        ensures takes { waiting lobby.now self.now.flow.id ≢ []
+            → result ≡ min (held_while self.now.holds.shares self.now.holds.text
+            (min (kept_in (connection_at lobby.now self.now.flow.id)) (2 ^ 64 - 1))) (2 ^ 64 - 1) }
     {
-        lobby.kept(&self.flow)
+        let kept = lobby.kept(&self.flow);
+        if lobby.waits(&self.flow) {
+            self.holds.held_while(kept)
+        } else {
+            kept
+        }
     }
 
-    /// So many bytes are kept of it now. Once it sends no request it waits for no memory.
+    /// So many bytes are kept of it now. Where they are few it goes on as others do, and waits for no memory.
     fn counts(&mut self, kept: usize, tools: &mut Tools)
         ensures flow { self.new.flow ≡ self.old.flow }
         ensures lingers { self.new.lingers ≡ self.old.lingers }
@@ -461,8 +522,19 @@ impl Peer {
     {
         tools.memory.changes(self.kept, kept);
         self.kept = kept;
-        if self.flow.want() != Want::Read || kept < LONG {
+        if kept < LONG {
             tools.memory.lets_go(self.flow.id());
+        }
+    }
+
+    /// The same, where it was another number before.
+    fn recounts(&mut self, kept: usize, tools: &mut Tools)
+        ensures flow { self.new.flow ≡ self.old.flow }
+        ensures lingers { self.new.lingers ≡ self.old.lingers }
+        ensures kept { self.new.kept ≡ kept }
+    {
+        if kept != self.kept {
+            self.counts(kept, tools);
         }
     }
 

@@ -1,16 +1,17 @@
 //! A connection's bytes, as they come in pieces.
-ghost use Rattle.std.specs.Prelude.{◌≡◌, ◌≢◌, ◌<◌, ◌⊎◌, ℕ, List, not, [], ◌++◌, length, IfOk, IfSome, IfNone, OnOk, OnErr, IsOk};
+ghost use Rattle.std.specs.Prelude.{◌≡◌, ◌≢◌, ◌<◌, ◌≤◌, ◌⊎◌, ℕ, List, not, [], ◌++◌, length, IfOk, IfSome, IfNone, OnOk, OnErr, IsOk};
 ghost use Rattle.std.specs.List.{list_any};
 ghost use Rattle.http_edge.specs.Judge.{closes};
 ghost use Rattle.http_edge.specs.Frame.{frame};
-ghost use Rattle.http_edge.specs.Kept.{kept_bytes};
+ghost use Rattle.http_edge.specs.Kept.{kept_bytes, bytes_of_body};
+ghost use Rattle.http_edge.specs.FirstHead.{HasHeadFirst};
 ghost use Rattle.http_edge.specs.BodyEnd.{IsBodyEnd};
 ghost use Rattle.http_edge.specs.FramingState.{part_of, body_of, closed, is_closed, rest, frame_from, rest_from};
-ghost use Rattle.http_edge.specs.State.{IsSettled, Takes, item_list};
+ghost use Rattle.http_edge.specs.State.{IsSettled, IsWaiting, Takes, item_list, left_of};
 ghost use Rattle.http_edge.specs.declared.verdict.Awaited.{Awaited};
 
 use crate::chunks::read_chunks;
-use crate::item::Item;
+use crate::item::{Head, Item};
 use crate::line::split_line;
 use crate::place::Step;
 use crate::state::{State, after_body, after_chunks, after_line};
@@ -124,6 +125,73 @@ impl Conn {
         }
     }
 
+    /// How many of these bytes belong to the body under way: all, or those up to its end or to the first fault in it. 0 where
+    /// no body is under way.
+    ///
+    /// # Errors
+    /// Only where memory is refused, of which a body in chunks takes as much as there are bytes.
+    pub fn of_body(&self, piece: &[u8]) -> Result<usize, AllocError>
+        ensures count { IfOk result (λ count. count ≡ bytes_of_body self.now piece.now) }
+        ensures within { IfOk result (λ count. count ≤ length piece.now) }
+    {
+        match &self.state {
+            State::Head(_) | State::Closed => Ok(0),
+            State::Body(awaited, body) => {
+                let missing = awaited.length.saturating_sub(body.len());
+                Ok(missing.min(piece.len()))
+            }
+            State::Chunks(_, content, place) => {
+                let mut added = Vec::with_capacity(self.alloc, piece.len())?;
+                let (_, count) = read_chunks(content.len(), &mut added, *place, piece)?;
+                Ok(count)
+            }
+        }
+    }
+
+    /// The head of the request that the piece would complete before all other items, where a head block is awaited. The
+    /// connection stays as it is; what is kept of the block is copied, and of its body nothing is. None where a body is under
+    /// way, or where the first item is another.
+    ///
+    /// # Errors
+    /// Only where memory is refused.
+    pub fn first_head(&self, piece: &[u8]) -> Result<Option<Head>, AllocError>
+        ensures { IfOk result (λ found. IfSome found (λ head.
+            HasHeadFirst (frame_from self.now piece.now) head)) }
+    {
+        let State::Head(part) = &self.state else {
+            return Ok(None);
+        };
+        let block = Vec::from_slice(self.alloc, part)?;
+        let mut twin = Conn {
+            alloc: self.alloc,
+            state: State::Head(block),
+        };
+        twin.next_head(piece)
+    }
+
+    /// The same, of a connection that isn't needed afterwards.
+    fn next_head(&mut self, piece: &[u8]) -> Result<Option<Head>, AllocError>
+        ensures { IfOk result (λ found. IfSome found (λ head.
+            HasHeadFirst (frame_from self.old piece.now) head)) }
+    {
+        let mut bytes = piece;
+        while self.is_in_head() && !bytes.is_empty() {
+            let (item, more) = self.add(bytes)?;
+            match item {
+                Some(Item::Request { head, .. }) => return Ok(Some(head)),
+                Some(_) => return Ok(None),
+                None => bytes = more,
+            }
+        }
+        let state = mem::replace(&mut self.state, State::Closed);
+        ended_head(self.alloc, state, bytes)
+    }
+
+    /// Whether a head block is awaited.
+    fn is_in_head(&self) -> bool {
+        matches!(&self.state, State::Head(_))
+    }
+
     /// The request under way whose chunked body the piece would end: the content that is kept, and what the piece would
     /// add to it. The connection stays as it is, and what is kept isn't copied. None where no body in chunks is under
     /// way, where the piece doesn't end it or has a fault, and where memory is refused. It asks for memory once, for as
@@ -207,5 +275,29 @@ impl Conn {
             }
             State::Closed => Ok((None, &[])),
         }
+    }
+}
+
+/// The head of the request whose body the bytes end, if one is under way and they do.
+fn ended_head(alloc: Global, state: State, bytes: &[u8]) -> Result<Option<Head>, AllocError>
+    requires { IsWaiting (left_of state) }
+    ensures { IfOk result (λ found. IfSome found (λ head.
+        HasHeadFirst (frame_from (left_of state) bytes.now) head)) }
+{
+    match state {
+        State::Body(awaited, body) => {
+            if awaited.length - body.len() > bytes.len() {
+                return Ok(None);
+            }
+            Ok(Some(awaited.head))
+        }
+        State::Chunks(request, content, place) => {
+            let mut added = Vec::with_capacity(alloc, bytes.len())?;
+            match read_chunks(content.len(), &mut added, place, bytes) {
+                Ok((Step::Ended, _)) => Ok(Some(request.head)),
+                _ => Ok(None),
+            }
+        }
+        State::Head(_) | State::Closed => Ok(None),
     }
 }

@@ -3,4 +3,4 @@ use Rattle.chk_file.specs.Cached.{CacheEntry}
 use Rattle.gate_core.proofs.foresight.let_go_of_read.Goals as goal
 
 pub returns : goal.returns
-returns c entry there = subst (λ (entries : List CacheEntry). Contains entries entry) (c.let_go_of_check.ensures ∙ c.let_go_of_read.ensures) (c.let_go_of_look.ensures entry there)
+returns c entry there = subst (λ (entries : List CacheEntry). Contains entries entry) (c.let_go_of_check.ensures ∙ c.let_go_of_read.ensures) (c.let_go_of_look.ensures entry (c.let_go_of_listing.ensures entry there))

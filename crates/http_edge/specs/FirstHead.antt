@@ -1,0 +1,12 @@
+-- The request that comes first of the items that bytes complete.
+use Rattle.std.specs.Prelude.{◌≡◌, ℕ, Bool, List, ◌∷◌}
+use Rattle.http_edge.specs.declared.item.Head.{Head}
+use Rattle.http_edge.specs.declared.item.Item.{Item}
+use Rattle.http_edge.specs.declared.item.Item.TheVariants.{Request}
+
+-- the first item is a request with this head
+pub record HasHeadFirst (items : List Item) (head : Head) : Type 0 where
+  pub body : List ℕ
+  pub close : Bool
+  pub more : List Item
+  pub is : items ≡ Request head body close ∷ more
