@@ -115,6 +115,10 @@ fn browsers_are_told_more(rt: HostRuntime) -> Result<(), Fail> {
     let mut stores = Vec::new(alloc);
     stores.push(MemStore::new(alloc, 100_000))?;
     let mut gateway = Gateway::new(alloc, 3, 10, stores, b"")?.for_browsers();
+    is_told_more(&mut gateway)
+}
+
+fn is_told_more(gateway: &mut Gateway<MemStore>) -> Result<(), Fail> {
     gateway.open(1, None)?;
-    are_told(&mut gateway, ROWS)
+    are_told(gateway, ROWS)
 }

@@ -30,7 +30,7 @@ fn opened(alloc: Global, inner: MemShelf, at: u64) -> Result<KeptStore<FailShelf
     Ok(store.ok().ok_or("not opened")?)
 }
 
-/// 3 of 10 on two servers, with an open connection 1.
+/// 3 of 10 on two servers.
 fn resumed(
     alloc: Global,
     first: KeptStore<FailShelf>,
@@ -39,9 +39,7 @@ fn resumed(
     let mut stores = Vec::new(alloc);
     stores.push(first)?;
     stores.push(second)?;
-    let mut gateway = Gateway::resume(alloc, 3, 10, stores, b"")?;
-    gateway.open(1, None)?;
-    Ok(gateway)
+    Ok(Gateway::resume(alloc, 3, 10, stores, b"")?)
 }
 
 /// The put of 56 times a letter is answered that a store failed.
@@ -69,6 +67,7 @@ fn left(alloc: Global, gateway: &Kept) -> Result<KeptStore<FailShelf>, Fail> {
 /// A file is put, and the next upload meets the failure at its third share at the first server. Whatever is called
 /// then, the store answers the shares before that one, and its shelf has that one too.
 fn is_done_though_it_failed(alloc: Global, gateway: &mut Kept) -> Result<(), Fail> {
+    gateway.open(1, None)?;
     let cap = put(alloc, gateway, b'b')?;
     is_refused(gateway, b'a')?;
     first_holds(gateway, 7)?;
@@ -78,9 +77,15 @@ fn is_done_though_it_failed(alloc: Global, gateway: &mut Kept) -> Result<(), Fai
     let first = left(alloc, gateway)?;
     let second = opened(alloc, MemShelf::new(alloc), 0)?;
     let mut again = resumed(alloc, first, second)?;
-    first_holds(&again, 8)?;
-    let is_first = is_given(&mut again, &cap, b'b')?;
-    let is_second = is_given(&mut again, LETTERS_CAP, b'a')?;
+    are_both_given(&mut again, &cap)
+}
+
+/// The first server holds the eighth share too, and both files are whole.
+fn are_both_given(again: &mut Kept, cap: &[u8]) -> Result<(), Fail> {
+    again.open(1, None)?;
+    first_holds(again, 8)?;
+    let is_first = is_given(again, cap, b'b')?;
+    let is_second = is_given(again, LETTERS_CAP, b'a')?;
     holds(is_first && is_second, "a file is gone")
 }
 

@@ -1,6 +1,6 @@
 //! Connections that are forgotten.
 
-use super::rows::holds;
+use super::rows::{holds, with_room};
 use gate_core::{Gateway, GatewayFault};
 use share_store::MemStore;
 use std::test::Fail;
@@ -16,11 +16,7 @@ const MANY: u64 = 2_000;
 
 #[test]
 fn connections_are_forgotten(rt: HostRuntime) -> Result<(), Fail> {
-    let alloc = rt.alloc();
-    let mut stores = Vec::new(alloc);
-    stores.push(MemStore::new(alloc, 0))?;
-    let mut gateway = Gateway::new(alloc, 3, 10, stores, b"")?;
-    are_forgotten(&mut gateway)
+    are_forgotten(&mut with_room(rt.alloc(), 0)?)
 }
 
 fn are_forgotten(gateway: &mut Gateway<MemStore>) -> Result<(), Fail> {

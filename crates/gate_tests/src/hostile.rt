@@ -67,10 +67,14 @@ const FOURTH_FAILS: &[(bool, &[Row<'static>])] = &[
 fn a_store_that_fails_tells_of_what_is_dropped(rt: HostRuntime) -> Result<(), Fail> {
     for case in FOURTH_FAILS {
         let (for_good, rows) = *case;
-        let mut gateway = failing(rt.alloc(), 4, for_good)?;
-        two_are_told(&mut gateway, rows)?;
+        is_told_of(rt.alloc(), for_good, rows)?;
     }
     Ok(())
+}
+
+fn is_told_of(alloc: Global, for_good: bool, rows: &[Row<'_>]) -> Result<(), Fail> {
+    let mut gateway = failing(alloc, 4, for_good)?;
+    two_are_told(&mut gateway, rows)
 }
 
 /// Two connections are opened, and told so.
@@ -120,8 +124,7 @@ fn each_failure_of_a_store_is_told(rt: HostRuntime) -> Result<(), Fail> {
 /// A trial holds whichever call of its store fails, from the first on until none does, which is after those of its row.
 fn holds_at_each_failure(alloc: Global, trial: &Trial, for_good: bool) -> Result<(), Fail> {
     for at in 1..100 {
-        let mut gateway = failing(alloc, trial.calls_before.saturating_add(at), for_good)?;
-        if !fails_in(&mut gateway, trial, for_good)? {
+        if !fails_at(alloc, trial, at, for_good)? {
             return holds(
                 at == trial.calls.saturating_add(1),
                 "another number of calls",
@@ -129,6 +132,12 @@ fn holds_at_each_failure(alloc: Global, trial: &Trial, for_good: bool) -> Result
         }
     }
     holds(false, "no end of calls")
+}
+
+/// Whether a call fails in a trial where this one of its row would.
+fn fails_at(alloc: Global, trial: &Trial, at: u64, for_good: bool) -> Result<bool, Fail> {
+    let mut gateway = failing(alloc, trial.calls_before.saturating_add(at), for_good)?;
+    fails_in(&mut gateway, trial, for_good)
 }
 
 /// Whether a call fails in a trial. Its reply is told, or its refusal where a call failed; a store that fails once then
@@ -226,7 +235,12 @@ fn is_big_refused(alloc: Global, request: &[u8], answers: Vec<RcSlice<u8>>) -> R
     let mut stores = Vec::new(alloc);
     stores.push(Liar::new(alloc, answers))?;
     let mut gateway = Gateway::new(alloc, 3, 10, stores, b"")?;
+    is_big_gone(&mut gateway, request)
+}
+
+/// The big file is taken, and gone.
+fn is_big_gone(gateway: &mut Gateway<Liar>, request: &[u8]) -> Result<(), Fail> {
     gateway.open(1, None)?;
     let stored: Row<'_> = (1, request, BIG_STORED);
-    are_told(&mut gateway, &[stored, BIG_GONE, BIG_CHECKED, BIG_GONE])
+    are_told(gateway, &[stored, BIG_GONE, BIG_CHECKED, BIG_GONE])
 }

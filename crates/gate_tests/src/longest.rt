@@ -1,7 +1,7 @@
 //! A body of the longest length.
 
 use super::counted::with_counted;
-use super::rows::{are_told, steps_left};
+use super::rows::{are_told, holds, steps_left, waits, with_room};
 use gate_core::Gateway;
 use share_store::MemStore;
 use std::alloc::{AllocError, Global};
@@ -32,19 +32,62 @@ const PUT_MORE: &[u8] = b"PUT /uri HTTP/1.1\r\nHost: g\r\nContent-Length: 167772
 const TOO_LONG: &[u8] =
     b"HTTP/1.1 413 Content Too Large\r\nContent-Type: text/plain; charset=utf-8\r\nContent-Length: 14\r\nConnection: close\r\n\r\nbody too long\n";
 
+/// How many bytes of shares the store may hold: those of one such file.
+const ROOM: u64 = 60_000_000;
+
+/// What is tried with a request for such an upload.
+#[derive(Clone, Copy)]
+enum Trial {
+    /// It comes in pieces.
+    Kept,
+    /// It is prepared.
+    Prepared,
+    /// The reading of what it stored is.
+    ReadAhead,
+}
+
 #[test]
 fn a_body_of_the_limit_is_stored(rt: HostRuntime) -> Result<(), Fail> {
     let alloc = rt.alloc();
-    let request = with_counted(alloc, PUT, LONGEST)?;
-    let found = with_counted(alloc, FOUND, LONGEST)?;
-    is_kept(&mut gateway(alloc)?, &request, &found)
+    is_tried(alloc, &with_counted(alloc, PUT, LONGEST)?, Trial::Kept)
 }
 
-/// A gateway over one store in memory, with room for one such file.
-fn gateway(alloc: Global) -> Result<Gateway<MemStore>, Fail> {
-    let mut stores = Vec::new(alloc);
-    stores.push(MemStore::new(alloc, 60_000_000))?;
-    Ok(Gateway::new(alloc, 3, 10, stores, b"")?)
+#[test]
+fn an_upload_that_is_prepared_is_stored(rt: HostRuntime) -> Result<(), Fail> {
+    let alloc = rt.alloc();
+    is_tried(alloc, &with_counted(alloc, PUT, LONGEST)?, Trial::Prepared)
+}
+
+#[test]
+fn an_upload_in_chunks_that_is_prepared_is_stored(rt: HostRuntime) -> Result<(), Fail> {
+    let alloc = rt.alloc();
+    is_tried(alloc, &put_in_chunks(alloc)?, Trial::Prepared)
+}
+
+#[test]
+fn a_read_that_is_prepared_is_given(rt: HostRuntime) -> Result<(), Fail> {
+    let alloc = rt.alloc();
+    is_tried(alloc, &with_counted(alloc, PUT, LONGEST)?, Trial::ReadAhead)
+}
+
+/// The trial holds. A gateway is held here alone, and by no function that may leave at several places: its proof is dear there.
+fn is_tried(alloc: Global, request: &[u8], trial: Trial) -> Result<(), Fail> {
+    let mut gateway = with_room(alloc, ROOM)?;
+    is_tried_over(alloc, &mut gateway, request, trial)
+}
+
+fn is_tried_over(
+    alloc: Global,
+    gateway: &mut Gateway<MemStore>,
+    request: &[u8],
+    trial: Trial,
+) -> Result<(), Fail> {
+    let found = with_counted(alloc, FOUND, LONGEST)?;
+    match trial {
+        Trial::Kept => is_kept(gateway, request, &found),
+        Trial::Prepared => is_prepared(gateway, request, &found),
+        Trial::ReadAhead => is_read_ahead(gateway, request, &found),
+    }
 }
 
 /// A body of the longest length comes in pieces of 65,536 bytes, and its file is found; one byte more is refused.
@@ -57,24 +100,6 @@ fn is_kept(gateway: &mut Gateway<MemStore>, request: &[u8], found: &[u8]) -> Res
         gateway,
         &[(1, b"", STORED), (1, GET, found), (1, PUT_MORE, TOO_LONG)],
     )
-}
-
-#[test]
-fn an_upload_that_is_prepared_is_stored(rt: HostRuntime) -> Result<(), Fail> {
-    let alloc = rt.alloc();
-    let request = with_counted(alloc, PUT, LONGEST)?;
-    let found = with_counted(alloc, FOUND, LONGEST)?;
-    assert!(rt; is_prepared(&mut gateway(alloc)?, &request, &found)?);
-    Ok(())
-}
-
-#[test]
-fn an_upload_in_chunks_that_is_prepared_is_stored(rt: HostRuntime) -> Result<(), Fail> {
-    let alloc = rt.alloc();
-    let request = put_in_chunks(alloc)?;
-    let found = with_counted(alloc, FOUND, LONGEST)?;
-    assert!(rt; is_prepared(&mut gateway(alloc)?, &request, &found)?);
-    Ok(())
 }
 
 /// The request that puts the same bytes in chunks of 65,536.
@@ -90,26 +115,25 @@ fn put_in_chunks(alloc: Global) -> Result<Vec<u8>, AllocError> {
     Ok(request)
 }
 
-/// Whether an upload is prepared in steps once its last bytes are there, while the same one on another connection waits, and
-/// is stored then.
-fn is_prepared(
-    gateway: &mut Gateway<MemStore>,
-    request: &[u8],
-    found: &[u8],
-) -> Result<bool, Fail> {
+/// An upload is prepared in steps once its last bytes are there, while the same one on another connection waits, and is stored
+/// then.
+fn is_prepared(gateway: &mut Gateway<MemStore>, request: &[u8], found: &[u8]) -> Result<(), Fail> {
     let (first, last) = request.split_at(request.len().saturating_sub(65_536));
     are_brought(gateway, first)?;
     // Neither what was never opened nor bytes that don't complete the upload make a step.
     let (but_one, _) = last.split_at(last.len().saturating_sub(1));
-    let is_early = gateway.prepare(3, last) || gateway.prepare(1, but_one);
-    let both_wait = gateway.prepare(1, last) && gateway.prepare(2, last);
+    let is_early = waits(gateway, 3, last) || waits(gateway, 1, but_one);
+    let both_wait = waits(gateway, 1, last) && waits(gateway, 2, last);
     // Each 65,536 bytes are a step, and there are others.
     let steps = steps_left(gateway, 1, last);
     gateway.bytes(1, last)?;
     gateway.let_go_of(1);
-    let is_next = gateway.prepare(2, last);
+    let is_next = waits(gateway, 2, last);
     are_told(gateway, &[(1, b"", STORED), (1, GET, found)])?;
-    Ok(!is_early && both_wait && steps > 256 && is_next)
+    holds(
+        !is_early && both_wait && steps > 256 && is_next,
+        "not prepared so",
+    )
 }
 
 /// Two connections are opened, and each is brought these bytes.
@@ -123,29 +147,20 @@ fn are_brought(gateway: &mut Gateway<MemStore>, bytes: &[u8]) -> Result<(), Fail
     Ok(())
 }
 
-#[test]
-fn a_read_that_is_prepared_is_given(rt: HostRuntime) -> Result<(), Fail> {
-    let alloc = rt.alloc();
-    let request = with_counted(alloc, PUT, LONGEST)?;
-    let found = with_counted(alloc, FOUND, LONGEST)?;
-    assert!(rt; is_read_ahead(&mut gateway(alloc)?, &request, &found)?);
-    Ok(())
-}
-
-/// Whether a GET of the file is prepared in steps, while one on another connection waits, and needs none once another one
-/// was answered. Both are given the file.
+/// A GET of the file is prepared in steps, while one on another connection waits, and needs none once another one was answered.
+/// Both are given the file.
 fn is_read_ahead(
     gateway: &mut Gateway<MemStore>,
     request: &[u8],
     found: &[u8],
-) -> Result<bool, Fail> {
+) -> Result<(), Fail> {
     are_brought(gateway, request)?;
     are_told(gateway, &[(1, b"", STORED), (2, b"", STORED)])?;
-    let both_wait = gateway.prepare(1, GET) && gateway.prepare(2, GET);
+    let both_wait = waits(gateway, 1, GET) && waits(gateway, 2, GET);
     let steps = steps_left(gateway, 1, GET);
     are_told(gateway, &[(1, GET, found)])?;
     gateway.let_go_of(1);
-    let is_next = gateway.prepare(2, GET);
+    let is_next = waits(gateway, 2, GET);
     are_told(gateway, &[(2, GET, found)])?;
-    Ok(both_wait && steps > 50 && !is_next)
+    holds(both_wait && steps > 50 && !is_next, "not prepared so")
 }

@@ -36,7 +36,7 @@ fn left(
     Ok(none.ok_or("no such moment")?)
 }
 
-/// 3 of 10 on two servers, with an open connection 1.
+/// 3 of 10 on two servers.
 fn resumed(
     alloc: Global,
     first: KeptStore<MemShelf>,
@@ -45,9 +45,7 @@ fn resumed(
     let mut stores = Vec::new(alloc);
     stores.push(first)?;
     stores.push(second)?;
-    let mut gateway = Gateway::resume(alloc, 3, 10, stores, b"")?;
-    gateway.open(1, None)?;
-    Ok(gateway)
+    Ok(Gateway::resume(alloc, 3, 10, stores, b"")?)
 }
 
 /// The reply to a put of 56 times a letter.
@@ -81,6 +79,7 @@ pub fn is_given<S: Store>(gateway: &mut Gateway<S>, cap: &[u8], letter: u8) -> R
 
 /// The first file is whole, and so is the second or not.
 fn are_given(gateway: &mut Kept, caps: (&[u8], &[u8]), has_second: bool) -> Result<(), Fail> {
+    gateway.open(1, None)?;
     let is_first = is_given(gateway, caps.0, b'b')?;
     let is_second = is_given(gateway, caps.1, b'a')?;
     holds(is_first && is_second == has_second, "another file")
@@ -102,6 +101,7 @@ fn are_as_left(
 
 /// Two files are put, and a crash comes at each moment of the second.
 fn are_whole_or_gone(alloc: Global, gateway: &mut Kept) -> Result<(), Fail> {
+    gateway.open(1, None)?;
     let first = put(alloc, gateway, b'b')?;
     let second = put(alloc, gateway, b'a')?;
     holds(second.as_slice() == LETTERS_CAP, "another cap")?;

@@ -1,6 +1,6 @@
 //! A walk into a long directory, and its listing.
 
-use super::rows::{are_told, holds, steps_left};
+use super::rows::{Row, are_told, holds, steps_left, waits, with_room};
 use gate_core::Gateway;
 use share_store::MemStore;
 use std::alloc::{AllocError, Global};
@@ -35,29 +35,53 @@ const NOT_FOUND: &[u8] =
 const LIST: &[u8] =
     b"GET /uri/URI:DIR2-CHK:2rppwskhdj5yipr535xfka2oqm:oc6pmbuavga2k2qy63beodsfn5lqyxgqgsmukengatd7opa3fjla:3:10:2280000?t=json HTTP/1.1\r\nHost: g\r\n\r\n";
 
+/// What is tried in a gateway that stored the directory.
+#[derive(Clone, Copy)]
+enum Trial {
+    /// A request is prepared, and told this.
+    Prepared(&'static [u8], &'static [u8]),
+    /// Each row is told, without being prepared.
+    Told(&'static [Row<'static>]),
+    /// Requests of each form are prepared.
+    Forms,
+}
+
 #[test]
 fn a_walk_that_is_prepared_is_given(rt: HostRuntime) -> Result<(), Fail> {
-    let alloc = rt.alloc();
-    let mut gateway = with_directory(alloc)?;
-    assert!(rt; is_walked_ahead(&mut gateway, GET, FOUND)?);
-    Ok(())
+    is_tried(rt.alloc(), Trial::Prepared(GET, FOUND))
 }
 
 #[test]
 fn a_child_that_is_missing_is_so_where_the_walk_is_prepared(rt: HostRuntime) -> Result<(), Fail> {
-    let alloc = rt.alloc();
-    let mut gateway = with_directory(alloc)?;
-    assert!(rt; is_walked_ahead(&mut gateway, GET_MISSING, NOT_FOUND)?);
-    Ok(())
+    is_tried(rt.alloc(), Trial::Prepared(GET_MISSING, NOT_FOUND))
 }
 
 #[test]
 fn a_child_that_is_missing_is_so_where_nothing_is_prepared(rt: HostRuntime) -> Result<(), Fail> {
-    let alloc = rt.alloc();
-    are_told(
-        &mut with_directory(alloc)?,
-        &[(1, GET_MISSING, NOT_FOUND), (2, GET, FOUND)],
-    )
+    is_tried(rt.alloc(), Trial::Told(ROWS))
+}
+
+#[test]
+fn a_request_is_prepared_in_each_form_and_however_it_is_cut(rt: HostRuntime) -> Result<(), Fail> {
+    is_tried(rt.alloc(), Trial::Forms)
+}
+
+/// What is told where nothing is prepared.
+const ROWS: &[Row<'static>] = &[(1, GET_MISSING, NOT_FOUND), (2, GET, FOUND)];
+
+/// The trial holds. A gateway is held here alone, and by no function that may leave at several places: its proof is dear there.
+fn is_tried(alloc: Global, trial: Trial) -> Result<(), Fail> {
+    let mut gateway = with_room(alloc, ROOM)?;
+    is_tried_over(alloc, &mut gateway, trial)
+}
+
+fn is_tried_over(alloc: Global, gateway: &mut Gateway<MemStore>, trial: Trial) -> Result<(), Fail> {
+    is_stored(alloc, gateway)?;
+    match trial {
+        Trial::Prepared(request, told) => is_walked_ahead(gateway, request, told),
+        Trial::Told(rows) => are_told(gateway, rows),
+        Trial::Forms => are_foreseen(alloc, gateway),
+    }
 }
 
 #[test]
@@ -65,37 +89,121 @@ fn a_listing_is_the_same_where_it_is_prepared(rt: HostRuntime) -> Result<(), Fai
     let alloc = rt.alloc();
     let prepared = listed(alloc, true)?;
     let unprepared = listed(alloc, false)?;
-    assert!(rt; prepared.starts_with(b"HTTP/1.1 200 OK\r\n"));
-    assert!(rt; prepared == unprepared);
-    Ok(())
+    holds(prepared.starts_with(b"HTTP/1.1 200 OK\r\n"), "no listing")?;
+    holds(prepared == unprepared, "another listing")
 }
 
-/// What the request for the JSON is told, where it is prepared before or isn't. Once it was told, nothing is left to prepare.
+/// What the request for the JSON is told, where it is prepared before or isn't.
 fn listed(alloc: Global, is_prepared: bool) -> Result<Vec<u8>, Fail> {
-    let mut gateway = with_directory(alloc)?;
+    let mut gateway = with_room(alloc, ROOM)?;
+    listed_by(alloc, &mut gateway, is_prepared)
+}
+
+/// The same. What was made for it isn't there for another.
+fn listed_by(
+    alloc: Global,
+    gateway: &mut Gateway<MemStore>,
+    is_prepared: bool,
+) -> Result<Vec<u8>, Fail> {
+    is_stored(alloc, gateway)?;
     if is_prepared {
-        holds(steps_left(&mut gateway, 1, LIST) > 10, "nothing prepared")?;
+        holds(steps_left(gateway, 1, LIST) > 10, "nothing prepared")?;
     }
     gateway.bytes(1, LIST)?;
     gateway.let_go_of(1);
-    holds(!gateway.prepare(2, LIST), "something to prepare")?;
+    holds(waits(gateway, 2, LIST), "nothing to prepare for another")?;
     Ok(gateway.take(1, 20_000_000)?)
 }
 
-/// A gateway with two connections, of which the first one put the directory's text.
-fn with_directory(alloc: Global) -> Result<Gateway<MemStore>, Fail> {
-    let request = put_of_directory(alloc)?;
-    let mut gateway = gateway(alloc)?;
-    is_stored(&mut gateway, &request)?;
-    Ok(gateway)
+/// The cap of the directory.
+const CAP: &str =
+    "URI:DIR2-CHK:2rppwskhdj5yipr535xfka2oqm:oc6pmbuavga2k2qy63beodsfn5lqyxgqgsmukengatd7opa3fjla:3:10:2280000";
+
+/// What stands before the cap and behind it in other forms of such requests, up to the end of the head, and what comes behind.
+const FORMS: &[(&str, &str, &[u8])] = &[
+    ("HEAD /uri/", "/000007 HTTP/1.1\r\nHost: g\r\n\r\n", b""),
+    (
+        "\r\n\r\nGET /uri/",
+        "/000007 HTTP/1.1\r\nHost: g\r\n\r\n",
+        b"",
+    ),
+    (
+        "GET http://g/uri/",
+        "/%300%3000%307 HTTP/1.1\r\nHost: g\r\n\r\n",
+        b"",
+    ),
+    ("GET /uri/", "?%74=js%6fn HTTP/1.1\r\nHost: g\r\n\r\n", b""),
+    (
+        "GET /uri/",
+        "/000007 HTTP/1.1\r\nHost: g\r\nContent-Length: 1\r\n\r\n",
+        b"x",
+    ),
+    (
+        "POST /uri/",
+        "?t=check&output=JSON&verify=ON HTTP/1.1\r\nHost: g\r\nTransfer-Encoding: chunked\r\n\r\n",
+        b"1\r\nx\r\n0\r\n\r\n",
+    ),
+];
+
+/// Requests of each form are prepared, however they are cut, each on a connection of its own.
+fn are_foreseen(alloc: Global, gateway: &mut Gateway<MemStore>) -> Result<(), Fail> {
+    let mut id: u64 = 10;
+    for (before, behind, body) in FORMS {
+        let head = format!(in alloc; "{before}{CAP}{behind}")?;
+        for cut in [0, 1, 60] {
+            id = id.saturating_add(1);
+            is_foreseen(alloc, gateway, id, head.as_bytes(), cut, body)?;
+        }
+        id = id.saturating_add(1);
+        is_foreseen_behind_its_head(gateway, id, head.as_bytes(), body)?;
+    }
+    Ok(())
 }
 
-/// A gateway over one store in memory, with room for the directory.
-fn gateway(alloc: Global) -> Result<Gateway<MemStore>, Fail> {
-    let mut stores = Vec::new(alloc);
-    stores.push(MemStore::new(alloc, 10_000_000))?;
-    Ok(Gateway::new(alloc, 3, 10, stores, b"")?)
+/// A request is prepared of whose head so many bytes were brought before. A body comes with the rest of the head.
+fn is_foreseen(
+    alloc: Global,
+    gateway: &mut Gateway<MemStore>,
+    id: u64,
+    head: &[u8],
+    cut: usize,
+    body: &[u8],
+) -> Result<(), Fail> {
+    let (first, rest) = head.split_at(cut.min(head.len()));
+    let mut next = Vec::from_slice(alloc, rest)?;
+    next.extend_from_slice(body)?;
+    waits_behind(gateway, id, first, &next)
 }
+
+/// A request with a body is prepared of which only the body is awaited.
+fn is_foreseen_behind_its_head(
+    gateway: &mut Gateway<MemStore>,
+    id: u64,
+    head: &[u8],
+    body: &[u8],
+) -> Result<(), Fail> {
+    if body.is_empty() {
+        return Ok(());
+    }
+    waits_behind(gateway, id, head, body)
+}
+
+/// On a new connection on which the first bytes were brought the request is prepared that the next ones complete.
+fn waits_behind(
+    gateway: &mut Gateway<MemStore>,
+    id: u64,
+    first: &[u8],
+    next: &[u8],
+) -> Result<(), Fail> {
+    gateway.open(id, None)?;
+    gateway.bytes(id, first)?;
+    let waits = waits(gateway, id, next);
+    gateway.let_go_of(id);
+    holds(waits, "nothing prepared")
+}
+
+/// How many bytes of shares the store may hold.
+const ROOM: u64 = 10_000_000;
 
 /// The request that puts the directory's text.
 fn put_of_directory(alloc: Global) -> Result<Vec<u8>, AllocError> {
@@ -113,7 +221,8 @@ fn put_of_directory(alloc: Global) -> Result<Vec<u8>, AllocError> {
 }
 
 /// Two connections are opened, and the first one puts the directory's text.
-fn is_stored(gateway: &mut Gateway<MemStore>, request: &[u8]) -> Result<(), Fail> {
+fn is_stored(alloc: Global, gateway: &mut Gateway<MemStore>) -> Result<(), Fail> {
+    let request = put_of_directory(alloc)?;
     gateway.open(1, None)?;
     gateway.open(2, None)?;
     for piece in request.chunks(65_536) {
@@ -122,18 +231,18 @@ fn is_stored(gateway: &mut Gateway<MemStore>, request: &[u8]) -> Result<(), Fail
     are_told(gateway, &[(1, b"", STORED)])
 }
 
-/// Whether a request is prepared in steps, while the same one on another connection waits, and needs none once that was
-/// answered. Both are told so.
+/// A request is prepared in steps, while the same one on another connection waits, and needs none once that was answered.
+/// Both are told so.
 fn is_walked_ahead(
     gateway: &mut Gateway<MemStore>,
     request: &[u8],
     told: &[u8],
-) -> Result<bool, Fail> {
-    let both_wait = gateway.prepare(1, request) && gateway.prepare(2, request);
+) -> Result<(), Fail> {
+    let both_wait = waits(gateway, 1, request) && waits(gateway, 2, request);
     let steps = steps_left(gateway, 1, request);
     are_told(gateway, &[(1, request, told)])?;
     gateway.let_go_of(1);
-    let is_next = gateway.prepare(2, request);
+    let is_next = waits(gateway, 2, request);
     are_told(gateway, &[(2, request, told)])?;
-    Ok(both_wait && steps > 20 && !is_next)
+    holds(both_wait && steps > 20 && !is_next, "not prepared so")
 }
