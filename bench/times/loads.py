@@ -1,7 +1,7 @@
 #!/usr/bin/env python3
 """Loads on `wozhinnam serve`, the built program, on the loopback, with times and memory; each takes a minute or two at most.
 
-usage: bench/times/loads.py PROGRAM [open|readers|many_readers|slow_readers|untaken|came|million|pipelined|cut|listings|puts|many_puts|chunks|walks|metadata|makes|verifies|parts|wide|mixed ..]
+usage: bench/times/loads.py PROGRAM [open|readers|many_readers|slow_readers|untaken|came|million|pipelined|cut|listings|puts|many_puts|chunks|walks|forms|metadata|makes|verifies|parts|wide|mixed ..]
 
 open          10,000 connections, a reply on each
 readers       8 readers of 4 MiB beside small GETs; many_readers: 200 of them; slow_readers: 200 that take 10 KB a second
@@ -16,6 +16,8 @@ Beside small GETs, each by a client that asks again and again:
 puts          puts of 16 MiB; many_puts: by four clients
 chunks        puts of 16 MiB in chunks of 65,536 bytes
 walks         GETs of small files behind ten directories of 16 MB each, each of another name in the last one
+forms         the same walks, in forms in which such a request was once not seen: its head in two parts, another request before it
+              in one piece, a body, empty lines before it, a whole URI as its target
 metadata      GETs of names that a directory doesn't have whose one child has 1.3 million members of metadata
 makes         such a directory, made of children JSON
 verifies      checks with verify of a file of 16 MiB
@@ -37,6 +39,7 @@ import time
 
 sys.path.insert(0, os.path.join(os.path.dirname(os.path.abspath(__file__)), "../tools"))
 
+from directory_texts import children, entry
 from server import fail, wozhinnam
 
 SMALL = b"GET /uri/URI:LIT:mzxw6 HTTP/1.1\r\nHost: g\r\n\r\n"
@@ -229,11 +232,18 @@ def beside(name, server, quick, load, count, seconds=15):
 
 def once(server, request, body=b"", status=b"200"):
     """What sends a request on a connection of its own and takes its reply, which has to have this status."""
+    return in_parts(server, [request, body], status)
+
+
+def in_parts(server, parts, status=b"200", pause=0):
+    """The same of a request that is sent in parts, with so many seconds between them."""
 
     def load():
         with server.connect() as stream:
-            stream.sendall(request)
-            stream.sendall(body)
+            stream.setsockopt(socket.IPPROTO_TCP, socket.TCP_NODELAY, 1)
+            for part in parts:
+                stream.sendall(part)
+                time.sleep(pause)
             first = stream.recv(65536)
             if not first.startswith(b"HTTP/1.1 " + status):
                 fail("refused: %r" % first[:80])
@@ -264,25 +274,40 @@ def put_text(server, text):
     return server.ask("PUT", "/uri", text).decode().replace("URI:CHK:", "URI:DIR2-CHK:").replace("URI:LIT:", "URI:DIR2-LIT:")
 
 
-def netstring(text):
-    return b"%d:%s," % (len(text), text)
-
-
-def entry(name, metadata, cap=b"URI:LIT:mzxw6"):
-    return netstring(netstring(name) + netstring(cap) + netstring(b"") + netstring(metadata))
-
-
-def children(count):
-    return b"".join(entry(b"%08d" % at, b"{}") for at in range(count))
+def long_way(server):
+    """The target that leads through ten directories of 16 MB each, but for the last name."""
+    cap, others = "URI:LIT:mzxw6", children(16_000_000 // len(entry(b"%08d" % 0, b"{}")))
+    for _ in range(10):
+        cap = put_text(server, others + entry(b"~", b"{}", cap.encode()))
+    return "/" + cap + "/~" * 9
 
 
 def walker(server):
     """GETs of small files behind ten directories of 16 MB each, each of another name in the last one."""
-    cap, others = "URI:LIT:mzxw6", children(16_000_000 // len(entry(b"%08d" % 0, b"{}")))
-    for _ in range(10):
-        cap = put_text(server, others + entry(b"~", b"{}", cap.encode()))
-    names = itertools.count()
-    return lambda: once(server, asked(b"GET", "/%s%s/%08d" % (cap, "/~" * 9, next(names))))()
+    way, names = long_way(server), itertools.count()
+    return lambda: once(server, asked(b"GET", "%s/%08d" % (way, next(names))))()
+
+
+def hidden(request):
+    """A request in parts that hide it: its head is cut; another comes first in one piece; it has a body; empty lines come first; its target is a URI."""
+    return [
+        [request[:2], request[2:]],
+        [SMALL + request],
+        [request.replace(b"Content-Length: 0", b"Content-Length: 1") + b"x"],
+        [b"\r\n\r\n" + request],
+        [request.replace(b" /uri", b" http://g/uri", 1)],
+    ]
+
+
+def hider(server):
+    """The same walks, in such parts by turns."""
+    way, names = long_way(server), itertools.count()
+
+    def load():
+        at = next(names)
+        in_parts(server, hidden(asked(b"GET", "%s/%08d" % (way, at)))[at % 5], pause=0.01)()
+
+    return load
 
 
 def many_members():
@@ -330,6 +355,7 @@ BESIDE = {
     "puts": (putter, "puts of 16 MiB"),
     "chunks": (chunk_putter, "puts of 16 MiB in chunks"),
     "walks": (walker, "GETs along ten directories of 16 MB"),
+    "forms": (hider, "the same GETs, hidden"),
     "metadata": (getter, "GETs through 15.6 MB of metadata"),
     "makes": (maker_of_directories, "directories made of 15.6 MB of metadata"),
     "verifies": (verifier, "checks of 16 MiB with verify"),
