@@ -10,3 +10,7 @@ pub record HasHeadFirst (items : List Item) (head : Head) : Type 0 where
   pub close : Bool
   pub more : List Item
   pub is : items ≡ Request head body close ∷ more
+
+-- the first item isn't a request, or there is none
+abbrev pub HasNoHeadFirst : List Item → Type 0
+HasNoHeadFirst items = (head : Head) → HasHeadFirst items head → ⊥

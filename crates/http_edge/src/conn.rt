@@ -1,10 +1,10 @@
 //! A connection's bytes, as they come in pieces.
-ghost use Rattle.std.specs.Prelude.{◌≡◌, ◌≢◌, ◌<◌, ◌≤◌, ◌⊎◌, ℕ, List, not, [], ◌++◌, length, IfOk, IfSome, IfNone, OnOk, OnErr, IsOk};
+ghost use Rattle.std.specs.Prelude.{◌≡◌, ◌≢◌, ◌<◌, ◌≤◌, ◌⊎◌, ℕ, List, not, [], ◌++◌, length, IfOk, IfSome, IfNone, IsFalse, MatchOption, OnOk, OnErr, IsOk};
 ghost use Rattle.std.specs.List.{list_any};
 ghost use Rattle.http_edge.specs.Judge.{closes};
 ghost use Rattle.http_edge.specs.Frame.{frame};
 ghost use Rattle.http_edge.specs.Kept.{kept_bytes, bytes_of_body};
-ghost use Rattle.http_edge.specs.FirstHead.{HasHeadFirst};
+ghost use Rattle.http_edge.specs.FirstHead.{HasHeadFirst, HasNoHeadFirst};
 ghost use Rattle.http_edge.specs.BodyEnd.{IsBodyEnd};
 ghost use Rattle.http_edge.specs.FramingState.{part_of, body_of, closed, is_closed, rest, frame_from, rest_from};
 ghost use Rattle.http_edge.specs.State.{IsSettled, IsWaiting, Takes, item_list, left_of};
@@ -155,8 +155,10 @@ impl Conn {
     /// # Errors
     /// Only where memory is refused.
     pub fn first_head(&self, piece: &[u8]) -> Result<Option<Head>, AllocError>
-        ensures { IfOk result (λ found. IfSome found (λ head.
+        ensures first { IfOk result (λ found. IfSome found (λ head.
             HasHeadFirst (frame_from self.now piece.now) head)) }
+        ensures none { IfOk result (λ found. IfNone found ((part : List ℕ) →
+            self.now ≡ part_of part → HasNoHeadFirst (frame_from self.now piece.now))) }
     {
         let State::Head(part) = &self.state else {
             return Ok(None);
@@ -169,17 +171,18 @@ impl Conn {
         twin.next_head(piece)
     }
 
-    /// The same, of a connection that isn't needed afterwards.
+    /// The same, of a connection that isn't needed afterwards, whatever is awaited.
     fn next_head(&mut self, piece: &[u8]) -> Result<Option<Head>, AllocError>
-        ensures { IfOk result (λ found. IfSome found (λ head.
-            HasHeadFirst (frame_from self.old piece.now) head)) }
+        ensures { IfOk result (λ found. MatchOption found
+            (HasNoHeadFirst (frame_from self.old piece.now))
+            (λ head. HasHeadFirst (frame_from self.old piece.now) head)) }
     {
         let mut bytes = piece;
         while self.is_in_head() && !bytes.is_empty() {
             let (item, more) = self.add(bytes)?;
             match item {
                 Some(Item::Request { head, .. }) => return Ok(Some(head)),
-                Some(_) => return Ok(None),
+                Some(Item::Continue) | Some(Item::Fault { .. }) => return Ok(None),
                 None => bytes = more,
             }
         }
@@ -188,7 +191,9 @@ impl Conn {
     }
 
     /// Whether a head block is awaited.
-    fn is_in_head(&self) -> bool {
+    fn is_in_head(&self) -> bool
+        ensures { IsFalse result → (part : List ℕ) → self.now ≢ part_of part }
+    {
         matches!(&self.state, State::Head(_))
     }
 
@@ -280,9 +285,11 @@ impl Conn {
 
 /// The head of the request whose body the bytes end, if one is under way and they do.
 fn ended_head(alloc: Global, state: State, bytes: &[u8]) -> Result<Option<Head>, AllocError>
-    requires { IsWaiting (left_of state) }
-    ensures { IfOk result (λ found. IfSome found (λ head.
-        HasHeadFirst (frame_from (left_of state) bytes.now) head)) }
+    requires waits { IsWaiting (left_of state) }
+    requires read { (part : List ℕ) → left_of state ≡ part_of part → bytes.now ≡ [] }
+    ensures { IfOk result (λ found. MatchOption found
+        (HasNoHeadFirst (frame_from (left_of state) bytes.now))
+        (λ head. HasHeadFirst (frame_from (left_of state) bytes.now) head)) }
 {
     match state {
         State::Body(awaited, body) => {
@@ -293,11 +300,14 @@ fn ended_head(alloc: Global, state: State, bytes: &[u8]) -> Result<Option<Head>,
         }
         State::Chunks(request, content, place) => {
             let mut added = Vec::with_capacity(alloc, bytes.len())?;
-            match read_chunks(content.len(), &mut added, place, bytes) {
-                Ok((Step::Ended, _)) => Ok(Some(request.head)),
-                _ => Ok(None),
+            let (step, _) = read_chunks(content.len(), &mut added, place, bytes)?;
+            match step {
+                Step::Ended => Ok(Some(request.head)),
+                Step::Next(_) => Ok(None),
+                Step::Broken(_) => Ok(None),
             }
         }
-        State::Head(_) | State::Closed => Ok(None),
+        State::Head(_) => Ok(None),
+        State::Closed => Ok(None),
     }
 }
