@@ -81,6 +81,13 @@ pub fresh_kept_if : (o : Option ℕ) (cache kept : List CacheEntry) (old new : G
 fresh_kept_if None cache kept old new f bytes left stamped calm is read same fresh = subst (λ entries. IsCacheCurrent entries new) (sym same) (fresh_stays cache old new left stamped fresh)
 fresh_kept_if (Some stamp) cache kept old new f bytes left stamped calm is read within fresh = fresh_kept cache kept old new f stamp bytes left stamped calm is read within fresh
 
+-- strings that were gathered and kept, where no store failed
+pub fresh_given : (o : Option (List ℕ)) (cache kept : List CacheEntry) (old new : GridState) (f : ReadValue) (stamp : ℕ) → Leaves old new → IsStamped old new → NoneFailed old new
+    → Some stamp ≡ stamp_of (raised_at old (index_of f.key)) → (IsHonest old → NoneFailed old new → IfSome o (λ bytes. fit (table_of (stood old) (index_of f.key)) f ≡ Some bytes))
+    → MatchOption o (IsWithin cache kept) (λ bytes. IsWithinOr cache kept (f, (stamp, bytes))) → IsCacheCurrent cache old → IsCacheCurrent kept new
+fresh_given None cache kept old new f stamp left stamped calm is read within fresh = fresh_within cache kept new within (fresh_stays cache old new left stamped fresh)
+fresh_given (Some bytes) cache kept old new f stamp left stamped calm is read within fresh = fresh_kept cache kept old new f stamp bytes left stamped calm is read within fresh
+
 -- what a look-up found
 pub found_all : {A E : Type 0} (bytes_of : A → List ℕ) (P Q : List ℕ → Type 0) (r : Result (Option A) E) → ((bytes : List ℕ) → P bytes → Q bytes)
     → IfOk r (λ o. IfSome o (λ b. P (bytes_of b))) → IfOk r (λ o. IfSome o (λ b. Q (bytes_of b)))

@@ -5,14 +5,12 @@ ghost use Rattle.chk_file.specs.Ahead.{file_params};
 use crate::picked::{Picked, file_params};
 use crate::readings::Readings;
 use crate::verify::choose;
-use caps::{ReadFields, storage_index};
-use grid::Grid;
+use caps::ReadFields;
 use share_codec::Params;
-use share_store::Store;
 use std::alloc::{AllocError, Global};
 use std::rc::RcSlice;
 
-/// Strings that stores have in memory, and of each number below k the first one while its blocks are hashed.
+/// Strings that stores lent or gave, and of each number below k the first one while its blocks are hashed.
 #[derive(Drop)]
 pub(crate) struct Judging {
     fields: ReadFields,
@@ -22,13 +20,12 @@ pub(crate) struct Judging {
 }
 
 impl Judging {
-    /// Of what stores have in memory of a file, if that has each number below k. No block is hashed yet.
-    pub(crate) fn new<S: Store>(
+    /// Of these strings of a file, if each number below k has one. No block is hashed yet.
+    pub(crate) fn new(
         alloc: Global,
-        grid: &Grid<S>,
         fields: &ReadFields,
+        found: Vec<(usize, u16, RcSlice<u8>)>,
     ) -> Option<Judging> {
-        let found = grid.peek_below(storage_index(&fields.key), fields.k).ok()?;
         let params = file_params(fields);
         let readings = readings_of(alloc, &found, fields.k, &params).ok()??;
         Some(Judging {
@@ -93,6 +90,16 @@ fn readings_of(
         readings.add(server, number, bytes.clone()?)?;
     }
     Ok(Some(readings))
+}
+
+/// Whether each number below k has a string.
+pub(crate) fn has_each(found: &[(usize, u16, RcSlice<u8>)], k: u16) -> bool {
+    for number in 0..k {
+        if first_of(found, number).is_none() {
+            return false;
+        }
+    }
+    true
 }
 
 /// The first of these strings that has a number, with its server.

@@ -40,9 +40,13 @@ mod held;
 mod reader;
 /// Reading long files.
 mod long_reader;
+/// Preparing long files to be read.
+mod gathering;
+/// Strings of them that stores gave.
+mod kept_strings;
 /// Long files that are prepared to be read.
 mod read_ahead;
-/// Strings that stores had in memory, while they are hashed.
+/// Strings that stores lent or gave, while they are hashed.
 mod readings;
 /// Strings that are judged as shares of them.
 mod judging;
@@ -83,10 +87,11 @@ mod fault;
 /// Laws of the definitions.
 pub mod laws;
 
-pub use cache::{Cache, MOST_KEPT};
+pub use cache::Cache;
 pub use checker::check;
 pub use download::Download;
 pub use fault::ReadFault;
+pub use gathering::lends;
 pub use health::Health;
 pub use listing_ahead::read_counted;
 pub use look_ahead::sought;

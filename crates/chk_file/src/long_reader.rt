@@ -1,5 +1,5 @@
 //! Reading long files: k good shares of the one that was begun last are kept.
-ghost use Rattle.std.specs.Prelude.{◌≡◌, ◌<◌, IfOk, IfSome, IsErrOf, MatchOption, Some, None};
+ghost use Rattle.std.specs.Prelude.{◌≡◌, ◌<◌, Contains, IfOk, IfSome, IsErrOf, MatchOption, Some, None};
 ghost use Rattle.grid.specs.GridState.{stood, IsHonest, NoneFailed};
 ghost use Rattle.grid.specs.Leaves.{Leaves, IsUnchanged};
 ghost use Rattle.caps.specs.StorageIndex.{index_of};
@@ -8,7 +8,7 @@ ghost use Rattle.chk_file.specs.Row.{table_of};
 ghost use Rattle.chk_file.specs.Reached.{OfReached};
 ghost use Rattle.chk_file.specs.Fit.{fit};
 ghost use Rattle.chk_file.specs.Bound.{Bound};
-ghost use Rattle.chk_file.specs.Cached.{IsCacheCurrent, IsWithinOr};
+ghost use Rattle.chk_file.specs.Cached.{IsCacheCurrent, IsWithin, IsWithinOr};
 ghost use Rattle.chk_file.specs.Taken.{AreTaken};
 ghost use Rattle.chk_file.specs.Ahead.{file_params, plain_from};
 
@@ -27,7 +27,8 @@ use share_codec::Share;
 use share_store::Store;
 use std::alloc::{AllocError, Global};
 
-/// Begins to give a long file: of the shares that are kept, or else of those that the stores have, which are kept then.
+/// Begins to give a long file: of the shares that are kept, or that are prepared of strings that the stores gave, or else of
+/// those that the stores have. They are kept then.
 pub(crate) fn begin_long<S: Store>(
     alloc: Global,
     grid: &mut Grid<S>,
@@ -52,21 +53,23 @@ pub(crate) fn begin_long<S: Store>(
     ensures missing_reached { IsHonest grid.old → IsErrOf result ReadFault.NotEnoughShares →
         OfReached grid.old grid.new (index_of fields.now.key) (λ row. fit row fields.now ≡ None) }
 {
-    match look_up(grid, cache, fields)? {
+    match look_up(alloc, grid, cache, fields)? {
         Some(shares) => Ok(Download::pinned(alloc, shares)),
         None => begin_anew(alloc, grid, cache, fields),
     }
 }
 
-/// The shares that are kept of a file, where they were found at the present stamp.
+/// The shares that are kept or prepared of a file, where they were found at the present stamp. No store is asked.
 fn look_up<S: Store>(
+    alloc: Global,
     grid: &Grid<S>,
-    cache: &Cache,
+    cache: &mut Cache,
     fields: &ReadFields,
 ) -> Result<Option<ShareReader>, AllocError>
+    ensures fresh { IsCacheCurrent cache.old grid.now → IsCacheCurrent cache.new grid.now }
     ensures bound { IfOk result (λ found. IfSome found (λ shares.
         Bound fields.now shares.left)) }
-    ensures fit { IsCacheCurrent cache.now grid.now → IsHonest grid.now →
+    ensures fit { IsCacheCurrent cache.old grid.now → IsHonest grid.now →
         IfOk result (λ found. IfSome found (λ shares.
         fit (table_of (stood grid.now) (index_of fields.now.key)) fields.now
         ≡ Some shares.left)) }
@@ -74,9 +77,66 @@ fn look_up<S: Store>(
         HasSegmentsOf fields.now shares)) }
 {
     match grid.stamp(&storage_index(&fields.key)) {
-        Some(stamp) => cache.pinned(fields, stamp),
+        Some(stamp) => held_at(alloc, cache, fields, stamp),
         None => Ok(None),
     }
+}
+
+/// The shares that are kept or prepared of a file, where they were found at this stamp.
+fn held_at(
+    alloc: Global,
+    cache: &mut Cache,
+    fields: &ReadFields,
+    stamp: u64,
+) -> Result<Option<ShareReader>, AllocError>
+    ensures within { IsWithin cache.old cache.new }
+    ensures there { IfOk result (λ found. IfSome found (λ shares.
+        Contains cache.old (fields.now, (stamp, shares.left)))) }
+    ensures bound { IfOk result (λ found. IfSome found (λ shares.
+        Bound fields.now shares.left)) }
+    ensures segments { IfOk result (λ found. IfSome found (λ shares.
+        HasSegmentsOf fields.now shares)) }
+{
+    match cache.pinned(fields, stamp)? {
+        Some(shares) => Ok(Some(shares)),
+        None => prepared_at(alloc, cache, fields, stamp),
+    }
+}
+
+/// The shares that are prepared of strings that were gathered at this stamp. They are kept in the place of the strings.
+fn prepared_at(
+    alloc: Global,
+    cache: &mut Cache,
+    fields: &ReadFields,
+    stamp: u64,
+) -> Result<Option<ShareReader>, AllocError>
+    ensures within { IsWithin cache.old cache.new }
+    ensures there { IfOk result (λ found. IfSome found (λ shares.
+        Contains cache.old (fields.now, (stamp, shares.left)))) }
+    ensures bound { IfOk result (λ found. IfSome found (λ shares.
+        Bound fields.now shares.left)) }
+    ensures segments { IfOk result (λ found. IfSome found (λ shares.
+        HasSegmentsOf fields.now shares)) }
+{
+    let Some(shares) = given_at(cache, fields, stamp) else {
+        return Ok(None);
+    };
+    let reader = ShareReader::new(alloc, file_params(fields), fields.key, shares)?;
+    keep(cache, fields, Some(stamp), &reader);
+    Ok(Some(reader))
+}
+
+/// The same, before they are read. They are taken out, with the strings.
+fn given_at(cache: &mut Cache, fields: &ReadFields, stamp: u64) -> Option<Vec<Share>>
+    ensures within { IsWithin cache.old cache.new }
+    ensures there { IfSome result (λ shares.
+        Contains cache.old (fields.now, (stamp, plain_from fields.now shares.items))) }
+    ensures taken { IfSome result (λ shares. AreTaken (file_params fields.now) shares.items) }
+    ensures bound { IfSome result (λ shares. Bound fields.now (plain_from fields.now shares.items)) }
+{
+    let gathered = cache.take_gathered(fields, stamp)?;
+    let ready = cache.take_ready(fields)?;
+    ready.give(&gathered.found)
 }
 
 /// The same of the shares that the stores have, which are kept where no store failed.

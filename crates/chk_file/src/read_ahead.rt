@@ -1,4 +1,4 @@
-//! Long files that are prepared: what is made of shares in memory before a file is read, step by step.
+//! Long files that are prepared: what is made of strings before a file is read, step by step.
 ghost use Rattle.std.specs.Prelude.{◌≡◌, IfOk};
 
 use crate::decoding::Decoding;
@@ -6,9 +6,8 @@ use crate::judging::Judging;
 use crate::ready::Ready;
 use crate::root_check::RootCheck;
 use caps::ReadFields;
-use grid::Grid;
-use share_store::Store;
 use std::alloc::Global;
+use std::rc::RcSlice;
 
 /// What the reading of a long file will need, as far as it is prepared.
 #[derive(Drop)]
@@ -24,13 +23,18 @@ pub(crate) enum ReadAhead {
 }
 
 impl ReadAhead {
-    /// Before the first step; none where the stores don't have k shares in memory.
-    pub(crate) fn new<S: Store>(
+    /// Of these strings, before they are judged; none where a number below k has none, or memory is refused.
+    pub(crate) fn new(
         alloc: Global,
-        grid: &Grid<S>,
         fields: &ReadFields,
+        found: Vec<(usize, u16, RcSlice<u8>)>,
     ) -> Option<ReadAhead> {
-        Some(ReadAhead::Judging(Judging::new(alloc, grid, fields)?))
+        ReadAhead::of(Judging::new(alloc, fields, found))
+    }
+
+    /// Of strings that are judged, if some are.
+    pub(crate) fn of(judging: Option<Judging>) -> Option<ReadAhead> {
+        Some(ReadAhead::Judging(judging?))
     }
 
     /// Whether it is for the file with these fields.

@@ -37,10 +37,7 @@ pub fn answer<S: Store>(
     case: &Case<'_>,
 ) -> Result<String, NoAnswer> {
     match case.word(1)? {
-        "forget" => {
-            *files = Files::new(alloc);
-            fixed(alloc, "ok")
-        }
+        "forget" => forgotten(alloc, files),
         "upload" => store(alloc, grid, files, case),
         "store" => {
             let _ = store(alloc, grid, files, case)?;
@@ -50,6 +47,12 @@ pub fn answer<S: Store>(
         "take" => taken(alloc, files, &case.bytes(alloc, 2)?),
         _ => of_file(alloc, grid, files, case),
     }
+}
+
+/// Forgets all files. What is dropped is large, so it is dropped here alone.
+fn forgotten(alloc: Global, files: &mut Files) -> Result<String, NoAnswer> {
+    *files = Files::new(alloc);
+    fixed(alloc, "ok")
 }
 
 /// The answer to a case of the file that the word at place 2 counts, from 0.
@@ -71,7 +74,7 @@ fn of_file<S: Store>(
         "read-anew" => got(alloc, grid, &mut None, &fields, case),
         "read-forged" => got(alloc, grid, &mut files.cache, &forged(&fields, case)?, case),
         "begin" => begun(alloc, grid, files, &fields),
-        "begin-anew" => begin_anew(alloc, grid, &fields),
+        "begin-anew" => debug(alloc, &fault_of_begin(alloc, grid, &fields)?),
         "ahead" => ahead(alloc, grid, &mut files.cache, &fields, case),
         "lose" => told(alloc, grid.lose(0, index, case.small(3)?)),
         "spoil" => told(alloc, grid.spoil(0, index, case.small(3)?, case.number(4)?)),
@@ -139,7 +142,7 @@ fn prepared(alloc: Global, files: &mut Files, case: &Case<'_>) -> Result<String,
 /// left after the first, and whether some are left.
 fn ahead<S: Store>(
     alloc: Global,
-    grid: &Grid<S>,
+    grid: &mut Grid<S>,
     cache: &mut Option<Cache>,
     fields: &ReadFields,
     case: &Case<'_>,
@@ -212,14 +215,14 @@ fn begun<S: Store>(
     }
 }
 
-/// What comes of beginning to give a file with an empty cache.
-fn begin_anew<S: Store>(
+/// Why beginning to give a file with an empty cache is refused, if it is.
+pub fn fault_of_begin<S: Store>(
     alloc: Global,
     grid: &mut Grid<S>,
     fields: &ReadFields,
-) -> Result<String, NoAnswer> {
-    let fault: Option<ReadFault> = begin(alloc, grid, &mut Cache::new(alloc)?, fields).err();
-    debug(alloc, &fault)
+) -> Result<Option<ReadFault>, AllocError> {
+    let mut cache = Cache::new(alloc)?;
+    Ok(begin(alloc, grid, &mut cache, fields).err())
 }
 
 /// Whether all that is given is these bytes; how many segments there were, and how many bytes the last one had.

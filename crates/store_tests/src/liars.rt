@@ -1,10 +1,13 @@
 //! A store that lies.
-use caps::{Cap, weaken};
+ghost use Rattle.octets.specs.Sharing.{IsSharing};
+
+use crate::files::fault_of_begin;
+use caps::{Cap, ReadFields, VerifyCap, weaken};
 use case_lines::{Case, NoAnswer, debug};
-use chk_file::{Cache, begin, check, read, upload};
-use grid::Grid;
+use chk_file::{Cache, Health, ReadFault, check, read, upload};
+use grid::{Grid, GridFault};
 use share_store::{Liar, Store};
-use std::alloc::Global;
+use std::alloc::{AllocError, Global};
 use std::rc::RcSlice;
 
 /// A store that gives the bytes at the places from 2 on in turn, up to the end or a word `|`.
@@ -45,11 +48,38 @@ fn file(alloc: Global, liar: Liar, case: &Case<'_>) -> Result<String, NoAnswer> 
     let mut stores = Vec::new(alloc);
     stores.push(liar)?;
     let mut grid = Grid::new(stores);
-    let mut cache = Cache::new(alloc)?;
-    match upload(alloc, &mut grid, &mut cache, k, n, b"", bytes) {
-        Ok(cap) => found_of(alloc, &mut grid, &cap),
+    stored_and_found(alloc, &mut grid, k, n, bytes)
+}
+
+/// The same over a grid of a liar. Each of its calls has a cache of its own, in a function of its own: a function that owns a
+/// cache and may leave at several places is dear to prove.
+fn stored_and_found(
+    alloc: Global,
+    grid: &mut Grid<Liar>,
+    k: u16,
+    n: u16,
+    bytes: Vec<u8>,
+) -> Result<String, NoAnswer>
+    requires { IsSharing k n }
+{
+    match stored(alloc, grid, k, n, bytes)? {
+        Ok(cap) => found_of(alloc, grid, &cap),
         Err(fault) => debug(alloc, &fault),
     }
+}
+
+/// What an upload says.
+fn stored(
+    alloc: Global,
+    grid: &mut Grid<Liar>,
+    k: u16,
+    n: u16,
+    bytes: Vec<u8>,
+) -> Result<Result<Cap, GridFault>, AllocError>
+    requires { IsSharing k n }
+{
+    let mut cache = Cache::new(alloc)?;
+    Ok(upload(alloc, grid, &mut cache, k, n, b"", bytes))
 }
 
 /// What is found of a file.
@@ -57,10 +87,30 @@ fn found_of(alloc: Global, grid: &mut Grid<Liar>, cap: &Cap) -> Result<String, N
     let (Cap::Chk(fields), Some(verify_cap)) = (cap, weaken(cap)) else {
         return Err(NoAnswer::Question);
     };
-    let read = read(alloc, grid, &mut Cache::new(alloc)?, fields).err();
-    let begun = begin(alloc, grid, &mut Cache::new(alloc)?, fields).err();
-    let found = check(alloc, grid, &mut Cache::new(alloc)?, &verify_cap, true)?;
+    let read = fault_of_read(alloc, grid, fields)?;
+    let begun = fault_of_begin(alloc, grid, fields)?;
+    let found = checked(alloc, grid, &verify_cap)??;
     debug(alloc, &(read, begun, found.good, found.corrupt.len()))
+}
+
+/// Why a read is refused, if it is.
+fn fault_of_read(
+    alloc: Global,
+    grid: &mut Grid<Liar>,
+    fields: &ReadFields,
+) -> Result<Option<ReadFault>, AllocError> {
+    let mut cache = Cache::new(alloc)?;
+    Ok(read(alloc, grid, &mut cache, fields).err())
+}
+
+/// What a check says that verifies.
+fn checked(
+    alloc: Global,
+    grid: &mut Grid<Liar>,
+    verify_cap: &VerifyCap,
+) -> Result<Result<Health, AllocError>, AllocError> {
+    let mut cache = Cache::new(alloc)?;
+    Ok(check(alloc, grid, &mut cache, verify_cap, true))
 }
 
 /// How many bytes it gives, if it gives any.

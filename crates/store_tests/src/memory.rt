@@ -26,11 +26,17 @@ impl Memory {
         }
     }
 
+    /// Begins with this grid, and no file.
+    fn begin(&mut self, alloc: Global, grid: Grid<MemStore>) {
+        self.grid = Some(grid);
+        self.files = Files::new(alloc);
+    }
+
     /// The answer to a case: a new grid of so many servers with so much room, or what a file's case asks.
     pub fn answer(&mut self, alloc: Global, case: &Case<'_>) -> Result<String, NoAnswer> {
         if case.word(1)? == "new" {
-            self.grid = Some(grid_of(alloc, servers_at(case, 2)?, case.number(3)?)?);
-            self.files = Files::new(alloc);
+            let grid = grid_of(alloc, servers_at(case, 2)?, case.number(3)?)?;
+            self.begin(alloc, grid);
             return fixed(alloc, "ok");
         }
         match &mut self.grid {

@@ -1,4 +1,4 @@
-use Rattle.std.proofs.Common.{◌≡◌, subst}
+use Rattle.std.proofs.Common.{subst}
 use Rattle.chk_file.specs.Cached.{CacheEntry, IsWithinOr}
 use Rattle.chk_file.proofs.listing_ahead.list_on.Goals as goal
 

@@ -6,8 +6,11 @@ use Rattle.caps.specs.StorageIndex.{index_of}
 use Rattle.chk_file.specs.Row.{table_of}
 use Rattle.chk_file.specs.Fit.{fit}
 use Rattle.chk_file.specs.Downloads.{DownloadValue}
-use Rattle.chk_file.proofs.Freshness.{found_fits, found_all}
+use Rattle.chk_file.proofs.Freshness.{fresh_within, found_fits, found_all}
 use Rattle.chk_file.proofs.long_reader.look_up.Goals as goal
+
+pub returns-in-Some-clause-fresh : goal.returns-in-Some-clause-fresh
+returns-in-Some-clause-fresh g c = fresh_within _ _ c.args.grid.now c.held_at.ensures.within
 
 pub returns-in-Some-clause-fit : goal.returns-in-Some-clause-fit
 returns-in-Some-clause-fit g c fresh all =
@@ -16,4 +19,4 @@ returns-in-Some-clause-fit g c fresh all =
     let is : Some c.in-Some.stamp ≡ stamp_of (raised_at c.args.grid.now (index_of f.key)) = sym c.in-Some.is ∙ c.stamp.ensures ∙ ap (λ si. stamp_of (raised_at c.args.grid.now si)) same in
     let P : List ℕ → Type 0 = λ bytes. Contains c.args.cache.now (f, (c.in-Some.stamp, bytes)) in
     let Q : List ℕ → Type 0 = λ bytes. fit (table_of (stood c.args.grid.now) (index_of f.key)) f ≡ Some bytes in
-    found_all (λ (shares : DownloadValue). shares.left) P Q c.pinned.result (λ bytes there. found_fits c.args.cache.now c.args.grid.now f c.in-Some.stamp bytes fresh all is there) c.pinned.ensures.found
+    found_all (λ (shares : DownloadValue). shares.left) P Q c.held_at.result (λ bytes there. found_fits c.args.cache.now c.args.grid.now f c.in-Some.stamp bytes fresh all is there) c.held_at.ensures.there

@@ -1,4 +1,4 @@
-use Rattle.std.proofs.Common.{◌≡◌, Option, IfSome, Contains, subst}
+use Rattle.std.proofs.Common.{Option, IfSome, Contains, subst}
 use Rattle.chk_file.specs.Seen.{step_entry}
 use Rattle.chk_file.specs.declared.steps.Step.{Step}
 use Rattle.chk_file.proofs.LookUps.{put_back}

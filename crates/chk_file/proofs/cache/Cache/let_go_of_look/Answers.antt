@@ -1,7 +1,7 @@
-use Rattle.std.proofs.Common.{List, Contains, subst}
+use Rattle.std.proofs.Common.{List, ◌++◌, Contains, subst}
 use Rattle.std.specs.Option.{option_to_list}
 use Rattle.chk_file.specs.Cached.{CacheEntry}
-use Rattle.chk_file.specs.Seen.{cache_entries, pinned_entries}
+use Rattle.chk_file.specs.Seen.{cache_entries, pinned_entries, gathered_entries}
 use Rattle.chk_file.proofs.CacheEntries.{bound_within}
 use Rattle.chk_file.proofs.LookUps.{none_left_within}
 use Rattle.chk_file.proofs.cache.Cache.let_go_of_look.Goals as goal
@@ -12,7 +12,7 @@ invariant_of-self c =
     let pinned : List CacheEntry = pinned_entries c.self.inside.pinned in
     let steps : List CacheEntry = c.self.inside.steps in
     let old : List CacheEntry = option_to_list c.self.inside.looking in
-    let listed : List CacheEntry = option_to_list c.self.inside.listed in
+    let listed : List CacheEntry = option_to_list c.self.inside.listed ++ gathered_entries c.self.inside.gathered in
     (bound_within _ _ (none_left_within kept pinned steps old listed) c.self.invariant.0, c.self.invariant.1)
 
 pub returns : goal.returns
@@ -21,5 +21,5 @@ returns c entry there =
     let pinned : List CacheEntry = pinned_entries c.self.inside.pinned in
     let steps : List CacheEntry = c.self.inside.steps in
     let old : List CacheEntry = option_to_list c.self.inside.looking in
-    let listed : List CacheEntry = option_to_list c.self.inside.listed in
+    let listed : List CacheEntry = option_to_list c.self.inside.listed ++ gathered_entries c.self.inside.gathered in
     subst (λ entries. Contains entries entry) c.self.view_is (none_left_within kept pinned steps old listed entry there)

@@ -2,7 +2,7 @@ use Rattle.std.proofs.Common.{List, ◌++◌, Option, IfSome, Contains, sym, sub
 use Rattle.std.specs.Option.{option_to_list}
 use Rattle.chk_file.specs.Bound.{Bound}
 use Rattle.chk_file.specs.Cached.{CacheEntry, AreBound}
-use Rattle.chk_file.specs.Seen.{cache_entries, pinned_entries}
+use Rattle.chk_file.specs.Seen.{cache_entries, pinned_entries, gathered_entries}
 use Rattle.chk_file.proofs.CacheEntries.{bound_within}
 use Rattle.chk_file.proofs.LookUps.{none_listed_within, listed_there, some_so}
 use Rattle.chk_file.proofs.cache.Cache.take_listed.Goals as goal
@@ -13,9 +13,10 @@ invariant_of-self c =
     let pinned : List CacheEntry = pinned_entries c.self.inside.pinned in
     let steps : List CacheEntry = c.self.inside.steps in
     let looking : List CacheEntry = option_to_list c.self.inside.looking in
+    let rest : List CacheEntry = gathered_entries c.self.inside.gathered in
     let old : List CacheEntry = option_to_list c.self.inside.listed in (
-      subst (λ (o : Option CacheEntry). AreBound (kept ++ (pinned ++ (steps ++ (looking ++ option_to_list o))))) (sym c.take.ensures.after)
-          (bound_within _ _ (none_listed_within kept pinned steps looking old) c.self.invariant.0),
+      subst (λ (o : Option CacheEntry). AreBound (kept ++ (pinned ++ (steps ++ (looking ++ (option_to_list o ++ rest)))))) (sym c.take.ensures.after)
+          (bound_within _ _ (none_listed_within kept pinned steps looking old rest) c.self.invariant.0),
       c.self.invariant.1,
     )
 
@@ -25,10 +26,11 @@ returns-clause-within c =
     let pinned : List CacheEntry = pinned_entries c.self.inside.pinned in
     let steps : List CacheEntry = c.self.inside.steps in
     let looking : List CacheEntry = option_to_list c.self.inside.looking in
+    let rest : List CacheEntry = gathered_entries c.self.inside.gathered in
     let old : List CacheEntry = option_to_list c.self.inside.listed in
-    subst (λ (entries : List CacheEntry). (entry : CacheEntry) → Contains (kept ++ (pinned ++ (steps ++ (looking ++ option_to_list c.take.new.self)))) entry → Contains entries entry) c.self.view_is
-    (subst (λ (o : Option CacheEntry). (entry : CacheEntry) → Contains (kept ++ (pinned ++ (steps ++ (looking ++ option_to_list o)))) entry → Contains (kept ++ (pinned ++ (steps ++ (looking ++ old)))) entry) (sym c.take.ensures.after)
-    (none_listed_within kept pinned steps looking old))
+    subst (λ (entries : List CacheEntry). (entry : CacheEntry) → Contains (kept ++ (pinned ++ (steps ++ (looking ++ (option_to_list c.take.new.self ++ rest))))) entry → Contains entries entry) c.self.view_is
+    (subst (λ (o : Option CacheEntry). (entry : CacheEntry) → Contains (kept ++ (pinned ++ (steps ++ (looking ++ (option_to_list o ++ rest))))) entry → Contains (kept ++ (pinned ++ (steps ++ (looking ++ (old ++ rest))))) entry) (sym c.take.ensures.after)
+    (none_listed_within kept pinned steps looking old rest))
 
 pub returns-clause-there : goal.returns-clause-there
 returns-clause-there c =
@@ -36,9 +38,10 @@ returns-clause-there c =
     let pinned : List CacheEntry = pinned_entries c.self.inside.pinned in
     let steps : List CacheEntry = c.self.inside.steps in
     let looking : List CacheEntry = option_to_list c.self.inside.looking in
+    let rest : List CacheEntry = gathered_entries c.self.inside.gathered in
     subst (λ (entries : List CacheEntry). IfSome c.take.result (Contains entries)) c.self.view_is
-    (subst (λ (o : Option CacheEntry). IfSome o (Contains (kept ++ (pinned ++ (steps ++ (looking ++ option_to_list c.self.inside.listed)))))) (sym c.take.ensures.value)
-    (listed_there kept pinned steps looking c.self.inside.listed))
+    (subst (λ (o : Option CacheEntry). IfSome o (Contains (kept ++ (pinned ++ (steps ++ (looking ++ (option_to_list c.self.inside.listed ++ rest))))))) (sym c.take.ensures.value)
+    (listed_there kept pinned steps looking c.self.inside.listed rest))
 
 pub returns-clause-bound : goal.returns-clause-bound
 returns-clause-bound c =
@@ -46,7 +49,8 @@ returns-clause-bound c =
     let pinned : List CacheEntry = pinned_entries c.self.inside.pinned in
     let steps : List CacheEntry = c.self.inside.steps in
     let looking : List CacheEntry = option_to_list c.self.inside.looking in
-    let all : List CacheEntry = kept ++ (pinned ++ (steps ++ (looking ++ option_to_list c.self.inside.listed))) in
+    let rest : List CacheEntry = gathered_entries c.self.inside.gathered in
+    let all : List CacheEntry = kept ++ (pinned ++ (steps ++ (looking ++ (option_to_list c.self.inside.listed ++ rest)))) in
     let Q : CacheEntry → Type 0 = λ e. Bound e.0 e.1.1 in
     subst (λ (o : Option CacheEntry). IfSome o Q) (sym c.take.ensures.value)
-    (some_so (Contains all) Q c.self.inside.listed (λ e there. c.self.invariant.0 e.0 e.1.0 e.1.1 there) (listed_there kept pinned steps looking c.self.inside.listed))
+    (some_so (Contains all) Q c.self.inside.listed (λ e there. c.self.invariant.0 e.0 e.1.0 e.1.1 there) (listed_there kept pinned steps looking c.self.inside.listed rest))

@@ -2,7 +2,7 @@ use Rattle.std.proofs.Common.{List, ◌++◌, Option, IfSome, Contains, sym, sub
 use Rattle.std.specs.Option.{option_to_list}
 use Rattle.chk_file.specs.Bound.{Bound}
 use Rattle.chk_file.specs.Cached.{CacheEntry, AreBound}
-use Rattle.chk_file.specs.Seen.{cache_entries, pinned_entries}
+use Rattle.chk_file.specs.Seen.{cache_entries, pinned_entries, gathered_entries}
 use Rattle.chk_file.proofs.CacheEntries.{bound_within}
 use Rattle.chk_file.proofs.LookUps.{none_left_within, looking_there, some_so}
 use Rattle.chk_file.proofs.cache.Cache.take_looking.Goals as goal
@@ -13,7 +13,7 @@ invariant_of-self c =
     let pinned : List CacheEntry = pinned_entries c.self.inside.pinned in
     let steps : List CacheEntry = c.self.inside.steps in
     let old : List CacheEntry = option_to_list c.self.inside.looking in
-    let listed : List CacheEntry = option_to_list c.self.inside.listed in (
+    let listed : List CacheEntry = option_to_list c.self.inside.listed ++ gathered_entries c.self.inside.gathered in (
       subst (λ (o : Option CacheEntry). AreBound (kept ++ (pinned ++ (steps ++ (option_to_list o ++ listed))))) (sym c.take.ensures.after)
           (bound_within _ _ (none_left_within kept pinned steps old listed) c.self.invariant.0),
       c.self.invariant.1,
@@ -25,7 +25,7 @@ returns-clause-within c =
     let pinned : List CacheEntry = pinned_entries c.self.inside.pinned in
     let steps : List CacheEntry = c.self.inside.steps in
     let old : List CacheEntry = option_to_list c.self.inside.looking in
-    let listed : List CacheEntry = option_to_list c.self.inside.listed in
+    let listed : List CacheEntry = option_to_list c.self.inside.listed ++ gathered_entries c.self.inside.gathered in
     subst (λ (entries : List CacheEntry). (entry : CacheEntry) → Contains (kept ++ (pinned ++ (steps ++ (option_to_list c.take.new.self ++ listed)))) entry → Contains entries entry) c.self.view_is
     (subst (λ (o : Option CacheEntry). (entry : CacheEntry) → Contains (kept ++ (pinned ++ (steps ++ (option_to_list o ++ listed)))) entry → Contains (kept ++ (pinned ++ (steps ++ (old ++ listed)))) entry) (sym c.take.ensures.after)
     (none_left_within kept pinned steps old listed))
@@ -35,7 +35,7 @@ returns-clause-there c =
     let kept : List CacheEntry = cache_entries c.self.inside.kept.entries in
     let pinned : List CacheEntry = pinned_entries c.self.inside.pinned in
     let steps : List CacheEntry = c.self.inside.steps in
-    let listed : List CacheEntry = option_to_list c.self.inside.listed in
+    let listed : List CacheEntry = option_to_list c.self.inside.listed ++ gathered_entries c.self.inside.gathered in
     subst (λ (entries : List CacheEntry). IfSome c.take.result (Contains entries)) c.self.view_is
     (subst (λ (o : Option CacheEntry). IfSome o (Contains (kept ++ (pinned ++ (steps ++ (option_to_list c.self.inside.looking ++ listed)))))) (sym c.take.ensures.value)
     (looking_there kept pinned steps c.self.inside.looking listed))
@@ -45,7 +45,7 @@ returns-clause-bound c =
     let kept : List CacheEntry = cache_entries c.self.inside.kept.entries in
     let pinned : List CacheEntry = pinned_entries c.self.inside.pinned in
     let steps : List CacheEntry = c.self.inside.steps in
-    let listed : List CacheEntry = option_to_list c.self.inside.listed in
+    let listed : List CacheEntry = option_to_list c.self.inside.listed ++ gathered_entries c.self.inside.gathered in
     let all : List CacheEntry = kept ++ (pinned ++ (steps ++ (option_to_list c.self.inside.looking ++ listed))) in
     let Q : CacheEntry → Type 0 = λ e. Bound e.0 e.1.1 in
     subst (λ (o : Option CacheEntry). IfSome o Q) (sym c.take.ensures.value)

@@ -1,0 +1,40 @@
+use Rattle.std.proofs.Common.{◌≡◌, List, ℕ, Some, sym, ap, subst, ◌∙◌, arith}
+use Rattle.std.specs.Prelude.{MatchOption}
+use Rattle.grid.specs.Stamps.{stamp_of}
+use Rattle.grid.specs.GridState.{raised_at, failures_in}
+use Rattle.grid.proofs.Turns.{stamped_unchanged, none_failed}
+use Rattle.caps.specs.Fields.{ReadValue}
+use Rattle.caps.specs.StorageIndex.{index_of}
+use Rattle.chk_file.specs.Cached.{CacheEntry, IsWithin, IsWithinOr}
+use Rattle.chk_file.specs.Seen.{given_by}
+use Rattle.chk_file.proofs.Freshness.{fresh_stays, fresh_given}
+use Rattle.chk_file.proofs.gathering.gather.Goals as goal
+
+pub returns-in_default-gathered_at-clause-fresh : goal.returns-in_default-gathered_at-clause-fresh
+returns-in_default-gathered_at-clause-fresh g c =
+    let old = c.args.grid.now in
+    let new = c.gathered_at.new.grid in
+    fresh_stays c.args.cache.now old new c.gathered_at.ensures.leaves (stamped_unchanged old new c.gathered_at.ensures.stamps c.gathered_at.ensures.unchanged)
+
+pub returns-then-failures-clause-fresh : goal.returns-then-failures-clause-fresh
+returns-then-failures-clause-fresh g c =
+    let old = c.args.grid.now in
+    let new = c.gathered_at.new.grid in
+    fresh_stays c.args.cache.now old new c.gathered_at.ensures.leaves (stamped_unchanged old new c.gathered_at.ensures.stamps c.gathered_at.ensures.unchanged)
+
+pub returns-clause-fresh : goal.returns-clause-fresh
+returns-clause-fresh g c =
+    let f : ReadValue = c.args.fields.now in
+    let stamp : ℕ = c.in-Some.stamp in
+    let old = c.args.grid.now in
+    let new = c.gathered_at.new.grid in
+    let cache : List CacheEntry = c.args.cache.now in
+    let kept : List CacheEntry = c.put_gathered.new.self in
+    let gathered = c.in-Some-gathered_at.gathered in
+    let same : c.storage_index.result ≡ index_of f.key = c.storage_index.ensures ∙ ap (λ (v : ReadValue). index_of v.key) c.fields.view_is in
+    let is : Some stamp ≡ stamp_of (raised_at old (index_of f.key)) = sym c.in-Some.is ∙ c.stamp.ensures ∙ ap (λ si. stamp_of (raised_at old si)) same in
+    let stayed : failures_in new ≡ failures_in old = omega arith in
+    let W : ReadValue × ℕ → Type 0 = λ e. MatchOption (given_by gathered) (IsWithin cache kept) (λ bytes. IsWithinOr cache kept (e.0, (e.1, bytes))) in
+    let of : (gathered.fields, gathered.stamp) ≡ (f, stamp) = (λ i. (c.in-Some-gathered_at.ensures.fields i, c.in-Some-gathered_at.ensures.stamp i)) in
+    fresh_given (given_by gathered) cache kept old new f stamp c.gathered_at.ensures.leaves (stamped_unchanged old new c.gathered_at.ensures.stamps c.gathered_at.ensures.unchanged)
+    (none_failed old new c.gathered_at.ensures.leaves stayed) is c.in-Some-gathered_at.ensures.fit (subst W of c.put_gathered.ensures)
