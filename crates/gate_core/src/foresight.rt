@@ -7,15 +7,14 @@ ghost use Rattle.chk_file.specs.Cached.{IsCacheCurrent, IsWithin};
 
 use crate::holds::{Holds, Prospect};
 use crate::parameters::Parameters;
-use caps::{Cap, ReadFields, VerifyFields, storage_index, weaken};
-use chk_file::{Cache, MOST_KEPT};
+use caps::{Cap, ReadFields, VerifyFields, weaken};
+use chk_file::{Cache, lends};
 use grid::Grid;
 use http_edge::{Awaited, Conn, Head, LastChunks};
 use octets::Bytes;
 use path_walk::{Ahead, Names, walk_ahead};
 use share_store::Store;
 use std::alloc::{AllocError, Global};
-use std::rc::RcSlice;
 use web_request::{Fields, Request, interpret};
 
 /// How many bytes an upload has at least that is prepared: a shorter one takes a few milliseconds in all.
@@ -345,7 +344,7 @@ fn held_by<S: Store>(asked: &Asked, end: &Cap, grid: &Grid<S>) -> Holds {
     if asked.head_only {
         return Holds::nothing();
     }
-    held_for(asked.wanted, end, lends(grid, end))
+    held_for(asked.wanted, end, is_lent(grid, end))
 }
 
 /// What the reply will hold where this is wanted of what a cap names, of which stores lend the shares or don't.
@@ -392,38 +391,12 @@ fn listing_held(end: &Cap) -> Holds
     }
 }
 
-/// Whether a cap names a file that isn't kept whole, and stores have shares of each number below k in memory.
-fn lends<S: Store>(grid: &Grid<S>, end: &Cap) -> bool {
-    let Cap::Chk(fields) = end else {
-        return false;
-    };
-    if fields.size <= MOST_KEPT {
-        return false;
+/// Whether a cap names a file of which stores lend the shares.
+fn is_lent<S: Store>(grid: &Grid<S>, end: &Cap) -> bool {
+    match end {
+        Cap::Chk(fields) => lends(grid, fields),
+        _ => false,
     }
-    match grid.peek_below(storage_index(&fields.key), fields.k) {
-        Ok(found) => has_each_below(&found, fields.k),
-        Err(_) => false,
-    }
-}
-
-/// Whether among these strings there is one of each number below k.
-fn has_each_below(found: &[(usize, u16, RcSlice<u8>)], k: u16) -> bool {
-    for number in 0..k {
-        if !has_number(found, number) {
-            return false;
-        }
-    }
-    true
-}
-
-/// Whether one of these strings has a number.
-fn has_number(found: &[(usize, u16, RcSlice<u8>)], number: u16) -> bool {
-    for (_, other, _) in found {
-        if *other == number {
-            return true;
-        }
-    }
-    false
 }
 
 /// The same of what the names lead to: whether steps are left.
@@ -475,10 +448,12 @@ fn read_ahead<S: Store>(
     alloc: Global,
     fields: &ReadFields,
     is_its_turn: bool,
-    grid: &Grid<S>,
+    grid: &mut Grid<S>,
     cache: &mut Cache,
 ) -> bool
-    ensures { cache.new ≡ cache.old }
+    ensures leaves { Leaves grid.old grid.new }
+    ensures unchanged { IsHonest grid.old → IsUnchanged grid.old grid.new }
+    ensures fresh { IsCacheCurrent cache.old grid.old → IsCacheCurrent cache.new grid.new }
 {
     if !cache.can_read_ahead(grid, fields) {
         return false;

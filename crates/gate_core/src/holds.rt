@@ -6,8 +6,8 @@ ghost use Rattle.gate_core.specs.Holds.{held_while};
 /// longer.
 const PIECE: usize = 131_072;
 
-/// From how many bytes on a reply holds much.
-pub const MUCH: usize = 16_384;
+/// From how many bytes on a reply holds much: as many as are much of a request to the loop that counts both.
+const MUCH: usize = 16_384;
 
 /// What a reply holds besides the bytes of it that are made, in bytes.
 #[derive(Clone, Copy, Debug, Drop, PartialEq, Eq)]

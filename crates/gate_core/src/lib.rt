@@ -39,6 +39,6 @@ pub mod laws;
 
 pub use fault::{GatewayFault, RestoreFault};
 pub use gateway::Gateway;
-pub use holds::{Holds, MUCH, Prospect};
+pub use holds::{Holds, Prospect};
 pub use pages::{Page, Pages};
 pub use tally::Tally;

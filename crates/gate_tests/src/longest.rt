@@ -3,7 +3,7 @@
 use super::counted::with_counted;
 use super::rows::{are_told, holds, steps_left, waits, with_room};
 use gate_core::Gateway;
-use share_store::MemStore;
+use share_store::{FailAt, MemStore};
 use std::alloc::{AllocError, Global};
 use std::test::Fail;
 
@@ -163,4 +163,35 @@ fn is_read_ahead(
     let is_next = waits(gateway, 2, GET);
     are_told(gateway, &[(2, GET, found)])?;
     holds(both_wait && steps > 50 && !is_next, "not prepared so")
+}
+
+#[test]
+fn a_store_that_lends_nothing_is_asked_once(rt: HostRuntime) -> Result<(), Fail> {
+    let alloc = rt.alloc();
+    is_asked_once(alloc, &with_counted(alloc, PUT, LONGEST)?)
+}
+
+/// The file is put by ten calls of a store that has nothing in memory to lend, and asked for by four, one for the numbers of its
+/// shares and three for their bytes. All calls behind these fail.
+fn is_asked_once(alloc: Global, request: &[u8]) -> Result<(), Fail> {
+    let mut stores = Vec::new(alloc);
+    stores.push(FailAt::new(alloc, MemStore::new(alloc, ROOM), 15, true))?;
+    let mut gateway = Gateway::new(alloc, 3, 10, stores, b"")?;
+    is_given_though_calls_fail(alloc, &mut gateway, request)
+}
+
+/// The file is put, its reading is prepared in steps, and it is given.
+fn is_given_though_calls_fail(
+    alloc: Global,
+    gateway: &mut Gateway<FailAt>,
+    request: &[u8],
+) -> Result<(), Fail> {
+    let found = with_counted(alloc, FOUND, LONGEST)?;
+    gateway.open(1, None)?;
+    for piece in request.chunks(65_536) {
+        gateway.bytes(1, piece)?;
+    }
+    are_told(gateway, &[(1, b"", STORED)])?;
+    holds(steps_left(gateway, 1, GET) > 50, "not prepared in steps")?;
+    are_told(gateway, &[(1, GET, &found)])
 }
