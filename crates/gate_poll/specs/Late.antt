@@ -56,3 +56,9 @@ blocked_at limits now pace = if pace.counts && not (has_lasted limits now pace) 
 -- of a peer that turns to sending or taking: no byte of it counts yet
 abbrev pub turned_at : Way → Instant → Pace
 turned_at way now = record { way = way; counts = false; again = false; began = now; last = now; moved = 0 }
+
+-- the limits of one that is hurried, where these are those of others
+pub record AreHurried (limits hurried : Limits) : Type 0 where
+  pub rate : hurried.rate ≡ 65536
+  pub idle : as_nanos hurried.idle ≡ min (as_nanos limits.idle) 2_000_000_000
+  pub grace : as_nanos hurried.grace ≡ min (as_nanos limits.grace) 2_000_000_000

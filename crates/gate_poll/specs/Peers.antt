@@ -1,5 +1,5 @@
 -- What a connection does in its turn.
-use Rattle.std.specs.Prelude.{◌≡◌, ◌+◌, ◌⊎◌, ⊤, Bool, true, Option, Some, None}
+use Rattle.std.specs.Prelude.{◌≡◌, ◌+◌, ◌≤◌, ◌⊎◌, ⊤, Bool, true, Option, Some, None}
 use Rattle.gate_core.specs.ConnectionState.{State}
 use Rattle.gate_flow.specs.declared.want.Want.{Want}
 use Rattle.gate_flow.specs.declared.want.Want.TheVariants.{Read, Advance, Write, Nothing}
@@ -10,6 +10,7 @@ use Rattle.gate_turns.specs.declared.seat.Side.{Side}
 use Rattle.gate_turns.specs.declared.seat.Side.TheVariants as side
 use Rattle.gate_turns.specs.declared.seat.Place.{Place}
 use Rattle.gate_turns.specs.declared.seat.Place.TheVariants.{Queued, Turn, Awaits}
+use Rattle.gate_poll.specs.declared.memory.Memory.{Memory}
 use Rattle.gate_poll.specs.declared.peer.Peer.{Peer}
 
 -- something is still to be said, or its flow wants to read and it is only waited until it ends its side
@@ -22,8 +23,10 @@ owes_at Nothing lingers = true
 abbrev pub owes : Peer → Bool
 owes peer = owes_at peer.flow.want peer.lingers
 
--- It waits for a side of its socket that its flow wants. One that is only waited for waits for bytes, and so does one that waits
--- for memory before its request is carried out.
+-- It may wait for this side of its socket. To write, where its flow wants that; to read, where its flow wants that, or it is only
+-- waited until it ends its side. One whose flow wants to go on may wait to read too: it is kept from calling the gateway while
+-- memory is used up, and goes on once it is readable or was called from among those that wait. That it is one of these is no part
+-- of this, but of the contract of the function by which it begins to wait.
 abbrev pub WaitsFor : Side → Peer → Type 0
 WaitsFor side.Read peer = (peer.flow.want ≡ Read) ⊎ ((peer.flow.want ≡ Advance) ⊎ (peer.lingers ≡ true))
 WaitsFor side.Write peer = peer.flow.want ≡ Write
@@ -54,3 +57,8 @@ pub record IsStepped (old new : Peer) (end : Option End) (g h : State) : Type 0 
   pub id : new.flow.id ≡ old.flow.id
   pub waits : EndsForSome end new
   pub hosted : IsHosted old.flow.id (old.flow.id + 1) g h
+
+-- A connection is hurried while memory is used up: 16,384 bytes or more are kept of it, and it sends them, or it is the one that
+-- goes on although memory is used up. Of another that takes a reply 1,048,576 bytes or more are.
+abbrev pub IsHurried : Memory → Peer → Type 0
+IsHurried memory peer = (16384 ≤ peer.kept) × ((peer.flow.want ≡ Read) ⊎ ((memory.first ≡ Some peer.flow.id) ⊎ (1048576 ≤ peer.kept)))

@@ -21,8 +21,9 @@ peer_in peers id = lookup (is_at (nat_cmp id)) peers
 abbrev pub OthersKept : ℕ → List (ℕ × Peer) → List (ℕ × Peer) → Type 0
 OthersKept id old new = (other : ℕ) → other ≢ id → peer_in new other ≡ peer_in old other
 
--- A connection is kept under the id that its flow has, which was given before. It waits for the side of its socket that its
--- flow wants, and its seat says whether something is owed to it.
+-- A connection is kept under the id that its flow has, which was given before. Where it waits for a side of its socket that is
+-- one which WaitsFor says: to read also where it is only waited until it ends, or where its flow wants to go on, as while it waits
+-- for memory. Its seat says whether something is owed to it.
 pub record IsSeatOf (next id : ℕ) (peer : Peer) (seat : Seat) : Type 0 where
   pub own : IsOwnId 1 next id
   pub same : peer.flow.id ≡ id

@@ -6,7 +6,7 @@ ghost use Rattle.http_edge.specs.Judge.{most_body_bytes};
 
 use std::time::Duration;
 
-/// How many bytes a second are expected of a long request while the memory for these is used up.
+/// How many bytes a second are expected of one that is hurried.
 const RATE_WHILE_FULL: u64 = 65_536;
 
 /// What is allowed to connections.
@@ -20,8 +20,10 @@ pub struct Limits {
     pub grace: Duration,
     /// How many bytes a second are expected of it while it sends a request, or takes a reply.
     pub rate: u64,
-    /// How many bytes may be kept of all connections, of requests that aren't whole yet and of replies that wait, before
-    /// those that send long requests have to wait.
+    /// From how many bytes on that are kept of all connections, of requests that aren't whole yet and by replies that wait,
+    /// those have to wait that send long requests, or whose reply would hold much, but for one at a time. More may be kept:
+    /// the last reply before that brings all that it holds, short requests never wait, and up to 131,072 bytes of each
+    /// connection are under way and not counted. What several replies share counts once for each.
     pub memory: u64,
     /// For how long what a peer still sends is read, after all was said to it.
     pub linger: Duration,
@@ -35,7 +37,7 @@ pub struct Limits {
 
 impl Limits {
     /// So many connections, each of which may be silent for so long; else 10 seconds for a head, 1,024 bytes a second,
-    /// 268,435,456 bytes of requests and replies, 2 seconds after the last reply and as many bytes as the longest body and head have, and 10 seconds after a stop.
+    /// 268,435,456 bytes of requests and replies from which on long ones wait, 2 seconds after the last reply and as many bytes as the longest body and head have, and 10 seconds after a stop.
     pub fn new(most: usize, idle: Duration) -> Limits
         ensures most { result.most ≡ most }
         ensures idle { result.idle ≡ idle }
@@ -55,8 +57,8 @@ impl Limits {
         }
     }
 
-    /// The same for one that sends a long request while the memory for these is used up: 65,536 bytes a second are expected
-    /// of it, and that it isn't silent for longer than two seconds.
+    /// The same for one that is hurried while the memory for connections is used up: 65,536 bytes a second are expected of
+    /// it, and that it isn't silent for longer than two seconds.
     pub fn while_full(&self) -> Limits
         ensures rate { result.rate ≡ 65536 }
         ensures idle { as_nanos result.idle ≡ min (as_nanos self.now.idle) 2_000_000_000 }

@@ -1,11 +1,8 @@
 //! How much memory connections may take.
-ghost use Rattle.std.specs.Prelude.{◌≡◌, ◌≢◌, ◌<◌, ◌≤◌, ◌+◌, ◌-◌, ◌^◌, ◌↔◌, ◌∷◌, min, true, false, IsTrue, IsFalse, IsSome, IfSome, IfOk, Some, None, Ok};
-ghost use Rattle.std.specs.Ordering.{nat_cmp};
-ghost use Rattle.std.specs.BTreeSet.{btree_set_len, contains, insert_key};
-ghost use Rattle.gate_poll.specs.Memory.{MayBeRead, MayBeCalled};
+ghost use Rattle.std.specs.Prelude.{◌≡◌, ◌≢◌, ◌<◌, ◌≤◌, ◌+◌, ◌-◌, ◌^◌, ◌↔◌, ◌⊎◌, ◌∷◌, [], length, min, true, IsTrue, IsFalse, IsSome, IfSome, IfNone, IfOk, OnErr, Some, None, Ok};
+ghost use Rattle.gate_poll.specs.Memory.{MayGoOn, MayBeCalled, is_queued, queued, unqueued};
 
 use std::alloc::{AllocError, Global};
-use std::collections::BTreeSet;
 
 /// From how many kept bytes on a request is long.
 pub const LONG: usize = 16_384;
@@ -22,8 +19,8 @@ pub struct Memory {
     kept: u64,
     /// The one that goes on although the budget is used up.
     first: Option<u64>,
-    /// Those that wait, of whom the one that came first goes on first.
-    waiting: BTreeSet<u64>,
+    /// Those that wait, each once, in the order in which they came.
+    waiting: Vec<u64>,
 }
 
 impl Memory {
@@ -32,12 +29,13 @@ impl Memory {
         ensures most { result.most ≡ most }
         ensures kept { result.kept ≡ 0 }
         ensures first { result.first ≡ None }
+        ensures waiting { result.waiting.items ≡ [] }
     {
         Memory {
             most,
             kept: 0,
             first: None,
-            waiting: BTreeSet::new(alloc),
+            waiting: Vec::new(alloc),
         }
     }
 
@@ -50,14 +48,21 @@ impl Memory {
 
     /// Whether a connection waits until less is kept.
     pub fn waits(&self, id: u64) -> bool
-        ensures { result ≡ contains nat_cmp self.now.waiting id }
+        ensures { result ≡ is_queued id self.now.waiting.items }
     {
         self.waiting.contains(&id)
     }
 
+    /// Whether a connection is the one that goes on although the budget is used up.
+    pub fn is_first(&self, id: u64) -> bool
+        ensures { IsTrue result ↔ (self.now.first ≡ Some id) }
+    {
+        self.first == Some(id)
+    }
+
     /// Whether a connection might go on of which much is kept, or would be.
     pub fn has_room_for(&self, id: u64) -> bool
-        ensures { IsTrue result ↔ MayBeRead self.now id 16384 }
+        ensures { IsTrue result ↔ MayGoOn self.now id 16384 }
     {
         !self.is_full() || self.first.is_none() || self.first == Some(id)
     }
@@ -81,68 +86,73 @@ impl Memory {
         ensures most { self.new.most ≡ self.old.most }
         ensures first { self.new.first ≢ Some id }
         ensures others { self.old.first ≢ Some id → self.new.first ≡ self.old.first }
-        ensures gone { contains nat_cmp self.new.waiting id ≡ false }
+        ensures gone { self.new.waiting.items ≡ unqueued id self.old.waiting.items }
     {
         if self.first == Some(id) {
             self.first = None;
         }
-        self.waiting.remove(&id);
+        take_out(&mut self.waiting, id);
     }
 
-    /// Whether a connection of which so many bytes are kept, or would be, may go on. Else it waits until it is called by
-    /// [`Memory::next`]. Refused memory is that of its place among those that wait; then it may go on too.
+    /// Whether a connection of which so many bytes are kept, or would be, may go on. If so it is none of those that wait. Else
+    /// it is the last of them, or stays at its place, until it is called by [`Memory::next`]. Refused memory is that of its
+    /// place among them; then it may go on too.
     pub fn admits(&mut self, id: u64, kept: usize) -> Result<bool, AllocError>
-        ensures exact { IfOk result (λ yes. IsTrue yes ↔ MayBeRead self.old id kept) }
+        ensures exact { IfOk result (λ yes. IsTrue yes ↔ MayGoOn self.old id kept) }
         ensures short { kept < 16384 → result ≡ Ok true }
         ensures waits { IfOk result (λ yes. IsFalse yes →
-            self.new.waiting.keys ≡ insert_key nat_cmp self.old.waiting.keys id) }
-        ensures stay { IfOk result (λ yes. IsTrue yes → self.new.waiting ≡ self.old.waiting) }
+            self.new.waiting.items ≡ queued id self.old.waiting.items) }
+        ensures goes_on { IfOk result (λ yes. IsTrue yes →
+            self.new.waiting.items ≡ unqueued id self.old.waiting.items) }
+        ensures refused { OnErr result (self.new.waiting.items ≡ self.old.waiting.items) }
         ensures goes_first { self.old.most ≤ self.old.kept → 16384 ≤ kept → self.old.first ≡ None →
             self.new.first ≡ Some id }
         ensures first { self.old.first ≢ None → self.new.first ≡ self.old.first }
+        ensures room { (kept < 16384) ⊎ (self.old.kept < self.old.most) →
+            self.new.first ≡ self.old.first }
         ensures kept { self.new.kept ≡ self.old.kept }
         ensures most { self.new.most ≡ self.old.most }
     {
-        if kept < LONG || !self.is_full() {
-            return Ok(true);
+        let is_long = kept >= LONG && self.is_full();
+        if is_long && !self.has_room_for(id) {
+            put_in(&mut self.waiting, id)?;
+            return Ok(false);
         }
-        match self.first {
-            None => {
-                self.first = Some(id);
-                Ok(true)
-            }
-            Some(first) if first == id => Ok(true),
-            Some(_) => match self.waiting.insert(id) {
-                Ok(_) => Ok(false),
-                Err(_) => Err(AllocError),
-            },
+        if is_long {
+            self.first = Some(id);
         }
+        take_out(&mut self.waiting, id);
+        Ok(true)
     }
 
-    /// The next one that waits and may be read from now, if there is one: the one that came first. Where the budget is used
-    /// up it is the one that goes on.
+    /// The next one that waits and may go on now, if there is one: the one that came first. Where the budget is used up it is
+    /// the one that goes on.
     pub fn next(&mut self) -> Option<u64>
-        ensures called { IsSome result ↔ (MayBeCalled self.old × (0 < btree_set_len self.old.waiting)) }
-        ensures least { IfSome result (λ id. self.old.waiting.keys ≡ id ∷ self.new.waiting.keys) }
+        ensures called { IsSome result
+            ↔ (MayBeCalled self.old × (0 < length self.old.waiting.items)) }
+        ensures oldest { IfSome result (λ id.
+            self.old.waiting.items ≡ id ∷ self.new.waiting.items) }
         ensures first { self.old.most ≤ self.old.kept →
             IfSome result (λ id. self.new.first ≡ Some id) }
         ensures room { self.old.kept < self.old.most → self.new.first ≡ self.old.first }
+        ensures none { IfNone result (self.new ≡ self.old) }
         ensures kept { self.new.kept ≡ self.old.kept }
         ensures most { self.new.most ≡ self.old.most }
     {
-        if !self.is_full() {
-            return self.waiting.pop_first();
-        }
-        if self.first.is_some() {
+        if !self.may_resume() {
             return None;
         }
-        self.first = self.waiting.pop_first();
-        self.first
+        let id = self.waiting.remove(0);
+        if self.is_full() {
+            self.first = Some(id);
+        }
+        Some(id)
     }
 
-    /// Whether one that waits may be read from now.
+    /// Whether one that waits may go on now.
     pub fn may_resume(&self) -> bool
-        ensures { IsTrue result ↔ (MayBeCalled self.now × (0 < btree_set_len self.now.waiting)) }
+        ensures { IsTrue result
+            ↔ (MayBeCalled self.now × (0 < length self.now.waiting.items)) }
     {
         !self.waiting.is_empty() && (!self.is_full() || self.first.is_none())
     }
@@ -156,8 +166,26 @@ impl Memory {
 
     /// How many wait.
     pub fn len(&self) -> usize
-        ensures { result ≡ btree_set_len self.now.waiting }
+        ensures { result ≡ length self.now.waiting.items }
     {
         self.waiting.len()
     }
+}
+
+/// An id is the last of those that wait, or stays at its place.
+fn put_in(waiting: &mut Vec<u64>, id: u64) -> Result<(), AllocError>
+    ensures put { IfOk result (λ _. waiting.new.items ≡ queued id waiting.old.items) }
+    ensures refused { OnErr result (waiting.new.items ≡ waiting.old.items) }
+{
+    if !waiting.contains(&id) && waiting.push(id).is_err() {
+        return Err(AllocError);
+    }
+    Ok(())
+}
+
+/// An id is none of those that wait. The others stay in their order.
+fn take_out(waiting: &mut Vec<u64>, id: u64)
+    ensures { waiting.new.items ≡ unqueued id waiting.old.items }
+{
+    waiting.retain(|other| *other != id);
 }

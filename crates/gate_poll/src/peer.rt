@@ -1,12 +1,12 @@
 //! One connection with its socket.
-ghost use Rattle.std.specs.Prelude.{◌≡◌, ◌≢◌, ◌<◌, ◌-◌, ◌^◌, min, IsTrue, IsFalse, Some, None, [], false, true};
+ghost use Rattle.std.specs.Prelude.{◌≡◌, ◌≢◌, ◌+◌, ◌<◌, ◌≤◌, ◌-◌, ◌^◌, ◌↔◌, if◌then◌else◌, min, IsTrue, IsFalse, IfSome, Some, None, [], false, true};
 ghost use Rattle.gate_core.specs.ConnectionState.{connection_at, waiting};
 ghost use Rattle.gate_core.specs.Kept.{kept_in};
 ghost use Rattle.gate_core.specs.Holds.{held_while};
 ghost use Rattle.gate_flow.specs.declared.want.Want.TheVariants as want;
 ghost use Rattle.gate_turns.specs.declared.seat.Side.TheVariants as side;
 
-use crate::memory::LONG;
+use crate::memory::{LONG, Memory};
 use crate::pace::{Pace, Way};
 use crate::stopwatch::Stopwatch;
 use crate::tools::Tools;
@@ -22,8 +22,8 @@ use std::time::{Clock, CpuClock, Duration, Instant};
 /// How often a socket is called in one turn.
 const CALLS: u32 = 4;
 
-/// From how many bytes on a reply holds much.
-const MUCH: usize = 1_048_576;
+/// From how many bytes on who takes a reply is hurried while memory is used up.
+const HURRIED_REPLY: usize = 1_048_576;
 
 /// From how many milliseconds of processor time on a step of the gateway is long.
 const LONG_MILLIS: u128 = 2;
@@ -92,6 +92,8 @@ pub struct Peer {
     kept: usize,
     /// What the reply holds that was made last.
     holds: Holds,
+    /// Whether it had to wait for memory when it was to be read last.
+    paused: bool,
 }
 
 impl Outcome {
@@ -160,8 +162,11 @@ impl Stepped {
 }
 
 impl Peer {
-    ghost use Rattle.gate_poll.specs.Late.{IsPast};
-    ghost use Rattle.gate_poll.specs.Peers.{owes, EndsFor, IsGoing, IsStepped};
+    ghost use Rattle.gate_poll.specs.Late.{AreHurried, IsLate, IsPast, turned_at};
+    ghost use Rattle.gate_poll.specs.declared.limits.Limits.{Limits};
+    ghost use Rattle.gate_poll.specs.declared.pace.Way.TheVariants.{Sends};
+    ghost use Rattle.gate_poll.specs.Memory.{is_queued};
+    ghost use Rattle.gate_poll.specs.Peers.{owes, EndsFor, IsGoing, IsHurried, IsStepped};
     ghost use Rattle.gate_poll.specs.Stopwatch.{timed_by};
 
     /// A socket that was just accepted.
@@ -178,30 +183,43 @@ impl Peer {
             dropped: 0,
             kept: 0,
             holds: Holds::nothing(),
+            paused: false,
         }
     }
 
     /// Whether its time is over. It isn't while it waits for memory, and while memory is used up more bytes a second are
-    /// expected of one of which much is kept.
-    pub fn is_late(&self, now: Instant, tools: &Tools) -> bool {
+    /// expected of one that is hurried.
+    pub fn is_late(&self, now: Instant, tools: &Tools) -> bool
+        ensures waits { self.now.lingers ≡ false →
+            IsTrue (is_queued self.now.flow.id tools.now.memory.waiting.items) → result ≡ false }
+        ensures hurried { self.now.lingers ≡ false →
+            IsFalse (is_queued self.now.flow.id tools.now.memory.waiting.items) →
+            tools.now.memory.most ≤ tools.now.memory.kept →
+            IsHurried tools.now.memory self.now → (hurried : Limits)
+            × AreHurried tools.now.limits hurried
+            × (IsTrue result ↔ IsLate self.now.pace hurried now) }
+    {
         let limits = &tools.limits;
         if self.lingers {
             self.pace.is_over(now, limits.linger)
         } else if tools.memory.waits(self.flow.id()) {
             false
-        } else if tools.memory.is_full() && self.is_long() {
+        } else if tools.memory.is_full() && self.is_hurried(&tools.memory) {
             self.pace.is_late(now, &limits.while_full())
         } else {
             self.pace.is_late(now, limits)
         }
     }
 
-    /// Whether much is kept of it, of its request or by its reply.
-    fn is_long(&self) -> bool {
-        let least = if self.flow.want() == Want::Read {
+    /// Whether it is hurried while memory is used up: where much is kept of its request, or very much by its reply. Much is
+    /// enough of the one that goes on although memory is used up, since the others wait for it.
+    fn is_hurried(&self, memory: &Memory) -> bool
+        ensures { IsTrue result ↔ IsHurried memory.now self.now }
+    {
+        let least = if self.flow.want() == Want::Read || memory.is_first(self.flow.id()) {
             LONG
         } else {
-            MUCH
+            HURRIED_REPLY
         };
         self.kept >= least
     }
@@ -341,8 +359,10 @@ impl Peer {
             return Stepped::ends(End::Blocked(Side::Read));
         }
         if let Ok(false) = tools.memory.admits(self.flow.id(), self.kept) {
+            self.paused = true;
             return Stepped::ends(End::Blocked(Side::Read));
         }
+        self.resumes(moment.now);
         match self.flow.read_from(&mut &self.stream) {
             Ok(Step::Went(count)) => {
                 self.pace.moves(moment.now, count, &tools.limits);
@@ -352,6 +372,20 @@ impl Peer {
             Ok(Step::Interrupted) => Stepped::goes_on(),
             Ok(Step::Blocked) => Stepped::ends(End::Blocked(Side::Read)),
             Err(fault) => Stepped::fails(fault),
+        }
+    }
+
+    /// It is read from, after it waited for memory or not. Where it did its pace counts anew, since it was not its own time.
+    fn resumes(&mut self, now: Instant)
+        ensures flow { self.new.flow ≡ self.old.flow }
+        ensures lingers { self.new.lingers ≡ self.old.lingers }
+        ensures pace { self.new.pace
+            ≡ (if self.old.paused then turned_at Sends now else self.old.pace) }
+        ensures paused { self.new.paused ≡ false }
+    {
+        if self.paused {
+            self.pace.turns(now, Way::Sends);
+            self.paused = false;
         }
     }
 
@@ -387,8 +421,7 @@ impl Peer {
     }
 
     /// Calls the gateway, where that is what is to be done next. A reply that it made is counted, with the time of its
-    /// request. Where it made several at once, as for requests that came in one piece with the body before them, they are
-    /// one.
+    /// request.
     fn advance<S: Store, R: Clock + CpuClock>(
         &mut self,
         rt: &R,
@@ -411,7 +444,8 @@ impl Peer {
     }
 
     /// The same, where nothing waits of an earlier reply. What its next request needs is prepared first. While the memory for
-    /// connections is used up none is carried out whose reply would hold much: it waits for its turn.
+    /// connections is used up none is carried out whose reply would hold much, but for one: the others wait until they are
+    /// called.
     fn begins<S: Store, R: Clock + CpuClock>(
         &mut self,
         rt: &R,
@@ -421,18 +455,17 @@ impl Peer {
         moment: &mut Moment,
     ) -> Stepped
         requires { self.old.flow.want ≡ want.Advance }
-        ensures { IsStepped self.old self.new result.end lobby.old lobby.new }
+        ensures stepped { IsStepped self.old self.new result.end lobby.old lobby.new }
+        ensures queued { result.end ≡ Some (End.Blocked side.Read) →
+            IsTrue (is_queued self.old.flow.id tools.new.memory.waiting.items) }
     {
         gate_flow::laws::gateways_are_hosted();
         let id = self.flow.id();
         let may_hold = tools.memory.has_room_for(id);
-        if tools.memory.waits(id) {
-            if !may_hold {
-                return Stepped::ends(End::Blocked(Side::Read));
-            }
-            tools.memory.lets_go(id);
+        if !may_hold && tools.memory.waits(id) {
+            lobby.let_go_of(id);
+            return Stepped::ends(End::Blocked(Side::Read));
         }
-        self.recounts(self.kept_by(lobby), tools);
         match lobby.prepare(&self.flow, may_hold) {
             Prospect::Waits => {
                 moment.skips(rt);
@@ -460,7 +493,8 @@ impl Peer {
         moment: &mut Moment,
     ) -> Stepped
         requires { self.old.flow.want ≡ want.Advance }
-        ensures { IsStepped self.old self.new result.end lobby.old lobby.new }
+        ensures stepped { IsStepped self.old self.new result.end lobby.old lobby.new }
+        ensures goes { IfSome result.end IsGoing }
     {
         gate_flow::laws::gateways_are_hosted();
         let replies = lobby.gateway().tally();
@@ -519,22 +553,14 @@ impl Peer {
         ensures flow { self.new.flow ≡ self.old.flow }
         ensures lingers { self.new.lingers ≡ self.old.lingers }
         ensures kept { self.new.kept ≡ kept }
+        ensures memory { tools.new.memory.kept
+            ≡ min (tools.old.memory.kept - self.old.kept + kept) (2 ^ 64 - 1) }
+        ensures few { kept < 16384 → tools.new.memory.first ≢ Some self.old.flow.id }
     {
         tools.memory.changes(self.kept, kept);
         self.kept = kept;
         if kept < LONG {
             tools.memory.lets_go(self.flow.id());
-        }
-    }
-
-    /// The same, where it was another number before.
-    fn recounts(&mut self, kept: usize, tools: &mut Tools)
-        ensures flow { self.new.flow ≡ self.old.flow }
-        ensures lingers { self.new.lingers ≡ self.old.lingers }
-        ensures kept { self.new.kept ≡ kept }
-    {
-        if kept != self.kept {
-            self.counts(kept, tools);
         }
     }
 

@@ -120,7 +120,7 @@ fn serve_all<
     }
 }
 
-/// Marks what was reported ready, and those that waited for memory of which there is some now.
+/// Marks what was reported ready, and the next one that waited for memory, if it may go on now.
 fn mark(events: &Events, gate: &mut EventLoop, table: &mut Table, desk: &mut ControlTable)
     requires { IsTableKept table.old }
     ensures kept { IsTableKept table.new }

@@ -162,7 +162,9 @@ impl Table {
         self.turns.report(id, readable, writable);
     }
 
-    /// Those that wait for memory have a turn to come, as many as there is memory for.
+    /// The one that came first of those that wait for memory has a turn to come, if it may go on now. It is one a round, so
+    /// that not all are called to find that the first of them took the room. While [`Table::may_resume`] says that another
+    /// may go on, the next round follows at once.
     pub fn resume(&mut self)
         requires { IsTableKept self.old }
         ensures kept { IsTableKept self.new }
@@ -171,10 +173,7 @@ impl Table {
         ensures due { turns_due self.new.turns.lanes ≡ turns_due self.old.turns.lanes }
     {
         self.tools.counts_kept();
-        'waiting: for _ in 0..self.tools.memory.len() {
-            let Some(id) = self.tools.memory.next() else {
-                return;
-            };
+        if let Some(id) = self.tools.memory.next() {
             self.is_ready(id, true, false);
         }
     }
