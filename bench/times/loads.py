@@ -1,7 +1,7 @@
 #!/usr/bin/env python3
 """Loads on `wozhinnam serve`, the built program, on the loopback, with times and memory; each takes a minute or two at most.
 
-usage: bench/times/loads.py PROGRAM [open|readers|many_readers|slow_readers|untaken|came|million|pipelined|cut|listings|puts|many_puts|chunks|walks|forms|metadata|makes|verifies|parts|wide|mixed ..]
+usage: bench/times/loads.py PROGRAM [open|readers|many_readers|slow_readers|untaken|came|million|pipelined|cut|listings|puts|many_puts|chunks|walks|forms|metadata|makes|verifies|parts|wide|disk_LOAD|redis_LOAD|mixed ..]
 
 open          10,000 connections, a reply on each
 readers       8 readers of 4 MiB beside small GETs; many_readers: 200 of them; slow_readers: 200 that take 10 KB a second
@@ -24,8 +24,12 @@ verifies      checks with verify of a file of 16 MiB
 parts         GETs of 1,000 bytes of two files of 16 MiB, by turns
 wide          the `t=json` of a directory of 20,000 children
 mixed         all of these at once, by a client each
+
+Of the last ten each may begin with `disk_` or `redis_`, as `disk_parts`: over five folders whose shares stay on the disk, or three Redis servers (redis-server
+of Debian). Without a name these aren't tried.
 """
 
+import contextlib
 import functools
 import itertools
 import os
@@ -33,7 +37,9 @@ import random
 import resource
 import socket
 import struct
+import subprocess
 import sys
+import tempfile
 import threading
 import time
 
@@ -364,10 +370,45 @@ BESIDE = {
 }
 
 
-def loaded(program, name, count=1):
-    """One of these loads, by so many clients at once."""
+@contextlib.contextmanager
+def in_memory(folder):
+    """A store in memory, which is the program's own choice."""
+    yield []
+
+
+@contextlib.contextmanager
+def on_disks(folder):
+    """Five folders whose shares stay on the disk."""
+    yield ["dir:%s/%d:2G,disk" % (folder, at) for at in range(5)]
+
+
+@contextlib.contextmanager
+def over_redis(folder):
+    """Three Redis servers, on ports that are free now."""
+    servers, places = [], []
+    for at in range(3):
+        with socket.create_server(("127.0.0.1", 0)) as free:
+            port = free.getsockname()[1]
+        words = ["redis-server", "--port", str(port), "--bind", "127.0.0.1", "--save", "", "--dir", folder]
+        servers.append(subprocess.Popen(words, stdout=subprocess.DEVNULL))
+        places.append("redis:127.0.0.1:%d" % port)
+    time.sleep(1)
+    yield places
+    for each in servers:
+        each.kill()
+
+
+def loaded(program, name, count=1, stores=in_memory):
+    """One of these loads, by so many clients at once, over such stores."""
+    with tempfile.TemporaryDirectory() as folder:
+        with stores(folder) as places:
+            loaded_over(program, name, count, places)
+
+
+def loaded_over(program, name, count, places):
     maker, called = BESIDE[name]
-    server = served(program, 100)
+    stores = [word for place in places for word in ("--store", place)]
+    server = wozhinnam(program, "--connections", "100", *stores, control=True)
     load = maker(server)
     quick = server.connect()
     times("small GETs alone", [small(quick) for _ in range(2000)])
@@ -534,6 +575,8 @@ LOADS = {
     "cut": cut,
     "listings": listings,
     **{name: functools.partial(loaded, name=name) for name in BESIDE},
+    **{"disk_" + name: functools.partial(loaded, name=name, stores=on_disks) for name in BESIDE},
+    **{"redis_" + name: functools.partial(loaded, name=name, stores=over_redis) for name in BESIDE},
     "many_puts": functools.partial(loaded, name="puts", count=4),
     "mixed": mixed,
 }
@@ -544,7 +587,7 @@ def main():
         sys.exit(__doc__)
     _, most = resource.getrlimit(resource.RLIMIT_NOFILE)
     resource.setrlimit(resource.RLIMIT_NOFILE, (most, most))
-    for name in sys.argv[2:] or LOADS:
+    for name in sys.argv[2:] or [name for name in LOADS if not name.startswith(("disk_", "redis_"))]:
         print("%s" % name, flush=True)
         LOADS[name](sys.argv[1])
 

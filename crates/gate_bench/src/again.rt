@@ -137,22 +137,24 @@ fn stored(
     Ok(both(both(put, got), both(written, altered)))
 }
 
-/// A gateway of the image, and what is got from it.
+/// A gateway of the image, and what is got from it. It is owned here alone, where no more is done: that is dear to prove.
 fn through_the_image(alloc: Global, room: &mut Room, outcome: Outcome) -> Result<Outcome, Ended> {
-    let (mut second, was_refused) = match restored(alloc, &room.image) {
-        Ok(restored) => restored,
-        Err(ended) => return Err(ended),
-    };
-    match asked(
-        &mut second,
-        [1, 101],
-        &room.get,
-        &room.given,
-        &mut room.reply,
-    ) {
-        Ok(got) => Ok(both(both(outcome, said(was_refused)), got)),
+    match restored(alloc, &room.image) {
+        Ok((mut second, was_refused)) => {
+            got_from(&mut second, room, both(outcome, said(was_refused)))
+        }
         Err(ended) => Err(ended),
     }
+}
+
+/// What is got from such a gateway, beside what came of it so far.
+fn got_from(
+    gateway: &mut Gateway<MemStore>,
+    room: &mut Room,
+    outcome: Outcome,
+) -> Result<Outcome, Ended> {
+    let got = asked(gateway, [1, 101], &room.get, &room.given, &mut room.reply)?;
+    Ok(both(outcome, got))
 }
 
 /// One request on a connection with a secret of its own, and what it is answered; on a spare connection where memory for

@@ -133,7 +133,7 @@ fn with_limits<'a>(alloc: Global, command: Command<'a>) -> Result<Command<'a>, A
             alloc,
             "memory",
             "BYTES",
-            "how many bytes are kept of requests and replies, as in --room, before those who send long requests have to wait",
+            "how many bytes are kept of requests and replies, as in --room, before those who send or ask for long ones have to wait",
         )
         .default_value("256M"))
 }

@@ -73,7 +73,8 @@ pub struct Options<'a> {
     pub connections: usize,
     /// For how many seconds one may be silent.
     pub idle: u64,
-    /// How many bytes may be kept of all connections before those that send long requests have to wait.
+    /// How many bytes may be kept of all connections before those that send long requests, or ask for long replies, have to
+    /// wait.
     pub memory: u64,
     /// Which lines the log has.
     pub log_level: LogLevel,

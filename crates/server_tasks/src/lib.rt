@@ -179,9 +179,20 @@ fn serve<
     let mut answers = control_of(rt, options)?;
     let pages = pages_of(opening, options)?;
     let mut lobby = Lobby::new(open_gateway(opening, options, pages)?);
+    serve_lobby(rt, told, options, &mut lobby, &mut answers)
+}
+
+/// The same, once its stores are open. What owns them leaves at no other place: that is dear to prove.
+fn serve_lobby<R: Print + Eprint + AllocGlobal + Files + Clock + CpuClock + Net, L: Log, S: Store>(
+    rt: &R,
+    told: &L,
+    options: &Options<'_>,
+    lobby: &mut Lobby<S>,
+    answers: &mut StatusControl,
+) -> Result<(), ProgramFault> {
     let listeners = listen_for(rt, options)?;
     let serving = &ServingRuntime::new(rt, told);
-    serve_with(serving, options, listeners, &mut lobby, &mut answers)
+    serve_with(serving, options, listeners, lobby, answers)
 }
 
 /// What answers control requests: it wants the token that its file has, where one is named.
