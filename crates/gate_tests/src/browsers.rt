@@ -114,8 +114,10 @@ fn browsers_are_told_more(rt: HostRuntime) -> Result<(), Fail> {
     let alloc = rt.alloc();
     let mut stores = Vec::new(alloc);
     stores.push(MemStore::new(alloc, 100_000))?;
-    let mut gateway = Gateway::new(alloc, 3, 10, stores, b"")?.for_browsers();
-    is_told_more(&mut gateway)
+    match Gateway::new(alloc, 3, 10, stores, b"") {
+        Ok(gateway) => is_told_more(&mut gateway.for_browsers()),
+        Err(fault) => Err(Fail::from(fault)),
+    }
 }
 
 fn is_told_more(gateway: &mut Gateway<MemStore>) -> Result<(), Fail> {

@@ -76,8 +76,10 @@ fn is_done_though_it_failed(alloc: Global, gateway: &mut Kept) -> Result<(), Fai
     // The crash. The other server lost all, so three shares of the first one are needed.
     let first = left(alloc, gateway)?;
     let second = opened(alloc, MemShelf::new(alloc), 0)?;
-    let mut again = resumed(alloc, first, second)?;
-    are_both_given(&mut again, &cap)
+    match resumed(alloc, first, second) {
+        Ok(mut again) => are_both_given(&mut again, &cap),
+        Err(fault) => Err(fault),
+    }
 }
 
 /// The first server holds the eighth share too, and both files are whole.
@@ -97,6 +99,8 @@ fn what_a_shelf_did_though_it_failed_stands_after_a_later_crash(
     // Its first call lists what it has, and five put the shares of the first file.
     let first = opened(alloc, MemShelf::new(alloc), 9)?;
     let second = opened(alloc, MemShelf::new(alloc), 0)?;
-    let mut gateway = resumed(alloc, first, second)?;
-    is_done_though_it_failed(alloc, &mut gateway)
+    match resumed(alloc, first, second) {
+        Ok(mut gateway) => is_done_though_it_failed(alloc, &mut gateway),
+        Err(fault) => Err(fault),
+    }
 }

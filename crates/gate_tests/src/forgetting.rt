@@ -16,7 +16,10 @@ const MANY: u64 = 2_000;
 
 #[test]
 fn connections_are_forgotten(rt: HostRuntime) -> Result<(), Fail> {
-    are_forgotten(&mut with_room(rt.alloc(), 0)?)
+    match with_room(rt.alloc(), 0) {
+        Ok(mut gateway) => are_forgotten(&mut gateway),
+        Err(fault) => Err(fault),
+    }
 }
 
 fn are_forgotten(gateway: &mut Gateway<MemStore>) -> Result<(), Fail> {

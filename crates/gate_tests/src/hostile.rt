@@ -1,7 +1,7 @@
 //! Stores that fail at each of their calls, or lie.
 
 use super::counted::with_counted;
-use super::rows::{Row, are_told, holds};
+use super::rows::{Row, are_told, holds, with_room};
 use gate_core::Gateway;
 use share_store::{FailAt, Liar, MemStore, Store};
 use std::alloc::Global;
@@ -73,8 +73,10 @@ fn a_store_that_fails_tells_of_what_is_dropped(rt: HostRuntime) -> Result<(), Fa
 }
 
 fn is_told_of(alloc: Global, for_good: bool, rows: &[Row<'_>]) -> Result<(), Fail> {
-    let mut gateway = failing(alloc, 4, for_good)?;
-    two_are_told(&mut gateway, rows)
+    match failing(alloc, 4, for_good) {
+        Ok(mut gateway) => two_are_told(&mut gateway, rows),
+        Err(fault) => Err(fault),
+    }
 }
 
 /// Two connections are opened, and told so.
@@ -136,8 +138,10 @@ fn holds_at_each_failure(alloc: Global, trial: &Trial, for_good: bool) -> Result
 
 /// Whether a call fails in a trial where this one of its row would.
 fn fails_at(alloc: Global, trial: &Trial, at: u64, for_good: bool) -> Result<bool, Fail> {
-    let mut gateway = failing(alloc, trial.calls_before.saturating_add(at), for_good)?;
-    fails_in(&mut gateway, trial, for_good)
+    match failing(alloc, trial.calls_before.saturating_add(at), for_good) {
+        Ok(mut gateway) => fails_in(&mut gateway, trial, for_good),
+        Err(fault) => Err(fault),
+    }
 }
 
 /// Whether a call fails in a trial. Its reply is told, or its refusal where a call failed; a store that fails once then
@@ -202,10 +206,10 @@ fn a_store_that_lies_gives_no_other_bytes(rt: HostRuntime) -> Result<(), Fail> {
 
 /// The image of a gateway that stored the file of letters.
 fn image_of_letters(alloc: Global) -> Result<Vec<u8>, Fail> {
-    let mut stores = Vec::new(alloc);
-    stores.push(MemStore::new(alloc, 10_000))?;
-    let mut gateway = Gateway::new(alloc, 3, 10, stores, b"")?;
-    image_after(alloc, &mut gateway)
+    match with_room(alloc, 10_000) {
+        Ok(mut gateway) => image_after(alloc, &mut gateway),
+        Err(fault) => Err(fault),
+    }
 }
 
 fn image_after(alloc: Global, gateway: &mut Gateway<MemStore>) -> Result<Vec<u8>, Fail> {
@@ -234,8 +238,10 @@ fn shares_in(alloc: Global, image: &[u8], length: usize) -> Result<Vec<RcSlice<u
 fn is_big_refused(alloc: Global, request: &[u8], answers: Vec<RcSlice<u8>>) -> Result<(), Fail> {
     let mut stores = Vec::new(alloc);
     stores.push(Liar::new(alloc, answers))?;
-    let mut gateway = Gateway::new(alloc, 3, 10, stores, b"")?;
-    is_big_gone(&mut gateway, request)
+    match Gateway::new(alloc, 3, 10, stores, b"") {
+        Ok(mut gateway) => is_big_gone(&mut gateway, request),
+        Err(fault) => Err(Fail::from(fault)),
+    }
 }
 
 /// The big file is taken, and gone.

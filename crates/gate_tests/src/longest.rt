@@ -70,10 +70,12 @@ fn a_read_that_is_prepared_is_given(rt: HostRuntime) -> Result<(), Fail> {
     is_tried(alloc, &with_counted(alloc, PUT, LONGEST)?, Trial::ReadAhead)
 }
 
-/// The trial holds. A gateway is held here alone, and by no function that may leave at several places: its proof is dear there.
+/// The trial holds.
 fn is_tried(alloc: Global, request: &[u8], trial: Trial) -> Result<(), Fail> {
-    let mut gateway = with_room(alloc, ROOM)?;
-    is_tried_over(alloc, &mut gateway, request, trial)
+    match with_room(alloc, ROOM) {
+        Ok(mut gateway) => is_tried_over(alloc, &mut gateway, request, trial),
+        Err(fault) => Err(fault),
+    }
 }
 
 fn is_tried_over(
@@ -176,8 +178,10 @@ fn a_store_that_lends_nothing_is_asked_once(rt: HostRuntime) -> Result<(), Fail>
 fn is_asked_once(alloc: Global, request: &[u8]) -> Result<(), Fail> {
     let mut stores = Vec::new(alloc);
     stores.push(FailAt::new(alloc, MemStore::new(alloc, ROOM), 15, true))?;
-    let mut gateway = Gateway::new(alloc, 3, 10, stores, b"")?;
-    is_given_though_calls_fail(alloc, &mut gateway, request)
+    match Gateway::new(alloc, 3, 10, stores, b"") {
+        Ok(mut gateway) => is_given_though_calls_fail(alloc, &mut gateway, request),
+        Err(fault) => Err(Fail::from(fault)),
+    }
 }
 
 /// The file is put, its reading is prepared in steps, and it is given.

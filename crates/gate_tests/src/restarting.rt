@@ -95,8 +95,10 @@ fn are_as_left(
 ) -> Result<(), Fail> {
     let first = left(alloc, gateway, 0, here)?;
     let second = left(alloc, gateway, 1, there)?;
-    let mut again = resumed(alloc, first, second)?;
-    are_given(&mut again, caps, here.saturating_add(there) >= 13)
+    match resumed(alloc, first, second) {
+        Ok(mut again) => are_given(&mut again, caps, here.saturating_add(there) >= 13),
+        Err(fault) => Err(fault),
+    }
 }
 
 /// Two files are put, and a crash comes at each moment of the second.
@@ -118,6 +120,8 @@ fn after_a_crash_a_file_is_whole_or_gone(rt: HostRuntime) -> Result<(), Fail> {
     let alloc = rt.alloc();
     let first = opened(alloc, MemShelf::new(alloc))?;
     let second = opened(alloc, MemShelf::new(alloc))?;
-    let mut gateway = resumed(alloc, first, second)?;
-    are_whole_or_gone(alloc, &mut gateway)
+    match resumed(alloc, first, second) {
+        Ok(mut gateway) => are_whole_or_gone(alloc, &mut gateway),
+        Err(fault) => Err(fault),
+    }
 }

@@ -8,7 +8,8 @@ use std::test::Fail;
 /// A connection, bytes that come on it, and what it is told then.
 pub type Row<'a> = (u64, &'a [u8], &'a [u8]);
 
-/// A gateway of 3 of 10 over one store in memory, with room for so many bytes of shares.
+/// A gateway of 3 of 10 over one store in memory, with room for so many bytes of shares. Here and below what owns a gateway
+/// matches it and hands it on, and leaves at no other place: all else is dear to prove.
 pub fn with_room(alloc: Global, room: u64) -> Result<Gateway<MemStore>, Fail> {
     let mut stores = Vec::new(alloc);
     stores.push(MemStore::new(alloc, room))?;

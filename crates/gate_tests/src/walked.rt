@@ -69,10 +69,12 @@ fn a_request_is_prepared_in_each_form_and_however_it_is_cut(rt: HostRuntime) -> 
 /// What is told where nothing is prepared.
 const ROWS: &[Row<'static>] = &[(1, GET_MISSING, NOT_FOUND), (2, GET, FOUND)];
 
-/// The trial holds. A gateway is held here alone, and by no function that may leave at several places: its proof is dear there.
+/// The trial holds.
 fn is_tried(alloc: Global, trial: Trial) -> Result<(), Fail> {
-    let mut gateway = with_room(alloc, ROOM)?;
-    is_tried_over(alloc, &mut gateway, trial)
+    match with_room(alloc, ROOM) {
+        Ok(mut gateway) => is_tried_over(alloc, &mut gateway, trial),
+        Err(fault) => Err(fault),
+    }
 }
 
 fn is_tried_over(alloc: Global, gateway: &mut Gateway<MemStore>, trial: Trial) -> Result<(), Fail> {
@@ -95,8 +97,10 @@ fn a_listing_is_the_same_where_it_is_prepared(rt: HostRuntime) -> Result<(), Fai
 
 /// What the request for the JSON is told, where it is prepared before or isn't.
 fn listed(alloc: Global, is_prepared: bool) -> Result<Vec<u8>, Fail> {
-    let mut gateway = with_room(alloc, ROOM)?;
-    listed_by(alloc, &mut gateway, is_prepared)
+    match with_room(alloc, ROOM) {
+        Ok(mut gateway) => listed_by(alloc, &mut gateway, is_prepared),
+        Err(fault) => Err(fault),
+    }
 }
 
 /// The same. What was made for it isn't there for another.
