@@ -1,6 +1,6 @@
 //! Flows over streams that give few bytes, block, are interrupted and fail, beside the same bytes brought in one piece.
 use crate::stream::Stream;
-use gate_core::{Gateway, GatewayFault};
+use gate_core::Gateway;
 use gate_flow::{Flow, FlowFault, Step, Want, part_len};
 use share_store::MemStore;
 use std::alloc::Global;
@@ -52,12 +52,34 @@ fn close_after(
     alloc: Global,
     stream: &mut Stream<'_>,
 ) -> Result<(Option<FlowFault>, Want, bool), Fail> {
-    let mut one = gateway(alloc)?;
-    let mut flow = Flow::open(alloc, &mut one, 7, None)?;
-    let fault = run(&mut flow, stream, &mut one).err();
+    match gateway(alloc) {
+        Ok(mut one) => open_and_close(alloc, stream, &mut one),
+        Err(fault) => Err(fault),
+    }
+}
+
+/// The same of this gateway.
+fn open_and_close(
+    alloc: Global,
+    stream: &mut Stream<'_>,
+    gateway: &mut Gateway<MemStore>,
+) -> Result<(Option<FlowFault>, Want, bool), Fail> {
+    match Flow::open(alloc, gateway, 7, None) {
+        Ok(flow) => Ok(run_and_close(flow, stream, gateway)),
+        Err(fault) => Err(Fail::from(fault)),
+    }
+}
+
+/// The same of this flow.
+fn run_and_close(
+    mut flow: Flow,
+    stream: &mut Stream<'_>,
+    gateway: &mut Gateway<MemStore>,
+) -> (Option<FlowFault>, Want, bool) {
+    let fault = run(&mut flow, stream, gateway).err();
     let want = flow.want();
-    flow.close(&mut one);
-    Ok((fault, want, one.closed(7)))
+    flow.close(gateway);
+    (fault, want, gateway.closed(7))
 }
 
 /// What callers send: literal files, an upload with its length, one in chunks, a request that closes with bytes behind it, and
@@ -73,14 +95,17 @@ const SENT: &[&[u8]] = &[
 ];
 
 /// What a gateway says of bytes that come in one piece.
-fn said_by(gateway: &mut Gateway<MemStore>, sent: &[u8]) -> Result<Vec<u8>, GatewayFault> {
+fn said_by(gateway: &mut Gateway<MemStore>, sent: &[u8]) -> Result<Vec<u8>, Fail> {
     gateway.open(1, None)?;
     gateway.bytes(1, sent)?;
-    gateway.take(1, 100_000)
+    Ok(gateway.take(1, 100_000)?)
 }
 
 fn said(alloc: Global, sent: &[u8]) -> Result<Vec<u8>, Fail> {
-    Ok(said_by(&mut gateway(alloc)?, sent)?)
+    match gateway(alloc) {
+        Ok(mut gateway) => said_by(&mut gateway, sent),
+        Err(fault) => Err(fault),
+    }
 }
 
 /// How many bytes a stream gives and takes at a time.
@@ -158,7 +183,7 @@ fn are_given_by(
     sent: &[u8],
     wanted: &[u8],
     at_a_time: usize,
-) -> Result<bool, FlowFault> {
+) -> Result<bool, Fail> {
     let mut first = Side {
         flow: Flow::open(alloc, gateway, 7, None)?,
         stream: Stream::new(alloc, sent, at_a_time, None, u32::MAX),
@@ -172,7 +197,10 @@ fn are_given_by(
 }
 
 fn are_given(alloc: Global, sent: &[u8], wanted: &[u8], at_a_time: usize) -> Result<bool, Fail> {
-    Ok(are_given_by(alloc, &mut gateway(alloc)?, sent, wanted, at_a_time)?)
+    match gateway(alloc) {
+        Ok(mut gateway) => are_given_by(alloc, &mut gateway, sent, wanted, at_a_time),
+        Err(fault) => Err(fault),
+    }
 }
 
 #[test]

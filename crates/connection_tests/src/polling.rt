@@ -135,14 +135,16 @@ enum Trial {
     Silent,
 }
 
-/// Whether a trial holds. A lobby is held here alone, and by no function that may leave at several places: its proof is dear
-/// there.
+/// Whether a trial holds. Here and below what owns a gateway or a lobby matches it and hands it on, and leaves at no other
+/// place: all else is dear to prove.
 fn is_tried<R: Net<Stream = TcpStream> + Clock + CpuClock + AllocGlobal + Log + Abort>(
     rt: &R,
     trial: Trial,
 ) -> Result<bool, Fail> {
-    let mut many = lobby(rt.alloc())?;
-    is_tried_over(rt, &mut many, trial)
+    match lobby(rt.alloc()) {
+        Ok(mut many) => is_tried_over(rt, &mut many, trial),
+        Err(fault) => Err(fault),
+    }
 }
 
 fn is_tried_over<R: Net<Stream = TcpStream> + Clock + CpuClock + AllocGlobal + Log + Abort>(
@@ -264,16 +266,29 @@ fn eager(
 
 #[test]
 fn a_reader_that_takes_nothing_is_cut(rt: HostRuntime) -> Result<(), Fail> {
-    let (mut many, request) = with_a_large_file(rt.alloc())?;
-    assert!(rt; is_cut(&rt, &mut many, &request)?);
+    assert!(rt; is_silent_one_cut(&rt)?);
     Ok(())
 }
 
-/// A lobby with a file of 4 MiB, and the request for it.
-fn with_a_large_file(alloc: Global) -> Result<(Lobby<MemStore>, Vec<u8>), Fail> {
-    let mut many = gateway(alloc)?;
-    let request = large_request(alloc, &mut many)?;
-    Ok((Lobby::new(many), request))
+/// Whether a client is cut that asks a gateway with a file of 4 MiB for it, and takes nothing.
+fn is_silent_one_cut<R: Net<Stream = TcpStream> + Clock + CpuClock + AllocGlobal + Log>(
+    rt: &R,
+) -> Result<bool, Fail> {
+    match gateway(rt.alloc()) {
+        Ok(many) => is_cut_once_it_is_put(rt, many),
+        Err(fault) => Err(fault),
+    }
+}
+
+/// The same, once the file is put.
+fn is_cut_once_it_is_put<R: Net<Stream = TcpStream> + Clock + CpuClock + AllocGlobal + Log>(
+    rt: &R,
+    mut many: Gateway<MemStore>,
+) -> Result<bool, Fail> {
+    match large_request(rt.alloc(), &mut many) {
+        Ok(request) => is_cut(rt, &mut Lobby::new(many), &request),
+        Err(fault) => Err(fault),
+    }
 }
 
 /// Whether a client is cut that asks for a large file eight times, and takes nothing.
@@ -293,10 +308,30 @@ fn is_cut<R: Net<Stream = TcpStream> + Clock + CpuClock + AllocGlobal + Log>(
 
 #[test]
 fn a_socket_whose_id_was_used_is_refused(rt: HostRuntime) -> Result<(), Fail> {
-    let mut many = gateway(rt.alloc())?;
-    many.open(1, None)?;
-    assert!(rt; is_first_refused(&rt, &mut Lobby::new(many))?);
+    assert!(rt; is_used_id_refused(&rt)?);
     Ok(())
+}
+
+/// Whether a socket is refused whose id was used before.
+fn is_used_id_refused<R: Net<Stream = TcpStream> + Clock + CpuClock + AllocGlobal + Log>(
+    rt: &R,
+) -> Result<bool, Fail> {
+    match with_used_id(rt.alloc()) {
+        Ok(many) => is_first_refused(rt, &mut Lobby::new(many)),
+        Err(fault) => Err(fault),
+    }
+}
+
+/// A gateway of which the first id is used.
+fn with_used_id(alloc: Global) -> Result<Gateway<MemStore>, Fail> {
+    let mut many = match gateway(alloc) {
+        Ok(many) => many,
+        Err(fault) => return Err(fault),
+    };
+    match many.open(1, None) {
+        Ok(()) => Ok(many),
+        Err(fault) => Err(Fail::from(fault)),
+    }
 }
 
 /// Whether the first of two clients is refused, and the second served.

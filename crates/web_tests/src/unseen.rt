@@ -6,7 +6,7 @@ use chk_file::Cache;
 use grid::Grid;
 use http_edge::{Conn, FramingFault, Item, Reply, ReplyFields, Status, render_into};
 use octets::Bytes;
-use path_walk::{PathFault, WalkFault, names, walk};
+use path_walk::{Names, PathFault, WalkFault, names, walk};
 use range_view::{Resolved, resolve};
 use share_store::MemStore;
 use std::alloc::Global;
@@ -179,14 +179,38 @@ const SMALL: &str = "URI:DIR2-LIT:gi3dumj2mewdcmb2kvjesosmjfkdu3lzfqydulbshj5x2l
 const VERIFY: &str =
     "URI:DIR2-CHK-Verifier:yslfiuaixl7f6qelvvaj3u446i:x6yc4s52wnu5kaz32xmzyus35hcqnq7kztn57tgji2leja75r6fq:3:10:237";
 
-/// Where a walk to the child `b` ends that reaches none.
+/// Where a walk to the child `b` ends that reaches none. What owns a grid or a cache hands it on and leaves at no other place:
+/// all else is dear to prove.
 fn end_of(alloc: Global, cap: &Cap) -> Result<String, Fail> {
+    let names = only_name(alloc, "b")?;
     let mut stores = Vec::new(alloc);
     stores.push(MemStore::new(alloc, 0))?;
     let mut grid = Grid::new(stores);
-    let names = only_name(alloc, "b")?;
-    let mut cache = Cache::new(alloc)?;
-    match walk(alloc, &mut grid, &mut cache, cap, &names) {
+    end_over(alloc, &mut grid, cap, &names)
+}
+
+/// The same over this grid.
+fn end_over(
+    alloc: Global,
+    grid: &mut Grid<MemStore>,
+    cap: &Cap,
+    names: &Names,
+) -> Result<String, Fail> {
+    match Cache::new(alloc) {
+        Ok(mut cache) => end_in(alloc, grid, &mut cache, cap, names),
+        Err(error) => Err(Fail::from(error)),
+    }
+}
+
+/// The same with this cache.
+fn end_in(
+    alloc: Global,
+    grid: &mut Grid<MemStore>,
+    cache: &mut Cache,
+    cap: &Cap,
+    names: &Names,
+) -> Result<String, Fail> {
+    match walk(alloc, grid, cache, cap, names) {
         Ok(_) => Err(Fail::from("a child")),
         Err(fault) => words_of(alloc, fault),
     }
