@@ -1,14 +1,16 @@
 //! A connection's bytes, as they come in pieces.
-ghost use Rattle.std.specs.Prelude.{◌≡◌, ◌≢◌, ◌<◌, ◌≤◌, ◌⊎◌, ℕ, List, not, [], ◌++◌, length, IfOk, IfSome, IfNone, IsFalse, MatchOption, OnOk, OnErr, IsOk};
+ghost use Rattle.std.specs.Prelude.{◌≡◌, ◌≢◌, ◌<◌, ◌≤◌, ◌⊎◌, ℕ, List, not, [], ◌++◌, length, Ok, None, IfOk, IfSome, IfNone, IsFalse, MatchOption, OnOk, OnErr, IsOk};
 ghost use Rattle.std.specs.List.{list_any};
 ghost use Rattle.http_edge.specs.Judge.{closes};
 ghost use Rattle.http_edge.specs.Frame.{frame};
 ghost use Rattle.http_edge.specs.Kept.{kept_bytes, bytes_of_body};
 ghost use Rattle.http_edge.specs.FirstHead.{HasHeadFirst, HasNoHeadFirst};
 ghost use Rattle.http_edge.specs.BodyEnd.{IsBodyEnd};
-ghost use Rattle.http_edge.specs.FramingState.{part_of, body_of, closed, is_closed, rest, frame_from, rest_from};
+ghost use Rattle.http_edge.specs.FramingState.{part_of, body_of, chunks_of, closed, is_closed, rest, frame_from, rest_from};
 ghost use Rattle.http_edge.specs.State.{IsSettled, IsWaiting, Takes, item_list, left_of};
+ghost use Rattle.http_edge.specs.declared.place.Place.{Place};
 ghost use Rattle.http_edge.specs.declared.verdict.Awaited.{Awaited};
+ghost use Rattle.http_edge.specs.declared.verdict.Chunked.{Chunked};
 
 use crate::chunks::read_chunks;
 use crate::item::{Head, Item};
@@ -129,10 +131,12 @@ impl Conn {
     /// no body is under way.
     ///
     /// # Errors
-    /// Only where memory is refused, of which a body in chunks takes as much as there are bytes.
+    /// Only where memory is refused. For a body in chunks it takes as much as there are bytes, else none.
     pub fn of_body(&self, piece: &[u8]) -> Result<usize, AllocError>
         ensures count { IfOk result (λ count. count ≡ bytes_of_body self.now piece.now) }
         ensures within { IfOk result (λ count. count ≤ length piece.now) }
+        ensures takes_no_memory { ((request : Chunked) (content : List ℕ) (place : Place) →
+            self.now ≢ chunks_of request content place) → IsOk result }
     {
         match &self.state {
             State::Head(_) | State::Closed => Ok(0),
@@ -153,12 +157,13 @@ impl Conn {
     /// way, or where the first item is another.
     ///
     /// # Errors
-    /// Only where memory is refused.
+    /// Only where memory is refused. Where no head block is awaited it takes none.
     pub fn first_head(&self, piece: &[u8]) -> Result<Option<Head>, AllocError>
         ensures first { IfOk result (λ found. IfSome found (λ head.
             HasHeadFirst (frame_from self.now piece.now) head)) }
         ensures none { IfOk result (λ found. IfNone found ((part : List ℕ) →
             self.now ≡ part_of part → HasNoHeadFirst (frame_from self.now piece.now))) }
+        ensures takes_no_memory { ((part : List ℕ) → self.now ≢ part_of part) → result ≡ Ok None }
     {
         let State::Head(part) = &self.state else {
             return Ok(None);

@@ -34,19 +34,62 @@ const REQUESTS: &[u8] =
 const REPLIES: &[u8] =
     b"HTTP/1.1 200 OK\r\nContent-Type: application/octet-stream\r\nContent-Length: 1\r\n\r\nfHTTP/1.1 200 OK\r\nContent-Type: application/octet-stream\r\nContent-Length: 0\r\n\r\n";
 
+/// What is tried over a gateway that has nothing yet.
+#[derive(Clone, Copy)]
+enum Trial {
+    Answers,
+    Closes,
+    PeerFails,
+    Interrupted,
+    OverASocket,
+    FaultsAreCounted,
+}
+
+/// A trial holds. What owns the gateway hands it on and leaves at no other place: all else is dear to prove.
+fn is_tried(
+    rt: &(impl Abort + AllocGlobal + Eprint + Net<Listener = TcpListener, Stream = TcpStream>),
+    trial: Trial,
+) -> Result<(), Fail> {
+    match gateway(rt.alloc()) {
+        Ok(mut gateway) => is_tried_over(rt, &mut gateway, trial),
+        Err(fault) => Err(fault),
+    }
+}
+
+fn is_tried_over(
+    rt: &(impl Abort + AllocGlobal + Eprint + Net<Listener = TcpListener, Stream = TcpStream>),
+    gateway: &mut MemGateway,
+    trial: Trial,
+) -> Result<(), Fail> {
+    match trial {
+        Trial::Answers => answers(rt, gateway),
+        Trial::Closes => closes(rt, gateway),
+        Trial::PeerFails => ends_where_a_peer_fails(rt, gateway),
+        Trial::Interrupted => reads_on(rt, gateway),
+        Trial::OverASocket => {
+            let clients = [(EXCHANGE, EXCHANGED), (REQUESTS, REPLIES)];
+            serves_clients(rt, gateway, 2, &clients, 0)
+        }
+        Trial::FaultsAreCounted => counts_faults(rt, gateway),
+    }
+}
+
 #[test]
 fn turns_answer_what_they_read(rt: HostRuntime) -> Result<(), Fail> {
-    let mut gateway = gateway(rt.alloc())?;
+    is_tried(&rt, Trial::Answers)
+}
+
+fn answers(rt: &(impl Abort + AllocGlobal), gateway: &mut MemGateway) -> Result<(), Fail> {
     let mut reader = REQUESTS;
     let mut written = Vec::new(rt.alloc());
-    serves(&rt, &mut gateway, 1, &mut reader, &mut written, Ok(()));
+    serves(rt, gateway, 1, &mut reader, &mut written, Ok(()));
     assert!(rt; written.as_slice() == REPLIES);
     assert!(rt; gateway.closed(1));
     // An id is used once.
     let mut reader = REQUESTS;
     serves(
-        &rt,
-        &mut gateway,
+        rt,
+        gateway,
         1,
         &mut reader,
         &mut written,
@@ -58,28 +101,37 @@ fn turns_answer_what_they_read(rt: HostRuntime) -> Result<(), Fail> {
 
 #[test]
 fn turns_end_at_a_request_that_closes(rt: HostRuntime) -> Result<(), Fail> {
-    let mut gateway = gateway(rt.alloc())?;
+    is_tried(&rt, Trial::Closes)
+}
+
+fn closes(rt: &(impl Abort + AllocGlobal), gateway: &mut MemGateway) -> Result<(), Fail> {
     let mut reader = BufReader::with_capacity(
         rt.alloc(),
         64,
         b"GET /uri/URI:LIT:my HTTP/1.0\r\n\r\nGET /uri/URI:LIT:my HTTP/1.0\r\n\r\n".as_slice(),
     )?;
     let mut written = Vec::new(rt.alloc());
-    serves(&rt, &mut gateway, 1, &mut reader, &mut written, Ok(()));
+    serves(rt, gateway, 1, &mut reader, &mut written, Ok(()));
     assert!(rt; written.ends_with(b"Content-Length: 1\r\nConnection: close\r\n\r\nf"));
     Ok(())
 }
 
 #[test]
 fn turns_end_where_a_peer_fails(rt: HostRuntime) -> Result<(), Fail> {
-    let mut gateway = gateway(rt.alloc())?;
+    is_tried(&rt, Trial::PeerFails)
+}
+
+fn ends_where_a_peer_fails(
+    rt: &(impl Abort + AllocGlobal),
+    gateway: &mut MemGateway,
+) -> Result<(), Fail> {
     for count in 0..REQUESTS.len() {
         let id = count as u64;
         let mut reader = breaking(&REQUESTS[..count]);
         let mut written = Vec::new(rt.alloc());
         serves(
-            &rt,
-            &mut gateway,
+            rt,
+            gateway,
             id,
             &mut reader,
             &mut written,
@@ -92,8 +144,8 @@ fn turns_end_where_a_peer_fails(rt: HostRuntime) -> Result<(), Fail> {
         let mut reader = REQUESTS;
         let mut writer = narrow(rt.alloc(), room);
         serves(
-            &rt,
-            &mut gateway,
+            rt,
+            gateway,
             id,
             &mut reader,
             &mut writer,
@@ -106,10 +158,13 @@ fn turns_end_where_a_peer_fails(rt: HostRuntime) -> Result<(), Fail> {
 
 #[test]
 fn turns_read_on_after_an_interrupt(rt: HostRuntime) -> Result<(), Fail> {
-    let mut gateway = gateway(rt.alloc())?;
+    is_tried(&rt, Trial::Interrupted)
+}
+
+fn reads_on(rt: &(impl Abort + AllocGlobal), gateway: &mut MemGateway) -> Result<(), Fail> {
     let mut slow = interrupted(REQUESTS);
     let mut written = Vec::new(rt.alloc());
-    serves(&rt, &mut gateway, 1, &mut slow, &mut written, Ok(()));
+    serves(rt, gateway, 1, &mut slow, &mut written, Ok(()));
     assert!(rt; written.as_slice() == REPLIES);
     Ok(())
 }
@@ -158,22 +213,26 @@ fn serves_clients(
 
 #[test]
 fn connections_are_served_over_a_socket(rt: HostRuntime) -> Result<(), Fail> {
-    let mut gateway = gateway(rt.alloc())?;
-    let clients = [(EXCHANGE, EXCHANGED), (REQUESTS, REPLIES)];
-    serves_clients(&rt, &mut gateway, 2, &clients, 0)
+    is_tried(&rt, Trial::OverASocket)
 }
 
 #[test]
 fn connections_that_had_a_fault_are_counted(rt: HostRuntime) -> Result<(), Fail> {
-    let mut gateway = gateway(rt.alloc())?;
+    is_tried(&rt, Trial::FaultsAreCounted)
+}
+
+fn counts_faults(
+    rt: &(impl Abort + AllocGlobal + Eprint + Net<Listener = TcpListener, Stream = TcpStream>),
+    gateway: &mut MemGateway,
+) -> Result<(), Fail> {
     let mut nothing = b"".as_slice();
     let mut written = Vec::new(rt.alloc());
     // The second id is used before its connection comes.
-    serves(&rt, &mut gateway, 2, &mut nothing, &mut written, Ok(()));
+    serves(rt, gateway, 2, &mut nothing, &mut written, Ok(()));
     let clients = [
         (REQUESTS, REPLIES),
         (b"".as_slice(), b"".as_slice()),
         (REQUESTS, REPLIES),
     ];
-    serves_clients(&rt, &mut gateway, 3, &clients, 1)
+    serves_clients(rt, gateway, 3, &clients, 1)
 }
