@@ -1,4 +1,4 @@
--- A string that is closed before a comma has the same content as at the end of a text.
+-- A string that is closed before a bracket, a colon or a comma has the same content as at the end of a text.
 use Rattle.std.proofs.Common.{◌≡◌, ℕ, zero, suc, ◌<◌, Bool, true, false, cond, ◌&&◌, ◌==◌, List, [], ◌∷◌, ◌++◌, get_or, Option, Some, None, option_and_then, ◌⊎◌, inl, inr, refl, sym, ap, ap₂, ◌∙◌, arith}
 use Rattle.std.proofs.lemmas.Bool.{true≢false, false≢true, eqb-true, and_parts, cases_Bool, and_right, cond-false}
 use Rattle.std.specs.Char.{is_digit, encode_utf8}
@@ -6,6 +6,7 @@ use Rattle.json.specs.Text.{code_unit, short_escape, is_high_surrogate, is_low_s
 use Rattle.json.specs.Lex.{Mode, in_string, in_escape, quote, backslash, operator, space, other, class}
 use Rattle.json.specs.Word.{is_operator, is_space}
 use Rattle.json_seams.specs.Modes.{next_mode, mode_after, is_outside}
+use Rattle.json_seams.proofs.Operators.{apart, no_hex_digit}
 
 -- ---- four digits
 
@@ -23,7 +24,7 @@ unit_digits a b c d u e = go (cases_Bool (are_digits a b c d))
     go (inl t) = t
     go (inr f) = let same = sym (no_unit a b c d f) ∙ e in let never : ⊥ = cc in absurd never
 
--- a comma is no digit
+-- one that is none, among four
 second : (p q r : Bool) → (p && false && q && r) ≡ false
 second true q r = refl
 second false q r = refl
@@ -39,51 +40,52 @@ fourth true true false = refl
 fourth true false r = refl
 fourth false q r = refl
 
-comma_first : (b c d : ℕ) → code_unit 44 b c d ≡ None
-comma_first b c d = no_unit 44 b c d refl
-
-comma_second : (a c d : ℕ) → code_unit a 44 c d ≡ None
-comma_second a c d = no_unit a 44 c d (second (is_digit a 16) (is_digit c 16) (is_digit d 16))
-
-comma_third : (a b d : ℕ) → code_unit a b 44 d ≡ None
-comma_third a b d = no_unit a b 44 d (third (is_digit a 16) (is_digit b 16) (is_digit d 16))
-
-comma_fourth : (a b c : ℕ) → code_unit a b c 44 ≡ None
-comma_fourth a b c = no_unit a b c 44 (fourth (is_digit a 16) (is_digit b 16) (is_digit c 16))
-
--- ---- a comma where digits are to stand
-
-comma_in_unit : (i : ℕ) (t : List ℕ) → i < 4 → get_or t i 0 ≡ 44 → content after_u t ≡ None
-unfolding content
-comma_in_unit i [] lt e = refl
-comma_in_unit i (a ∷ []) lt e = refl
-comma_in_unit i (a ∷ b ∷ []) lt e = refl
-comma_in_unit i (a ∷ b ∷ c ∷ []) lt e = refl
-comma_in_unit zero (a ∷ b ∷ c ∷ d ∷ t) lt e = ap (option_and_then _) (ap (λ x. code_unit x b c d) e ∙ comma_first b c d)
-comma_in_unit (suc zero) (a ∷ b ∷ c ∷ d ∷ t) lt e = ap (option_and_then _) (ap (λ x. code_unit a x c d) e ∙ comma_second a c d)
-comma_in_unit (suc (suc zero)) (a ∷ b ∷ c ∷ d ∷ t) lt e = ap (option_and_then _) (ap (λ x. code_unit a b x d) e ∙ comma_third a b d)
-comma_in_unit (suc (suc (suc zero))) (a ∷ b ∷ c ∷ d ∷ t) lt e = ap (option_and_then _) (ap (λ x. code_unit a b c x) e ∙ comma_fourth a b c)
-comma_in_unit (suc (suc (suc (suc i)))) (a ∷ b ∷ c ∷ d ∷ t) lt e = let never : ⊥ = omega arith in absurd never
-
 none_either : (b : Bool) (o : Option (List ℕ)) → o ≡ None → cond b o None ≡ None
 none_either true o e = e
 none_either false o e = refl
 
-comma_in_pair : (high i : ℕ) (t : List ℕ) → i < 6 → get_or t i 0 ≡ 44 → content (after_high high) t ≡ None
-unfolding content
-comma_in_pair high i [] lt e = refl
-comma_in_pair high i (s ∷ []) lt e = refl
-comma_in_pair high i (s ∷ u ∷ []) lt e = refl
-comma_in_pair high i (s ∷ u ∷ a ∷ []) lt e = refl
-comma_in_pair high i (s ∷ u ∷ a ∷ b ∷ []) lt e = refl
-comma_in_pair high i (s ∷ u ∷ a ∷ b ∷ c ∷ []) lt e = refl
-comma_in_pair high zero (s ∷ u ∷ a ∷ b ∷ c ∷ d ∷ t) lt e = cond-false ((s == 92) && (u == 117)) _ None (ap (λ x. (x == 92) && (u == 117)) e)
-comma_in_pair high (suc zero) (s ∷ u ∷ a ∷ b ∷ c ∷ d ∷ t) lt e = cond-false ((s == 92) && (u == 117)) _ None (and_right (s == 92) (u == 117) (ap (λ x. x == 117) e))
-comma_in_pair high (suc (suc zero)) (s ∷ u ∷ a ∷ b ∷ c ∷ d ∷ t) lt e = none_either ((s == 92) && (u == 117)) _ (ap (option_and_then _) (ap (λ x. code_unit x b c d) e ∙ comma_first b c d))
-comma_in_pair high (suc (suc (suc zero))) (s ∷ u ∷ a ∷ b ∷ c ∷ d ∷ t) lt e = none_either ((s == 92) && (u == 117)) _ (ap (option_and_then _) (ap (λ x. code_unit a x c d) e ∙ comma_second a c d))
-comma_in_pair high (suc (suc (suc (suc zero)))) (s ∷ u ∷ a ∷ b ∷ c ∷ d ∷ t) lt e = none_either ((s == 92) && (u == 117)) _ (ap (option_and_then _) (ap (λ x. code_unit a b x d) e ∙ comma_third a b d))
-comma_in_pair high (suc (suc (suc (suc (suc zero))))) (s ∷ u ∷ a ∷ b ∷ c ∷ d ∷ t) lt e = none_either ((s == 92) && (u == 117)) _ (ap (option_and_then _) (ap (λ x. code_unit a b c x) e ∙ comma_fourth a b c))
-comma_in_pair high (suc (suc (suc (suc (suc (suc i)))))) (s ∷ u ∷ a ∷ b ∷ c ∷ d ∷ t) lt e = let never : ⊥ = omega arith in absurd never
+-- ---- an operator where digits are to stand
+
+module _ (byte : ℕ) (ends : is_operator byte ≡ true) where
+  operator_first : (b c d : ℕ) → code_unit byte b c d ≡ None
+  operator_first b c d = no_unit byte b c d (ap (λ o. o && is_digit b 16 && is_digit c 16 && is_digit d 16) (no_hex_digit byte ends))
+
+  operator_second : (a c d : ℕ) → code_unit a byte c d ≡ None
+  operator_second a c d = no_unit a byte c d (ap (λ o. is_digit a 16 && o && is_digit c 16 && is_digit d 16) (no_hex_digit byte ends) ∙ second (is_digit a 16) (is_digit c 16) (is_digit d 16))
+
+  operator_third : (a b d : ℕ) → code_unit a b byte d ≡ None
+  operator_third a b d = no_unit a b byte d (ap (λ o. is_digit a 16 && is_digit b 16 && o && is_digit d 16) (no_hex_digit byte ends) ∙ third (is_digit a 16) (is_digit b 16) (is_digit d 16))
+
+  operator_fourth : (a b c : ℕ) → code_unit a b c byte ≡ None
+  operator_fourth a b c = no_unit a b c byte (ap (λ o. is_digit a 16 && is_digit b 16 && is_digit c 16 && o) (no_hex_digit byte ends) ∙ fourth (is_digit a 16) (is_digit b 16) (is_digit c 16))
+
+  operator_in_unit : (i : ℕ) (t : List ℕ) → i < 4 → get_or t i 0 ≡ byte → content after_u t ≡ None
+  unfolding content
+  operator_in_unit i [] lt e = refl
+  operator_in_unit i (a ∷ []) lt e = refl
+  operator_in_unit i (a ∷ b ∷ []) lt e = refl
+  operator_in_unit i (a ∷ b ∷ c ∷ []) lt e = refl
+  operator_in_unit zero (a ∷ b ∷ c ∷ d ∷ t) lt e = ap (option_and_then _) (ap (λ x. code_unit x b c d) e ∙ operator_first b c d)
+  operator_in_unit (suc zero) (a ∷ b ∷ c ∷ d ∷ t) lt e = ap (option_and_then _) (ap (λ x. code_unit a x c d) e ∙ operator_second a c d)
+  operator_in_unit (suc (suc zero)) (a ∷ b ∷ c ∷ d ∷ t) lt e = ap (option_and_then _) (ap (λ x. code_unit a b x d) e ∙ operator_third a b d)
+  operator_in_unit (suc (suc (suc zero))) (a ∷ b ∷ c ∷ d ∷ t) lt e = ap (option_and_then _) (ap (λ x. code_unit a b c x) e ∙ operator_fourth a b c)
+  operator_in_unit (suc (suc (suc (suc i)))) (a ∷ b ∷ c ∷ d ∷ t) lt e = let never : ⊥ = omega arith in absurd never
+
+  operator_in_pair : (high i : ℕ) (t : List ℕ) → i < 6 → get_or t i 0 ≡ byte → content (after_high high) t ≡ None
+  unfolding content
+  operator_in_pair high i [] lt e = refl
+  operator_in_pair high i (s ∷ []) lt e = refl
+  operator_in_pair high i (s ∷ u ∷ []) lt e = refl
+  operator_in_pair high i (s ∷ u ∷ a ∷ []) lt e = refl
+  operator_in_pair high i (s ∷ u ∷ a ∷ b ∷ []) lt e = refl
+  operator_in_pair high i (s ∷ u ∷ a ∷ b ∷ c ∷ []) lt e = refl
+  operator_in_pair high zero (s ∷ u ∷ a ∷ b ∷ c ∷ d ∷ t) lt e = cond-false ((s == 92) && (u == 117)) _ None (ap (λ x. (x == 92) && (u == 117)) e ∙ ap (λ b. b && (u == 117)) (apart is_operator byte 92 ends refl))
+  operator_in_pair high (suc zero) (s ∷ u ∷ a ∷ b ∷ c ∷ d ∷ t) lt e = cond-false ((s == 92) && (u == 117)) _ None (and_right (s == 92) (u == 117) (ap (λ x. x == 117) e ∙ apart is_operator byte 117 ends refl))
+  operator_in_pair high (suc (suc zero)) (s ∷ u ∷ a ∷ b ∷ c ∷ d ∷ t) lt e = none_either ((s == 92) && (u == 117)) _ (ap (option_and_then _) (ap (λ x. code_unit x b c d) e ∙ operator_first b c d))
+  operator_in_pair high (suc (suc (suc zero))) (s ∷ u ∷ a ∷ b ∷ c ∷ d ∷ t) lt e = none_either ((s == 92) && (u == 117)) _ (ap (option_and_then _) (ap (λ x. code_unit a x c d) e ∙ operator_second a c d))
+  operator_in_pair high (suc (suc (suc (suc zero)))) (s ∷ u ∷ a ∷ b ∷ c ∷ d ∷ t) lt e = none_either ((s == 92) && (u == 117)) _ (ap (option_and_then _) (ap (λ x. code_unit a b x d) e ∙ operator_third a b d))
+  operator_in_pair high (suc (suc (suc (suc (suc zero))))) (s ∷ u ∷ a ∷ b ∷ c ∷ d ∷ t) lt e = none_either ((s == 92) && (u == 117)) _ (ap (option_and_then _) (ap (λ x. code_unit a b c x) e ∙ operator_fourth a b c))
+  operator_in_pair high (suc (suc (suc (suc (suc (suc i)))))) (s ∷ u ∷ a ∷ b ∷ c ∷ d ∷ t) lt e = let never : ⊥ = omega arith in absurd never
 
 -- ---- digits leave the mode as it is
 
@@ -94,15 +96,8 @@ neither false false true s e f = refl
 neither false false false true e f = refl
 neither false false false false e f = refl
 
-not_this : (x k : ℕ) → is_digit k 16 ≡ false → is_digit x 16 ≡ true → (x == k) ≡ false
-not_this x k not_digit digit = go (cases_Bool (x == k))
-  where
-    go : ((x == k) ≡ true) ⊎ ((x == k) ≡ false) → (x == k) ≡ false
-    go (inr e) = e
-    go (inl e) = absurd (true≢false (sym digit ∙ ap (λ y. is_digit y 16) (eqb-true x k e) ∙ not_digit))
-
 digit_stays : (x : ℕ) → is_digit x 16 ≡ true → next_mode in_string (class x) ≡ in_string
-digit_stays x h = neither (x == 34) (x == 92) (is_operator x) (is_space x) (not_this x 34 refl h) (not_this x 92 refl h)
+digit_stays x h = neither (x == 34) (x == 92) (is_operator x) (is_space x) (apart (λ y. is_digit y 16) x 34 h refl) (apart (λ y. is_digit y 16) x 92 h refl)
 
 abbrev behind_four : Mode → ℕ → ℕ → ℕ → ℕ → Mode
 behind_four m a b c d = next_mode (next_mode (next_mode (next_mode m (class a)) (class b)) (class c)) (class d)
@@ -118,9 +113,9 @@ four_stay a b c d h =
 
 -- ---- the content
 
-module _ (rest : List ℕ) where
+module _ (byte : ℕ) (ends : is_operator byte ≡ true) (rest : List ℕ) where
   abbrev more : List ℕ → List ℕ
-  more t = t ++ 44 ∷ rest
+  more t = t ++ byte ∷ rest
 
   abbrev IsClosed : Mode → List ℕ → Type 0
   IsClosed m t = is_outside (mode_after m t) ≡ true
@@ -168,18 +163,18 @@ module _ (rest : List ℕ) where
   content_same after_backslash (x ∷ t) h =
       ap₂ (λ u p. cond (x == 117) u (option_and_then (λ c. prepend (c ∷ []) p) (short_escape x))) (content_same after_u t h) (content_same plain t h)
   content_same after_u [] h = absurd (false≢true h)
-  content_same after_u (a ∷ []) h = comma_in_unit 1 (a ∷ 44 ∷ rest) (omega arith) refl
-  content_same after_u (a ∷ b ∷ []) h = comma_in_unit 2 (a ∷ b ∷ 44 ∷ rest) (omega arith) refl
-  content_same after_u (a ∷ b ∷ c ∷ []) h = comma_in_unit 3 (a ∷ b ∷ c ∷ 44 ∷ rest) (omega arith) refl
+  content_same after_u (a ∷ []) h = operator_in_unit byte ends 1 (a ∷ byte ∷ rest) (omega arith) refl
+  content_same after_u (a ∷ b ∷ []) h = operator_in_unit byte ends 2 (a ∷ b ∷ byte ∷ rest) (omega arith) refl
+  content_same after_u (a ∷ b ∷ c ∷ []) h = operator_in_unit byte ends 3 (a ∷ b ∷ c ∷ byte ∷ rest) (omega arith) refl
   content_same after_u (a ∷ b ∷ c ∷ d ∷ t) h =
       unit_step a b c d in_string t _ _ refl
       (λ closed u. ap₂ (λ p q. cond (is_high_surrogate u) p (cond (is_low_surrogate u) None (prepend (encode_utf8 u) q))) (content_same (after_high u) t closed) (content_same plain t closed)) h
   content_same (after_high high) [] h = absurd (false≢true h)
-  content_same (after_high high) (s ∷ []) h = comma_in_pair high 1 (s ∷ 44 ∷ rest) (omega arith) refl
-  content_same (after_high high) (s ∷ u ∷ []) h = comma_in_pair high 2 (s ∷ u ∷ 44 ∷ rest) (omega arith) refl
-  content_same (after_high high) (s ∷ u ∷ a ∷ []) h = comma_in_pair high 3 (s ∷ u ∷ a ∷ 44 ∷ rest) (omega arith) refl
-  content_same (after_high high) (s ∷ u ∷ a ∷ b ∷ []) h = comma_in_pair high 4 (s ∷ u ∷ a ∷ b ∷ 44 ∷ rest) (omega arith) refl
-  content_same (after_high high) (s ∷ u ∷ a ∷ b ∷ c ∷ []) h = comma_in_pair high 5 (s ∷ u ∷ a ∷ b ∷ c ∷ 44 ∷ rest) (omega arith) refl
+  content_same (after_high high) (s ∷ []) h = operator_in_pair byte ends high 1 (s ∷ byte ∷ rest) (omega arith) refl
+  content_same (after_high high) (s ∷ u ∷ []) h = operator_in_pair byte ends high 2 (s ∷ u ∷ byte ∷ rest) (omega arith) refl
+  content_same (after_high high) (s ∷ u ∷ a ∷ []) h = operator_in_pair byte ends high 3 (s ∷ u ∷ a ∷ byte ∷ rest) (omega arith) refl
+  content_same (after_high high) (s ∷ u ∷ a ∷ b ∷ []) h = operator_in_pair byte ends high 4 (s ∷ u ∷ a ∷ b ∷ byte ∷ rest) (omega arith) refl
+  content_same (after_high high) (s ∷ u ∷ a ∷ b ∷ c ∷ []) h = operator_in_pair byte ends high 5 (s ∷ u ∷ a ∷ b ∷ c ∷ byte ∷ rest) (omega arith) refl
   content_same (after_high high) (s ∷ u ∷ a ∷ b ∷ c ∷ d ∷ t) h =
       pair_step (s == 92) (u == 117) _ _
       (λ e. unit_step a b c d (next_mode (next_mode in_string (class s)) (class u)) t _ _ (escaped_pair s u e)

@@ -14,4 +14,4 @@ pub joined : (text : List ℕ) (at : ℕ) → IsCutComma text at → tokens text
 joined text at is =
     let front = take at text in
     let rest = drop (at + 1) text in
-    ap tokens (parted text at is) ∙ ap (punctuate fresh) (lex_cut rest between front is.outside) ∙ punctuate_cut (lex between rest) fresh None (lex between front) (λ r. refl)
+    ap tokens (parted text at is) ∙ ap (punctuate fresh) (lex_cut 44 refl rest between front is.outside) ∙ punctuate_cut (lex between rest) fresh None (lex between front) (λ r. refl)

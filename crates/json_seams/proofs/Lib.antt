@@ -1,3 +1,4 @@
+pub mod Operators
 pub mod Words
 pub mod Contents
 pub mod Lexing

@@ -21,45 +21,6 @@ enum Standing {
     InEscape,
 }
 
-impl Standing {
-    /// No string is open.
-    fn is_outside(self) -> bool
-        ensures { result ≡ is_outside (mode_of self) }
-    {
-        matches!(self, Standing::Between | Standing::InWord)
-    }
-
-    /// Behind that byte.
-    fn after(self, byte: u8) -> Standing
-        ensures { mode_of result ≡ next_mode (mode_of self) (class byte) }
-    {
-        match self {
-            Standing::Between => {
-                if byte == b'"' {
-                    Standing::InString
-                } else if ends_word(byte) {
-                    Standing::Between
-                } else {
-                    Standing::InWord
-                }
-            }
-            Standing::InWord => {
-                if ends_word(byte) {
-                    Standing::Between
-                } else {
-                    Standing::InWord
-                }
-            }
-            Standing::InString => match byte {
-                b'"' => Standing::Between,
-                b'\\' => Standing::InEscape,
-                _ => Standing::InString,
-            },
-            Standing::InEscape => Standing::InString,
-        }
-    }
-}
-
 /// A bracket, a colon, a comma or white space.
 fn ends_word(byte: u8) -> bool
     ensures { result ≡ is_operator byte || is_space byte }
@@ -106,21 +67,56 @@ impl Scanner {
         }
     }
 
+    /// No string is open behind the bytes so far.
+    pub fn is_outside(&self) -> bool
+        ensures { result ≡ is_outside self.now }
+    {
+        matches!(self.standing, Standing::Between | Standing::InWord)
+    }
+
+    /// Goes over the next byte of the text.
+    pub fn passes(&mut self, byte: u8)
+        ensures { self.new ≡ next_mode self.old (class byte) }
+    {
+        self.standing = match self.standing {
+            Standing::Between => {
+                if byte == b'"' {
+                    Standing::InString
+                } else if ends_word(byte) {
+                    Standing::Between
+                } else {
+                    Standing::InWord
+                }
+            }
+            Standing::InWord => {
+                if ends_word(byte) {
+                    Standing::Between
+                } else {
+                    Standing::InWord
+                }
+            }
+            Standing::InString => match byte {
+                b'"' => Standing::Between,
+                b'\\' => Standing::InEscape,
+                _ => Standing::InString,
+            },
+            Standing::InEscape => Standing::InString,
+        };
+    }
+
     /// Goes over the next bytes of the text, and gives the place of the last comma outside strings among them, where there
     /// is one.
     pub fn last_cut(&mut self, bytes: &[u8]) -> Option<usize>
         ensures mode { self.new ≡ mode_after self.old bytes.now }
         ensures cut { IsLastCut self.old bytes.now result }
     {
-        let mut standing = self.standing;
         let mut last = None;
         for (i, byte) in bytes.iter().enumerate() {
-            if *byte == b',' && standing.is_outside() {
+            if *byte == b',' && self.is_outside() {
                 last = Some(i);
             }
-            standing = standing.after(*byte);
+            self.passes(*byte);
         }
-        self.standing = standing;
         last
     }
 }

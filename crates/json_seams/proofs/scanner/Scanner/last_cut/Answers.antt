@@ -3,14 +3,13 @@ use Rattle.std.proofs.lemmas.Grind.{common_steps}
 use Rattle.std.proofs.lemmas.Bool.{true≢false}
 use Rattle.json_seams.specs.Modes.{is_outside}
 use Rattle.json_seams.specs.Cuts.{IsCutFrom, IsLastCut}
-use Rattle.json_seams.specs.Standings.{mode_of}
 use Rattle.json_seams.proofs.Found.{found_here, found_before}
 use Rattle.json_seams.proofs.scanner.Scanner.last_cut.Goals as goal
 use Rattle.json_seams.proofs.scanner.Scanner.last_cut.Goals.{then-byte-eq44+then-is_outside, else-byte-eq44, else-byte-eq44-via-then-byte-eq44+else-is_outside, else-byte-eq44-via-else-byte-eq44}
 
 pub loop-i-preserved : goal.loop-i-preserved
 loop-i-preserved c =
-    let mode = mode_of c.self.inside.standing in
+    let mode = c.args.self.now in
     let bytes = c.args.bytes.now in
     let i = c.loop-i.i in
     let same = ap is_outside c.loop-i.invariant.mode in

@@ -1,0 +1,10 @@
+pub mod Depths
+pub mod Closed
+pub mod Outermost
+pub mod Prepended
+pub mod Commas
+pub mod Joined
+pub mod Begun
+pub mod Turns
+pub mod Places
+pub mod Found
