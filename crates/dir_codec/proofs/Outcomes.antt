@@ -1,5 +1,5 @@
 -- The outcomes of members, judged in the order of their keys.
-use Rattle.std.proofs.Common.{◌≡◌, ℕ, true, false, List, [], ◌∷◌, Option, is_some, Result, Ok, Err, Some, None, IsUtf8, String, Global, string_bytes, refl, ap, ◌∙◌, subst}
+use Rattle.std.proofs.Common.{◌≡◌, ℕ, true, false, List, [], ◌∷◌, Option, is_some, Ok, Err, Some, None, IsUtf8, String, Global, string_bytes, refl, ap, ◌∙◌, subst}
 use Rattle.std.specs.BTreeMap.{insert_entry, is_at}
 use Rattle.std.specs.Map.{lookup}
 use Rattle.std.specs.String.{string_cmp}
@@ -8,7 +8,7 @@ use Rattle.serde_json.specs.Data.{Data, object, Members, no_members, member}
 use Rattle.serde_json.specs.Read.{read}
 use Rattle.dir_codec.specs.Entries.{AreEntriesAbove}
 use Rattle.dir_codec.specs.Children.{making_after, making, then_make, with_entry}
-use Rattle.dir_codec.specs.Kept.{AreOutcomes, IsNoObject}
+use Rattle.dir_codec.specs.Kept.{Outcome, AreOutcomes, AreBefore, IsNoObject}
 use Rattle.dir_codec.specs.Metadata.{json_of}
 use Rattle.dir_codec.specs.Named.{entry_of_child, entries_of}
 use Rattle.dir_codec.specs.Spelled.{data_of}
@@ -18,17 +18,6 @@ use Rattle.dir_codec.specs.declared.fault.DirFault.TheVariants.{Torn, NotSorted,
 use Rattle.dir_codec.proofs.Json.{json_read, json_refused}
 use Rattle.dir_codec.proofs.Making.{make_next, make_fault, same_name, new_name, new_above, no_json, no_object, of_members}
 use Rattle.dir_codec.proofs.Names.{name_above}
-
--- what an entry of the map is
-abbrev pub Outcome : Type 0
-Outcome = String Global × Result (String Global × Child) DirFault
-
--- the children are those of the first members, and the outcomes of the others are left
-pub record AreBefore (children : List (String Global × Child)) (left : List Outcome) (ms : Members) : Type 0 where
-  pub rest : Members
-  pub outcomes : AreOutcomes left rest
-  pub made : making_after [] ms ≡ making_after (entries_of children) rest
-  pub kept : AreEntriesAbove [] (entries_of children)
 
 -- at the end
 ends_at : (children : List (String Global × Child)) (ms rest : Members) → AreOutcomes [] rest → making_after [] ms ≡ making_after (entries_of children) rest → making_after [] ms ≡ Ok (entries_of children)

@@ -1,18 +1,20 @@
 -- What a finder of a name knows as it goes on, and what it says at the end.
-use Rattle.std.proofs.Common.{◌≡◌, ◌+◌, ◌≤◌, ℕ, true, false, Bool, List, [], ◌∷◌, ◌++◌, length, drop, Option, Some, None, option_map, Result, Ok, Err, refl, sym, ap, ◌∙◌, arith, append-nil}
-use Rattle.std.proofs.lemmas.List.{drop-drop, drop_all}
+use Rattle.std.proofs.Common.{◌≡◌, ◌≤◌, ℕ, true, false, Bool, List, [], ◌∷◌, ◌++◌, length, drop, Option, Some, None, option_map, Result, Ok, Err, refl, sym, ap, ◌∙◌, arith, append-nil, length-drop}
+use Rattle.std.proofs.lemmas.List.{drop_all}
 use Rattle.std.proofs.lemmas.List.Folds.{find-append}
 use Rattle.std.specs.Bool.{then_some}
 use Rattle.std.specs.Option.{option_or}
 use Rattle.std.specs.Prelude.{bytes_eq}
 use Rattle.std.specs.Result.{result_ok}
-use Rattle.dir_codec.specs.Reading.{reading_after, directory_reading, children}
-use Rattle.dir_codec.specs.First.{IsFirstEntry}
+use Rattle.dir_codec.specs.Reading.{before_more, reading_after, directory_reading, children}
+use Rattle.dir_codec.specs.Parts.{first_entry}
+use Rattle.dir_codec.specs.Judging.{IsJudging}
 use Rattle.dir_codec.specs.Find.{child_named}
-use Rattle.dir_codec.specs.Sought.{cap_of_child, sought_of, sought_among, sought_in, after_those, IsFinding}
+use Rattle.dir_codec.specs.Sought.{cap_of_child, sought_of, sought_among, sought_in, after_those, metadata_of_entry, IsFinding}
 use Rattle.dir_codec.specs.declared.entry.Entry.{Entry}
 use Rattle.dir_codec.specs.declared.fault.DirFault.{DirFault}
 use Rattle.dir_codec.specs.declared.finder.Finder.{Finder}
+use Rattle.dir_codec.specs.declared.judging.Judging.{Judging}
 use Rattle.dir_codec.specs.declared.finder.Sought.TheVariants.{NoDirectory}
 use Rattle.dir_codec.proofs.Steps.{after_none, after_one_more, read_all}
 
@@ -40,29 +42,45 @@ found_with_more name those entry =
     ∙ first_counts (child_named name those) entry (bytes_eq entry.name name)
 
 -- before the first entry
-pub none_read : (name text : List ℕ) (finder : Finder) → finder.name ≡ name → finder.last ≡ [] → finder.at ≡ 0 → finder.found ≡ None → IsFinding name text finder
+pub none_read : (name text : List ℕ) (finder : Finder) → finder.name ≡ name → finder.last ≡ [] → finder.at ≡ 0 → finder.found ≡ None → finder.judging ≡ None → IsFinding name text finder
 unfolding child_named directory_reading
-none_read name text finder named last at found = record {
+none_read name text finder named last at found judging = record {
   entries = [];
   named = named;
-  within = rw at (omega arith);
+  within = rw (at, judging) (omega arith);
   read = rw (last, at) (after_none (reading_after [] text));
   found = found;
+  judging = rw judging tt;
 }
 
--- with one more entry read
-pub one_more_read : (name text : List ℕ) (finder next : Finder) (entry : Entry) (size : ℕ) → IsFinding name text finder
-    → IsFirstEntry finder.last (drop finder.at text) entry size → next.name ≡ finder.name → next.last ≡ entry.name → next.at ≡ finder.at + size
+-- with one more entry read, which ends at that place
+pub one_more_read : (name text : List ℕ) (finder next : Finder) (entry : Entry) → IsFinding name text finder
+    → reading_after finder.last (drop finder.at text) ≡ before_more entry (reading_after entry.name (drop next.at text)) → next.name ≡ finder.name → next.last ≡ entry.name → next.judging ≡ None
     → next.at ≤ length text → next.found ≡ option_or finder.found (then_some (bytes_eq entry.name finder.name) entry.cap) → IsFinding name text next
-one_more_read name text finder next entry size so first same last at within found = record {
+one_more_read name text finder next entry so first same last judging within found = record {
   entries = so.entries ++ entry ∷ [];
   named = same ∙ so.named;
-  within = within;
-  read =
-      rw (last, at) (so.read ∙ ap (after_those so.entries) first.read ∙ after_one_more so.entries entry (reading_after entry.name (drop size (drop finder.at text)))
-      ∙ ap (λ rest. after_those (so.entries ++ entry ∷ []) (reading_after entry.name rest)) (drop-drop size finder.at text));
+  within = rw judging (omega arith);
+  read = rw last (so.read ∙ ap (after_those so.entries) first ∙ after_one_more so.entries entry (reading_after entry.name (drop next.at text)));
   found = found ∙ rw (so.found, so.named) (sym (found_with_more name so.entries entry));
+  judging = rw judging tt;
 }
+
+-- with more of the next entry's metadata judged
+pub more_judged : (name text : List ℕ) (finder next : Finder) (judging : Judging) → IsFinding name text finder → next.name ≡ finder.name → next.last ≡ finder.last → next.at ≡ finder.at → next.found ≡ finder.found
+    → next.judging ≡ Some judging → IsJudging (metadata_of_entry (first_entry (drop finder.at text))) judging → length (metadata_of_entry (first_entry (drop finder.at text))) ≤ length (drop finder.at text) → IsFinding name text next
+more_judged name text finder next judging so named last at found is judged few =
+    let within = so.within in
+    let inside = judged.within in
+    let long = length-drop finder.at text in
+    record {
+      entries = so.entries;
+      named = named ∙ so.named;
+      within = rw (at, is) (omega arith);
+      read = rw (at, last) so.read;
+      found = found ∙ so.found;
+      judging = rw (at, is) judged;
+    }
 
 -- where all was read
 pub all_read : (name text : List ℕ) (finder : Finder) → IsFinding name text finder → length text ≤ finder.at → sought_of finder.found ≡ sought_in name text

@@ -101,3 +101,6 @@ read_sound text d is =
 
 pub converted_sound : (o : Option (json.Json × List Token)) (d : Data) (r : List Token) → converted of_json o ≡ Some (d, r) → IsSound d
 converted_sound o d r is = let j = from_json of_json o d r is in subst (Holds IsSound) j.2 (json_sound j.0)
+
+pub made_sound : (j : json.Json) (d : Data) → of_json j ≡ Some d → IsSound d
+made_sound j d is = subst (Holds IsSound) is (json_sound j)

@@ -1,13 +1,13 @@
 -- What the reading of children JSON keeps of it; for private clauses.
-use Rattle.std.specs.Prelude.{◌≡◌, ℕ, List, ⊤, codes, true, Option, Some, None, Result, Ok, Err, String, string_bytes}
+use Rattle.std.specs.Prelude.{◌≡◌, ℕ, List, [], ⊤, codes, true, Option, Some, None, Result, Ok, Err, String, string_bytes}
 use Rattle.std.specs.declared.alloc.Global.{Global}
 use Rattle.json.specs.Token.{Token}
 use Rattle.serde_json.specs.Data.{Data, null, string, object, Members}
 use Rattle.serde_json.specs.Find.{get_member, as_str, as_object}
 use Rattle.dir_codec.specs.Sound.{IsSound}
-use Rattle.dir_codec.specs.Entries.{IsEntry}
-use Rattle.dir_codec.specs.Children.{fields_of, gives_write, entry_made}
-use Rattle.dir_codec.specs.Named.{entry_of_child}
+use Rattle.dir_codec.specs.Entries.{IsEntry, AreEntriesAbove}
+use Rattle.dir_codec.specs.Children.{fields_of, gives_write, entry_made, making_after}
+use Rattle.dir_codec.specs.Named.{entry_of_child, entries_of}
 use Rattle.dir_codec.specs.Spelled.{data_of, AreAt, IsSpelled}
 use Rattle.dir_codec.specs.declared.child.Child.{Child}
 use Rattle.dir_codec.specs.declared.fields.Field.{Field}
@@ -45,13 +45,24 @@ abbrev pub IsChildNode : Option Fields → Data → Type 0
 IsChildNode None d = fields_of d ≡ None
 IsChildNode (Some fields) d = (ms : Members) × (fields_of d ≡ Some (object ms)) × AreChildFields fields ms
 
+-- the key of a member, and what was made of it
+abbrev pub Outcome : Type 0
+Outcome = String Global × Result (String Global × Child) DirFault
+
 -- what was made of a member
 abbrev pub IsOutcome : List ℕ → Data → Result (String Global × Child) DirFault → Type 0
 IsOutcome key d (Ok named) = (entry_made key d ≡ Ok (entry_of_child named)) × IsEntry (entry_of_child named)
 IsOutcome key d (Err fault) = entry_made key d ≡ Err fault
 
-abbrev pub AreOutcomes : List (String Global × Result (String Global × Child) DirFault) → Members → Type 0
+abbrev pub AreOutcomes : List Outcome → Members → Type 0
 AreOutcomes es ms = AreAt IsOutcome es ms
+
+-- the children are those of the first members, and the outcomes of the others are left
+pub record AreBefore (children : List (String Global × Child)) (left : List Outcome) (ms : Members) : Type 0 where
+  pub rest : Members
+  pub outcomes : AreOutcomes left rest
+  pub made : making_after [] ms ≡ making_after (entries_of children) rest
+  pub kept : AreEntriesAbove [] (entries_of children)
 
 -- why the tokens are no object
 abbrev pub IsNoObject : DirFault → List Token → Type 0

@@ -1,4 +1,5 @@
--- Read DirectoryText first, over Names, Metadata and Entries; then Reading and Faults, Find and Sought, and Children with MadeOf.
+-- Read DirectoryText first, over Names, Metadata and Entries; then Reading and Faults, Find and Sought, and Children with
+-- MadeOf and TextMakers.
 pub mod Names
 pub mod Metadata
 pub mod Spelled
@@ -16,3 +17,11 @@ pub mod MadeOf
 pub mod Named
 pub mod Kept
 pub mod Sound
+pub mod Collected
+pub mod TextMakers
+pub mod Speller
+pub mod TokenPieces
+pub mod Judging
+pub mod MemberReader
+pub mod Piecewise
+pub mod Collecting

@@ -1,17 +1,21 @@
 //! From the JSON that a client names children with to their directory.
-ghost use Rattle.std.specs.Prelude.{◌≡◌, ◌≢◌, [], Ok, Err, IfOk, IfErr};
-ghost use Rattle.serde_json.specs.Data.{Members};
-ghost use Rattle.dir_codec.specs.Entries.{IsDirectory};
-ghost use Rattle.dir_codec.specs.Children.{making_after, making};
+ghost use Rattle.std.specs.Prelude.{◌≡◌, ◌≢◌, ◌++◌, Ok, Err, IfOk, IfErr};
+ghost use Rattle.serde_json.specs.Data.{Members, object};
+ghost use Rattle.dir_codec.specs.Children.{making};
+ghost use Rattle.dir_codec.specs.Collected.{IsBehindBrace};
 ghost use Rattle.dir_codec.specs.Kept.{AreOutcomes};
+ghost use Rattle.dir_codec.specs.Metadata.{json_of};
 ghost use Rattle.dir_codec.specs.Named.{entries_of};
 ghost use Rattle.dir_codec.specs.declared.fault.DirFault.TheVariants.{NoMemory};
 
 use crate::child::Child;
+use crate::collecting::{Collected, Collecting};
+use crate::cutting::behind_brace;
 use crate::directory::Directory;
 use crate::entry::Entry;
 use crate::fault::DirFault;
-use crate::members::read_text;
+use crate::members::why_no_object;
+use crate::naming::named_children;
 use octets::Text;
 use std::alloc::{AllocError, Global};
 use std::collections::BTreeMap;
@@ -27,36 +31,36 @@ pub fn from_children_json(alloc: Global, json: &[u8]) -> Result<Directory, DirFa
     ensures made { IfOk result (λ directory. making json.now ≡ Ok directory) }
     ensures refused { IfErr result (λ fault. fault ≢ NoMemory → making json.now ≡ Err fault) }
 {
-    let Ok(text) = str::from_utf8(json) else {
-        return Err(DirFault::NotJson);
+    let Some(start) = behind_brace(json) else {
+        let Ok(text) = str::from_utf8(json) else {
+            return Err(DirFault::NotJson);
+        };
+        return Err(why_no_object(alloc, text));
     };
-    let outcomes = read_text(alloc, text)?;
+    let outcomes = collect(alloc, json, start)?;
     let children = named_children(alloc, outcomes)?;
     let entries = in_order(alloc, children)?;
     Ok(Directory::from_entries(entries))
 }
 
-/// The children that were made of members, by their names.
-fn named_children(
+/// What is made of each member of the object, by its key.
+fn collect(
     alloc: Global,
-    outcomes: BTreeMap<String, Result<(String, Child), DirFault>>,
-) -> Result<BTreeMap<String, Child>, DirFault>
-    ensures ok { IfOk result (λ children. (ms : Members) → AreOutcomes outcomes.entries ms
-        → making_after [] ms ≡ Ok (entries_of children.entries)) }
-    ensures kept { IfOk result (λ children. (ms : Members) → AreOutcomes outcomes.entries ms
-        → IsDirectory (entries_of children.entries)) }
-    ensures err { IfErr result (λ fault. fault ≢ NoMemory → (ms : Members)
-        → AreOutcomes outcomes.entries ms → making_after [] ms ≡ Err fault) }
+    json: &[u8],
+    start: usize,
+) -> Result<BTreeMap<String, Result<(String, Child), DirFault>>, DirFault>
+    requires { IsBehindBrace json.now start }
+    ensures ok { IfOk result (λ outcomes. (ms : Members) × (json_of json.now ≡ Some (object ms))
+        × AreOutcomes outcomes.entries ms) }
+    ensures err { IfErr result (λ fault. fault ≢ NoMemory → making json.now ≡ Err fault) }
 {
-    let mut children = BTreeMap::new(alloc);
-    for (_key, outcome) in outcomes {
-        let (name, child) = outcome?;
-        let old = children.insert(name, child)?;
-        if old.is_some() {
-            return Err(DirFault::SameName);
+    let mut collecting = Collecting::new(alloc, start);
+    'members: loop {
+        match collecting.step(alloc, json)? {
+            Collected::More(next) => collecting = next,
+            Collected::All(outcomes) => return Ok(outcomes),
         }
     }
-    Ok(children)
 }
 
 /// The entries of children, in order of their names.

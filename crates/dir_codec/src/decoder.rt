@@ -6,7 +6,8 @@ ghost use Rattle.caps.specs.CapTexts.{cap_text};
 ghost use Rattle.caps.specs.Reading.{cap_reading};
 ghost use Rattle.dir_codec.specs.Names.{is_name, IsAbove};
 ghost use Rattle.dir_codec.specs.Entries.{is_child_cap, IsEntry, IsDirectory};
-ghost use Rattle.dir_codec.specs.Reading.{child_reading, entry_reading, directory_reading};
+ghost use Rattle.dir_codec.specs.Metadata.{spelling_of};
+ghost use Rattle.dir_codec.specs.Reading.{child_reading, with_metadata, entry_reading, directory_reading};
 ghost use Rattle.dir_codec.specs.Cuts.{texts_now};
 ghost use Rattle.dir_codec.specs.declared.fault.DirFault.TheVariants.{NoMemory};
 
@@ -16,6 +17,7 @@ use crate::entry::Entry;
 use crate::fault::DirFault;
 use crate::metadata::read_metadata;
 use crate::parts::Parts;
+use crate::spelling::Keys;
 use caps::{Cap, parse_bytes};
 use octets::Text;
 use std::alloc::{AllocError, Global};
@@ -58,6 +60,35 @@ pub(crate) fn read_entry(alloc: Global, parts: Parts<'_>, last: &[u8]) -> Result
     ensures err { IfErr result (λ fault. fault ≢ NoMemory
         → entry_reading last.now (texts_now parts.entry) ≡ Err fault) }
 {
+    let Named { name, cap } = read_named(alloc, parts, last)?;
+    let metadata = read_metadata(alloc, parts.metadata, Keys::Rising)?;
+    Ok(Entry {
+        name,
+        cap,
+        metadata,
+    })
+}
+
+/// What an entry has beside its metadata.
+#[derive(Drop)]
+pub(crate) struct Named {
+    /// The child's name.
+    pub(crate) name: Text,
+    /// The cap that reads the child.
+    pub(crate) cap: Cap,
+}
+
+/// The same of four texts, after an entry of that name.
+pub(crate) fn read_named(alloc: Global, parts: Parts<'_>, last: &[u8]) -> Result<Named, DirFault>
+    ensures ok { IfOk result (λ named. entry_reading last.now (texts_now parts.entry)
+        ≡ with_metadata named.name named.cap (spelling_of parts.entry.metadata.now)) }
+    ensures name { IfOk result (λ named. named.name ≡ parts.entry.name.now) }
+    ensures kept { IfOk result (λ named. (is_name named.name ≡ true)
+        × (is_child_cap named.cap ≡ true) × (cap_reading (cap_text named.cap) ≡ Ok named.cap)) }
+    ensures above { IfOk result (λ named. IsAbove named.name last.now) }
+    ensures err { IfErr result (λ fault. fault ≢ NoMemory
+        → entry_reading last.now (texts_now parts.entry) ≡ Err fault) }
+{
     let Some(name) = name_in(alloc, parts.name)? else {
         return Err(DirFault::BadName);
     };
@@ -68,11 +99,9 @@ pub(crate) fn read_entry(alloc: Global, parts: Parts<'_>, last: &[u8]) -> Result
     if !parts.write.is_empty() {
         return Err(DirFault::WriteCap);
     }
-    let metadata = read_metadata(alloc, parts.metadata)?;
-    Ok(Entry {
+    Ok(Named {
         name: Text::from_string(String::from_str(alloc, name)?),
         cap,
-        metadata,
     })
 }
 

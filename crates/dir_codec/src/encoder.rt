@@ -21,7 +21,7 @@ pub fn encode(alloc: Global, directory: &Directory) -> Result<Vec<u8>, AllocErro
 }
 
 /// Appends the text of an entry. What `inside` holds is dropped, and its memory used.
-fn push_entry(
+pub(crate) fn push_entry(
     alloc: Global,
     text: &mut Vec<u8>,
     inside: &mut Vec<u8>,

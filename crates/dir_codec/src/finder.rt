@@ -2,15 +2,14 @@
 ghost use Rattle.std.specs.Prelude.{◌≡◌, ℕ, List, IfOk};
 ghost use Rattle.dir_codec.specs.Sought.{sought_of, sought_in, IsFinding, IsFoundOn, IsAhead};
 
-use crate::entries::read_first;
-use crate::entry::Entry;
+use crate::cutting::STEP_BYTES;
+use crate::decoder::{Named, read_named};
 use crate::fault::is_memory;
+use crate::judging::{Judged, Judging, judge};
+use crate::parts::first_entry;
 use caps::Cap;
 use octets::Text;
 use std::alloc::{AllocError, Global};
-
-/// How many bytes of entries one step reads. Its last entry may end behind them.
-const STEP_BYTES: usize = 65_536;
 
 /// What is found under a name in bytes that are to be a directory text.
 #[derive(Debug, Drop)]
@@ -23,18 +22,20 @@ pub enum Sought {
     NoDirectory,
 }
 
-/// A name that is looked for in a directory text, some entries at a time. The whole text is judged, also behind the
-/// child.
+/// A name that is looked for in a directory text, some entries at a time, and in long metadata some of their text at a
+/// time. The whole text is judged, also behind the child.
 #[derive(Debug, Drop)]
 pub struct Finder {
     /// The name that is looked for.
     name: Text,
     /// The name of the last entry that was read, the empty one where there is none.
     last: Text,
-    /// How many bytes of the text were read.
+    /// How many bytes of the text were read, in whole entries.
     at: usize,
     /// The cap of the first entry of that name among those that were read.
     found: Option<Cap>,
+    /// The metadata of the next entry, where they are long and some of their bytes were judged.
+    judging: Option<Judging>,
 }
 
 /// How far a finder is.
@@ -59,11 +60,12 @@ impl Finder {
             last: Text::from_string(String::new(alloc)),
             at: 0,
             found: None,
+            judging: None,
         })
     }
 
-    /// With the next entries read, some 65,536 bytes of them or one longer entry: whole entries, until they take that
-    /// many bytes or the text ends. The text has to be the same at each step.
+    /// With the next entries read, some 65,536 bytes of them: whole entries, until they take that many bytes or the text
+    /// ends; or with some 65,536 bytes judged of one longer entry's metadata. The text has to be the same at each step.
     ///
     /// # Errors
     /// `AllocError` where memory is refused, and never for what the text says.
@@ -76,50 +78,67 @@ impl Finder {
         let mut finder = self;
         while finder.at - start < STEP_BYTES {
             match finder.with_next(alloc, text)? {
-                Finding::Going(next) => finder = next,
+                Finding::Going(next) => {
+                    if next.judging.is_some() {
+                        return Ok(Finding::Going(next));
+                    }
+                    finder = next;
+                }
                 Finding::Done(sought) => return Ok(Finding::Done(sought)),
             }
         }
         Ok(Finding::Going(finder))
     }
 
-    /// With the next entry read, or done where none is left.
+    /// With the next entry read, or more of its metadata judged, or done where none is left. Of an entry its metadata are
+    /// judged first, since it doesn't matter which fault an entry has.
     fn with_next(self, alloc: Global, text: &[u8]) -> Result<Finding, AllocError>
         ensures found { IfOk result (λ finding. (name : List ℕ) → IsFinding name text.now self
             → IsFoundOn name text.now finding) }
         ensures ahead { IfOk result (λ finding. IsAhead self finding) }
     {
+        tag_hash::laws::netstrings_are_read_back();
         let Finder {
             name,
             last,
             at,
             found,
+            judging,
         } = self;
         if at >= text.len() {
             return Ok(Finding::Done(sought_of(found)));
         }
-        match read_first(alloc, last.as_str().as_bytes(), &text[at..]) {
-            Ok((entry, size)) => {
-                let Entry {
-                    name: read,
-                    cap,
-                    metadata: _,
-                } = entry;
-                let is_sought = read.as_str() == name.as_str();
-                Ok(Finding::Going(Finder {
-                    name,
-                    last: read,
-                    at: at + size,
-                    found: found.or(is_sought.then_some(cap)),
-                }))
-            }
-            Err(fault) => {
-                if is_memory(&fault) {
-                    Err(AllocError)
-                } else {
-                    Ok(Finding::Done(Sought::NoDirectory))
+        let Some((parts, more)) = first_entry(&text[at..]) else {
+            return Ok(Finding::Done(Sought::NoDirectory));
+        };
+        match judge(alloc, judging, parts.metadata)? {
+            Judged::More(judging) => Ok(Finding::Going(Finder {
+                name,
+                last,
+                at,
+                found,
+                judging: Some(judging),
+            })),
+            Judged::Done(false) => Ok(Finding::Done(Sought::NoDirectory)),
+            Judged::Done(true) => match read_named(alloc, parts, last.as_str().as_bytes()) {
+                Ok(Named { name: read, cap }) => {
+                    let is_sought = read.as_str() == name.as_str();
+                    Ok(Finding::Going(Finder {
+                        name,
+                        last: read,
+                        at: text.len() - more.len(),
+                        found: found.or(is_sought.then_some(cap)),
+                        judging: None,
+                    }))
                 }
-            }
+                Err(fault) => {
+                    if is_memory(&fault) {
+                        Err(AllocError)
+                    } else {
+                        Ok(Finding::Done(Sought::NoDirectory))
+                    }
+                }
+            },
         }
     }
 }

@@ -18,11 +18,25 @@ mod finder;
 mod encoder;
 /// From the JSON that a client names children with to their directory.
 mod children;
+/// The text of the directory of the children that JSON names, made some members at a time.
+mod text_maker;
+/// Reads children JSON some members at a time.
+mod collecting;
+/// Reads members of children JSON a piece of their text at a time.
+mod piecewise;
+/// Reads the members of children JSON whose tokens come one at a time.
+mod member_reader;
+/// Pushes the tokens of a piece of a JSON text into what takes them one at a time.
+mod token_pieces;
+/// Where children JSON is cut.
+mod cutting;
+/// The children of members, by their names.
+mod naming;
 /// What is made of a child in JSON.
 mod child;
 /// What is kept of a child in JSON.
 mod fields;
-/// Reads children JSON in one pass over its tokens.
+/// Reads the members of children JSON in one pass over their tokens.
 mod members;
 /// The four texts of an entry.
 mod parts;
@@ -30,6 +44,10 @@ mod parts;
 mod metadata;
 /// The one spelling of JSON, written while its tokens are read.
 mod spelling;
+/// The one spelling of JSON whose keys rise, written while its tokens come one at a time.
+mod speller;
+/// Judging long metadata, some of their text at a time.
+mod judging;
 /// How deep JSON nests, and whether all its numbers are whole.
 mod extent;
 
@@ -44,3 +62,4 @@ pub use entries::read_first;
 pub use entry::Entry;
 pub use fault::{DirFault, is_memory};
 pub use finder::{Finder, Finding, Sought, find_child};
+pub use text_maker::{TextMaker, TextMaking, make_text};

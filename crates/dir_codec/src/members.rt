@@ -1,17 +1,19 @@
-//! Reads children JSON in one pass over its tokens: what is made of a member is known when its value ends, and what has
-//! no meaning is dropped as soon as it is read.
-ghost use Rattle.std.specs.Prelude.{◌≡◌, ◌≢◌, ◌<◌, ◌≤◌, ◌∷◌, List, [], length, Err, None, Some, IfOk, IfErr, OnOk, MatchOption, is_some};
+//! Reads the members of children JSON in one pass over their tokens: what is made of a member is known when its value ends,
+//! and what has no meaning is dropped as soon as it is read.
+ghost use Rattle.std.specs.Prelude.{◌≡◌, ◌≢◌, ◌<◌, ◌≤◌, ◌∷◌, List, [], length, Err, None, Some, IfOk, IfErr, OnOk, is_some};
 ghost use Rattle.json.specs.Token.{Token as JsonToken};
 ghost use Rattle.json.specs.Lex.{tokens};
 ghost use Rattle.json.specs.Json.{value, items, members};
 ghost use Rattle.json.specs.Reads.{token_of};
-ghost use Rattle.serde_json.specs.Data.{Data, Items, Members, array, object, no_members};
+ghost use Rattle.serde_json.specs.Data.{Data, Items, Members, array, no_members};
 ghost use Rattle.serde_json.specs.Find.{as_str, as_object};
 ghost use Rattle.serde_json.specs.Read.{of_json, of_items, of_members, converted};
-ghost use Rattle.dir_codec.specs.Kept.{IsField, AreChildFields, IsObject, IsChildNode, IsOutcome, AreOutcomes, IsNoObject};
+ghost use Rattle.dir_codec.specs.Kept.{IsField, AreChildFields, IsObject, IsChildNode, IsOutcome, IsNoObject};
+ghost use Rattle.json_members.specs.MemberCuts.{first_token};
+ghost use Rattle.dir_codec.specs.Collected.{AreEntered, AreMembersRead};
 ghost use Rattle.json.specs.Print.{IsPrintable};
 ghost use Rattle.dir_codec.specs.Spelled.{data_of, begins_text, begins_array};
-ghost use Rattle.dir_codec.specs.declared.fault.DirFault.TheVariants.{NoMemory};
+ghost use Rattle.dir_codec.specs.declared.fault.DirFault.TheVariants.{NoMemory, BadShape};
 
 use crate::child::{Child, read_child};
 use crate::fault::DirFault;
@@ -19,58 +21,83 @@ use crate::fields::{Field, Fields};
 use crate::spelling::{Keys, READ_LEVELS, Spelled, Stop, opens_object, spell_items, spell_token};
 use json::{Reader, Scratch, Token};
 use std::alloc::{AllocError, Global};
-use std::collections::BTreeMap;
 
-/// What is made of each member of children JSON, by its key: of equal keys the last. Where keys rise in each object
-/// that is a field, the texts of caps and metadata are in memory twice at most.
+/// What is made of each member of an object, in the order of the text. Where keys rise in each object that is a field, the
+/// texts of caps and metadata are in memory twice at most. How keys come is a guess, which costs time alone.
 ///
 /// # Errors
-/// NotJson and BadShape where the text is no JSON, or no object.
-pub(crate) fn read_text(
+/// NotJson where the text is no JSON.
+pub(crate) fn read_members(
     alloc: Global,
     text: &str,
-) -> Result<BTreeMap<String, Result<(String, Child), DirFault>>, DirFault>
-    ensures ok { IfOk result (λ outcomes. (ms : Members)
-        × (data_of (tokens text.now) ≡ Some (object ms)) × AreOutcomes outcomes.entries ms) }
+    keys: Keys,
+) -> Result<Vec<(String, Result<(String, Child), DirFault>)>, DirFault>
+    requires { first_token (tokens text.now) ≡ Some JsonToken.begin_object }
+    ensures ok { IfOk result (λ outcomes. AreMembersRead outcomes.items (tokens text.now)) }
     ensures err { IfErr result (λ fault. fault ≢ NoMemory → IsNoObject fault (tokens text.now)) }
+    ensures json { result ≢ Err BadShape }
 {
     let mut scratch = Scratch::new(alloc);
-    match read_once(alloc, text, &mut scratch, Keys::Rising) {
-        Ok(found) => found.ok_or(DirFault::BadShape),
+    match members_once(alloc, text, &mut scratch, keys) {
+        Ok(found) => Ok(found),
         Err(Stop::NotJson) => Err(DirFault::NotJson),
         Err(Stop::NoMemory) => Err(DirFault::NoMemory),
-        Err(Stop::NotRising) => match read_once(alloc, text, &mut scratch, Keys::Any) {
-            Ok(found) => found.ok_or(DirFault::BadShape),
+        Err(Stop::NotRising) => match members_once(alloc, text, &mut scratch, Keys::Any) {
+            Ok(found) => Ok(found),
             Err(Stop::NotJson) => Err(DirFault::NotJson),
             Err(_) => Err(DirFault::NoMemory),
         },
     }
 }
 
-/// The same in one pass over the text, where the members of fields come so. None of JSON that is no object.
-fn read_once(
+/// The same in one pass over the text, where the members of fields come so.
+fn members_once(
     alloc: Global,
     text: &str,
     scratch: &mut Scratch,
     keys: Keys,
-) -> Result<Option<BTreeMap<String, Result<(String, Child), DirFault>>>, Stop>
-    ensures ok { IfOk result (λ found. MatchOption found
-        ((d : Data) × (data_of (tokens text.now) ≡ Some d) × (as_object d ≡ None))
-        (λ outcomes. (ms : Members) × (data_of (tokens text.now) ≡ Some (object ms))
-        × AreOutcomes outcomes.entries ms)) }
+) -> Result<Vec<(String, Result<(String, Child), DirFault>)>, Stop>
+    requires { first_token (tokens text.now) ≡ Some JsonToken.begin_object }
+    ensures ok { IfOk result (λ outcomes. AreMembersRead outcomes.items (tokens text.now)) }
+    ensures err { result ≡ Err Stop.NotJson → data_of (tokens text.now) ≡ None }
+    ensures order { keys ≡ Keys.Any → result ≢ Err Stop.NotRising }
+{
+    let mut reader = Reader::new(text, scratch)?;
+    reader.next().ok_or(Stop::NotJson)?;
+    let found = gather_children(alloc, &mut reader, READ_LEVELS - 1, keys)?;
+    end(&mut reader)?;
+    Ok(found)
+}
+
+/// Why a text that doesn't begin with an object is no children JSON: NotJson, BadShape where it is other JSON, or NoMemory.
+pub(crate) fn why_no_object(alloc: Global, text: &str) -> DirFault
+    requires { first_token (tokens text.now) ≢ Some JsonToken.begin_object }
+    ensures { result ≢ NoMemory → IsNoObject result (tokens text.now) }
+{
+    let mut scratch = Scratch::new(alloc);
+    match other_once(alloc, text, &mut scratch, Keys::Rising) {
+        Ok(()) => DirFault::BadShape,
+        Err(Stop::NotJson) => DirFault::NotJson,
+        Err(Stop::NoMemory) => DirFault::NoMemory,
+        Err(Stop::NotRising) => match other_once(alloc, text, &mut scratch, Keys::Any) {
+            Ok(()) => DirFault::BadShape,
+            Err(Stop::NotJson) => DirFault::NotJson,
+            Err(_) => DirFault::NoMemory,
+        },
+    }
+}
+
+/// Reads a text that doesn't begin with an object in one pass, and drops what it reads.
+fn other_once(alloc: Global, text: &str, scratch: &mut Scratch, keys: Keys) -> Result<(), Stop>
+    requires { first_token (tokens text.now) ≢ Some JsonToken.begin_object }
+    ensures ok { OnOk result ((d : Data) × (data_of (tokens text.now) ≡ Some d) × (as_object d ≡ None)) }
     ensures err { result ≡ Err Stop.NotJson → data_of (tokens text.now) ≡ None }
     ensures order { keys ≡ Keys.Any → result ≢ Err Stop.NotRising }
 {
     let mut reader = Reader::new(text, scratch)?;
     let token = reader.next().ok_or(Stop::NotJson)?;
-    if opens_object(token) {
-        let found = gather_children(alloc, &mut reader, READ_LEVELS - 1, keys)?;
-        end(&mut reader)?;
-        return Ok(Some(found));
-    }
     pass_by(alloc, &mut reader, token, READ_LEVELS, keys)?;
-    end(&mut reader)?;
-    Ok(None)
+    end(&mut reader)
 }
 
 /// Sees that no token is left.
@@ -86,34 +113,34 @@ fn end(reader: &mut Reader<'_>) -> Result<(), Stop>
     }
 }
 
-/// What is made of each member of an object, by its key: of equal keys the last.
+/// What is made of each member of an object behind its opening brace, in order.
 fn gather_children(
     alloc: Global,
     reader: &mut Reader<'_>,
     depth: usize,
     keys: Keys,
-) -> Result<BTreeMap<String, Result<(String, Child), DirFault>>, Stop>
-    ensures ok { IfOk result (λ found. (ms : Members)
-        × (converted (λ j. of_members j no_members)
-        (members (value depth) (length reader.old) reader.old) ≡ Some (ms, reader.new))
-        × AreOutcomes found.entries ms) }
+) -> Result<Vec<(String, Result<(String, Child), DirFault>)>, Stop>
+    ensures ok { IfOk result (λ found. (before : Members) → (after : Members)
+        × (converted (λ j. of_members j before)
+        (members (value depth) (length reader.old) reader.old) ≡ Some (after, reader.new))
+        × AreEntered found.items before after) }
     ensures shorter { OnOk result (length reader.new < length reader.old) }
     ensures err { result ≡ Err Stop.NotJson → converted (λ j. of_members j no_members)
         (members (value depth) (length reader.old) reader.old) ≡ None }
     ensures order { keys ≡ Keys.Any → result ≢ Err Stop.NotRising }
 {
-    let mut found = BTreeMap::new(alloc);
+    let mut found = Vec::new(alloc);
     'members: while let Some(name) = reader.next_key()? {
         let key = String::from_str(alloc, name)?;
         let node = read_node(alloc, reader, depth, keys)?;
         let outcome = made_of(alloc, name, node)?;
-        drop(found.insert(key, outcome)?);
+        found.push((key, outcome))?;
     }
     Ok(found)
 }
 
 /// What is made of a member. `Err` only where memory is refused.
-fn made_of(
+pub(crate) fn made_of(
     alloc: Global,
     key: &str,
     node: Option<Fields>,
@@ -317,7 +344,7 @@ fn begins_text(token: Token<'_>) -> bool
 }
 
 /// Whether a token opens an array.
-fn opens_array(token: Token<'_>) -> bool
+pub(crate) fn opens_array(token: Token<'_>) -> bool
     ensures { result ≡ begins_array (token_of token.entry) }
 {
     matches!(token, Token::BeginArray)

@@ -19,7 +19,6 @@ use fast_float::Numeral;
 use json::{Invalid, Reader, Scratch, Token, Writer};
 use std::alloc::{AllocError, AllocFailed, Global};
 use std::collections::BTreeMap;
-use std::mem;
 
 /// Levels of arrays and objects that `serde_json` reads, at most.
 pub(crate) const READ_LEVELS: usize = 127;
@@ -87,13 +86,18 @@ pub(crate) struct Spelled {
 }
 
 /// The one spelling of the metadata that a text is, None where it is none. Where keys rise in each object, it takes
-/// some twice the text's bytes, and else some 20 to 25 times at most. `Err` only where memory is refused.
-pub(crate) fn spell_text(alloc: Global, text: &str) -> Result<Option<String>, AllocError>
+/// some twice the text's bytes, and else some 20 to 25 times at most. Whoever knows that they don't asks for them in any
+/// order at once. `Err` only where memory is refused.
+pub(crate) fn spell_text(
+    alloc: Global,
+    text: &str,
+    keys: Keys,
+) -> Result<Option<String>, AllocError>
     ensures { IfOk result (λ found. MatchOption found (AreNoMetadata (tokens text.now))
         (λ spelling. SpellsMetadata (tokens text.now) [] (string_bytes spelling))) }
 {
     let mut scratch = Scratch::new(alloc);
-    match spell_once(alloc, text, &mut scratch, Keys::Rising) {
+    match spell_once(alloc, text, &mut scratch, keys) {
         Ok(found) => Ok(found),
         Err(Stop::NotRising) => match spell_once(alloc, text, &mut scratch, Keys::Any) {
             Ok(found) => Ok(found),
@@ -351,7 +355,7 @@ fn gather_members(
 }
 
 /// Whether a key is above the last one, where there is one.
-fn rises(last: Option<&str>, key: &str) -> bool
+pub(crate) fn rises(last: Option<&str>, key: &str) -> bool
     ensures { result ≡ rises (option_map (λ name. name.now) last.entry) key.now }
 {
     match last {
@@ -386,7 +390,7 @@ fn put_members(
 }
 
 /// Writes a comma, where something stands before.
-fn separate(out: &mut Vec<u8>, later: bool) -> Result<(), AllocError>
+pub(crate) fn separate(out: &mut Vec<u8>, later: bool) -> Result<(), AllocError>
     ensures { OnOk result (out.new.items ≡ out.old.items ++ comma_if later) }
 {
     if later {
@@ -396,7 +400,7 @@ fn separate(out: &mut Vec<u8>, later: bool) -> Result<(), AllocError>
 }
 
 /// Writes one token. A text that has nothing to escape is copied whole.
-fn put(alloc: Global, out: &mut Vec<u8>, token: Token<'_>) -> Result<(), AllocError>
+pub(crate) fn put(alloc: Global, out: &mut Vec<u8>, token: Token<'_>) -> Result<(), AllocError>
     requires { IsPrintable (token_of token) }
     ensures written { OnOk result
         (out.new.items ≡ out.old.items ++ token_text (token_of token.entry)) }
@@ -405,6 +409,9 @@ fn put(alloc: Global, out: &mut Vec<u8>, token: Token<'_>) -> Result<(), AllocEr
     match token {
         Token::Key(name) => put_key(alloc, out, name),
         Token::String(text) => put_string(alloc, out, text),
+        Token::Null => Ok(out.extend_from_slice(b"null")?),
+        Token::Bool(false) => Ok(out.extend_from_slice(b"false")?),
+        Token::Bool(true) => Ok(out.extend_from_slice(b"true")?),
         other => write(alloc, out, other),
     }
 }
@@ -445,21 +452,22 @@ fn is_plain(text: &[u8]) -> bool
         .all(|byte| *byte >= 32 && *byte != b'"' && *byte != b'\\')
 }
 
-/// Writes one token, by `json`'s writer. It clears some memory ahead, up to 16 KiB.
+/// Writes one token, by `json`'s writer into a buffer of its own: before each token it clears as much memory as it has
+/// written, up to 16 KiB.
 fn write(alloc: Global, out: &mut Vec<u8>, token: Token<'_>) -> Result<(), AllocError>
     requires { IsPrintable (token_of token) }
     ensures written { OnOk result
         (out.new.items ≡ out.old.items ++ token_text (token_of token.entry)) }
     ensures utf8 { OnOk result (IsUtf8 (token_text (token_of token.entry))) }
 {
-    let mut writer = Writer::new(mem::replace(out, Vec::new(alloc)));
+    let mut writer = Writer::new(Vec::new(alloc));
     writer.token(token)?;
-    *out = writer.into_inner();
+    out.extend_from_slice(writer.into_inner().as_slice())?;
     Ok(())
 }
 
 /// Writes a number where it is whole, and gives its extent.
-fn spell_number(text: &str, out: &mut Vec<u8>) -> Result<Extent, Stop>
+pub(crate) fn spell_number(text: &str, out: &mut Vec<u8>) -> Result<Extent, Stop>
     ensures ok { IfOk result (λ extent. (n : Num) × (number_of text.now ≡ Some n)
         × (out.new.items ≡ out.old.items ++ number_text n) × IsExtent extent 0 (is_float n)
         × IsUtf8 (number_text n)) }

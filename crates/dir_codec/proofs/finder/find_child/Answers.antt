@@ -1,12 +1,12 @@
 use Rattle.std.proofs.Common.{◌<◌, subst, arith}
-use Rattle.dir_codec.specs.Sought.{IsFinding, IsFoundOn, IsAhead}
+use Rattle.dir_codec.specs.Sought.{bytes_read, IsFinding, IsFoundOn, IsAhead}
 use Rattle.dir_codec.proofs.finder.find_child.Goals as goal
 
 pub entries-smaller : goal.entries-smaller
 entries-smaller c =
     let next : IsFinding c.args.name.now c.args.text.now c.in-Going.next =
     subst (IsFoundOn c.args.name.now c.args.text.now) c.in-Going.is (c.in_ok-next.ensures.found c.args.name.now c.entries.invariant) in
-    let ahead : c.entries.finder.at < c.in-Going.next.at = subst (IsAhead c.entries.finder) c.in-Going.is c.in_ok-next.ensures.ahead in
+    let ahead : bytes_read c.entries.finder < bytes_read c.in-Going.next = subst (IsAhead c.entries.finder) c.in-Going.is c.in_ok-next.ensures.ahead in
     let within = next.within in
     omega (arith, ahead, within)
 

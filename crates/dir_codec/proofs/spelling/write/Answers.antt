@@ -10,8 +10,9 @@ returns-clause-written c =
     let t = token_of c.args.token in
     let written = c.in_ok-token.ensures in
     let tokens : c.token.new.self.tokens ≡ t ∷ [] = written.ok ∙ ap (λ ts. ts ++ t ∷ []) c.new-writer.ensures.tokens in
-    let before : c.token.new.self.before ≡ c.args.out.now.items = written.room.0 ∙ c.new-writer.ensures.before ∙ ap (λ v. v.items) c.replace.ensures.value in
-    c.into_inner.ensures.items ∙ ap₂ (λ b ts. b ++ print ts) before tokens ∙ ap (λ s. c.args.out.now.items ++ s) (print_one t)
+    let before : c.token.new.self.before ≡ [] = written.room.0 ∙ c.new-writer.ensures.before ∙ c.new.ensures.items in
+    let alone = c.into_inner.ensures.items ∙ ap₂ (λ b ts. b ++ print ts) before tokens ∙ print_one t in
+    c.in_ok-extend_from_slice.ensures.items ∙ ap (λ s. c.args.out.now.items ++ s) (c.as_slice.ensures.value ∙ alone)
 
 pub returns-clause-utf8 : goal.returns-clause-utf8
 returns-clause-utf8 c =

@@ -1,11 +1,13 @@
-use Rattle.std.proofs.Common.{◌≡◌, ◌-◌, ◌≤◌, ℕ, List}
-use Rattle.dir_codec.specs.Sought.{IsFinding}
+use Rattle.std.proofs.Common.{◌≡◌, ◌-◌, ◌<◌, ◌≤◌, ℕ, List}
+use Rattle.dir_codec.specs.Sought.{bytes_read, IsFinding}
 use Rattle.dir_codec.proofs.finder.Finder.step.Given as goal
 
 abbrev pub invariant-loop-finder : goal.invariant-loop-finder
 invariant-loop-finder l = record {
   start : l.start ≡ l.fn.self.at;
-  ahead : l.start ≤ l.finder.at;
+  behind : l.start ≤ l.finder.at;
+  more : bytes_read l.fn.self ≤ bytes_read l.finder;
+  ahead : l.start < l.finder.at → bytes_read l.fn.self < bytes_read l.finder;
   finding : (name : List ℕ) → IsFinding name l.text l.fn.self → IsFinding name l.text l.finder;
 }
 

@@ -1,0 +1,35 @@
+-- How far the reading of children JSON is; for private clauses.
+use Rattle.std.specs.Prelude.{◌≡◌, ℕ, ◌<◌, ◌≤◌, ⊤, List, length, take, Some}
+use Rattle.std.specs.Str.{IsUtf8}
+use Rattle.json.specs.Lex.{tokens}
+use Rattle.json.specs.Json as json
+use Rattle.json_stack.specs.Machine.{whole_value}
+use Rattle.serde_json.specs.Data.{object, Members, no_members}
+use Rattle.serde_json.specs.Read.{of_members, max_depth}
+use Rattle.dir_codec.specs.Collected.{object_behind, with_before}
+use Rattle.dir_codec.specs.Kept.{AreOutcomes}
+use Rattle.dir_codec.specs.Metadata.{json_of}
+use Rattle.dir_codec.specs.Piecewise.{IsReadingAt, place_reached}
+use Rattle.dir_codec.specs.declared.collecting.Collecting.{Collecting}
+use Rattle.dir_codec.specs.declared.collecting.Collected.{Collected}
+
+-- the members up to a place of the text were read
+pub record IsCollecting (text : List ℕ) (g : Collecting) : Type 0 where
+  pub parts : json.Members
+  pub members : Members
+  pub within : g.at ≤ length text
+  pub utf8 : IsUtf8 (take g.at text)
+  pub value : whole_value max_depth (tokens text) ≡ with_before parts (whole_value max_depth (tokens (object_behind g.at text)))
+  pub read : of_members parts no_members ≡ Some members
+  pub outcomes : AreOutcomes g.outcomes.entries members
+  pub reading : IsReadingAt text g.at g.reading
+
+-- and so they were, or all were
+abbrev pub IsCollectedOn : List ℕ → Collected → Type 0
+IsCollectedOn text (Collected.More g) = IsCollecting text g
+IsCollectedOn text (Collected.All outcomes) = (ms : Members) × (json_of text ≡ Some (object ms)) × AreOutcomes outcomes.entries ms
+
+-- more of the text was read
+abbrev pub IsFurther : Collecting → Collected → Type 0
+IsFurther g (Collected.More next) = place_reached g.at g.reading < place_reached next.at next.reading
+IsFurther g (Collected.All outcomes) = ⊤

@@ -1,0 +1,102 @@
+-- Members of children JSON that are read a piece of their text at a time; for private clauses.
+use Rattle.std.specs.Prelude.{◌≡◌, ⊤, ℕ, ◌+◌, ◌-◌, ◌<◌, ◌≤◌, nat_lt, List, [], ◌∷◌, ◌++◌, length, take, drop, Bool, true, false, Option, Some, None, IfSome}
+use Rattle.std.specs.Str.{IsUtf8}
+use Rattle.json.specs.Token.{Token}
+use Rattle.json.specs.Lex.{Mode, between, tokens}
+use Rattle.json_members.specs.MemberCuts.{IsMemberCutFrom, IsMemberCut}
+use Rattle.json_seams.specs.Modes.{mode_after, is_outside}
+use Rattle.dir_codec.specs.Collected.{object_behind, IsPartUpTo, IsPart, AreMembersRead}
+use Rattle.dir_codec.specs.MemberReader.{IsReading}
+use Rattle.dir_codec.specs.Spelled.{data_of}
+use Rattle.dir_codec.specs.TokenPieces.{tokens_behind}
+use Rattle.dir_codec.specs.declared.cutting.Behind.{Behind}
+use Rattle.dir_codec.specs.declared.cutting.Looked.{Looked}
+use Rattle.dir_codec.specs.declared.cutting.Part.{Part}
+use Rattle.dir_codec.specs.declared.cutting.Piece.{Piece}
+use Rattle.dir_codec.specs.declared.fault.DirFault.{DirFault}
+use Rattle.dir_codec.specs.declared.fault.DirFault.TheVariants.{NotJson}
+use Rattle.dir_codec.specs.declared.piecewise.ReadOn.{ReadOn}
+use Rattle.dir_codec.specs.declared.piecewise.Reading.{Reading}
+
+-- ---- how far the text was looked through
+
+-- a scanner that stands there finds the cuts of a text behind its first bytes
+pub record FindsBehind (text : List ℕ) (mode : Mode) (depth : ℕ) : Type 0 where
+  pub bounded : depth ≤ length text
+  pub cuts : (bytes : List ℕ) (at : ℕ) → IsMemberCutFrom mode depth bytes at → IsMemberCut (text ++ bytes) (length text + at)
+
+-- what stands at a place up to another, behind a brace
+abbrev pub read_to : ℕ → ℕ → List ℕ → List ℕ
+read_to at end json = 123 ∷ take (end - at) (drop at json)
+
+-- the text has what stands there, and the scanner finds the cuts behind it
+pub record IsReadTo (json : List ℕ) (at : ℕ) (end : ℕ) (text : List ℕ) (mode : Mode) (depth : ℕ) : Type 0 where
+  pub ahead : at ≤ end
+  pub within : end ≤ length json
+  pub same : text ≡ read_to at end json
+  pub finds : FindsBehind text mode depth
+
+abbrev pub IsLooked : List ℕ → Looked → Type 0
+IsLooked json looked = IsReadTo json looked.at looked.end (read_to looked.at looked.end json) looked.scanner.mode looked.scanner.depth
+
+-- ---- the next piece
+
+-- it ends at a comma outside strings
+pub record IsToComma (json : List ℕ) (looked : Looked) (text : List ℕ) (next : Looked) : Type 0 where
+  pub same : next.at ≡ looked.at
+  pub ahead : looked.end < next.end
+  pub bytes : take (next.end - looked.end) (drop looked.end json) ≡ text ++ 44 ∷ []
+  pub outside : is_outside (mode_after between text) ≡ true
+  pub looked_on : IsLooked json next
+
+-- or with it a part ends
+abbrev pub IsPieceTo : List ℕ → Looked → List ℕ → Behind → Type 0
+IsPieceTo json looked text (Behind.Comma next) = IsToComma json looked text next
+IsPieceTo json looked text (Behind.End next) = IsPartUpTo json looked.at (read_to looked.at looked.end json ++ text) next × IfSome next (λ n. looked.end < n)
+
+abbrev pub IsPieceBehind : List ℕ → Looked → Piece → Type 0
+IsPieceBehind json looked piece = IsPieceTo json looked piece.text.items piece.behind
+
+abbrev pub is_inner_comma : Behind → Bool
+is_inner_comma (Behind.Comma next) = true
+is_inner_comma (Behind.End next) = false
+
+-- ---- how far members are read
+
+-- What stands at a place up to another was read, as the beginning of an object: nothing, or what ends with a value and a
+-- comma.
+pub record IsReadSoFar (json : List ℕ) (at : ℕ) (reading : Reading) : Type 0 where
+  pub read : List Token
+  pub begun : reading.looked.at ≡ at
+  pub looked : IsLooked json reading.looked
+  pub before : IsUtf8 (take at json)
+  pub utf8 : IsUtf8 (read_to at reading.looked.end json)
+  pub reader : IsReading read reading.reader
+  pub joined : (rest : List ℕ) → tokens (read_to at reading.looked.end json ++ rest) ≡ read ++ tokens_behind (nat_lt at reading.looked.end) (tokens rest)
+
+-- the reading goes on, or the members of a part were read
+abbrev pub IsReadOn : List ℕ → ℕ → ℕ → ReadOn → Type 0
+IsReadOn json at end (ReadOn.More next) = IsReadSoFar json at next × (end < next.looked.end)
+IsReadOn json at end (ReadOn.All found next) =
+    (text : List ℕ) × IsPartUpTo json at text next × IsUtf8 text × AreMembersRead found.items (tokens text) × IfSome next (λ n. end < n)
+
+-- why what stands there makes no object
+abbrev pub IsRefusedBehind : List ℕ → ℕ → DirFault → Type 0
+IsRefusedBehind json at fault = (fault ≡ NotJson) × (IsUtf8 json → data_of (tokens (object_behind at json)) ≡ None)
+
+-- what is read of a part, or why nothing is, wherever it stands
+abbrev pub IsPartRead : Part → ReadOn → Type 0
+IsPartRead part on = (json : List ℕ) (at end : ℕ) → IsPart json at part → IfSome part.next (λ next. end < next) → IsReadOn json at end on
+
+abbrev pub IsPartRefused : Part → DirFault → Type 0
+IsPartRefused part fault = (json : List ℕ) (at : ℕ) → at ≤ length json → IsUtf8 (take at json) → IsPart json at part → IsRefusedBehind json at fault
+
+-- what was read of members that are under way, if some are
+abbrev pub IsReadingAt : List ℕ → ℕ → Option Reading → Type 0
+IsReadingAt json at None = ⊤
+IsReadingAt json at (Some reading) = IsReadSoFar json at reading
+
+-- the place up to which was read
+abbrev pub place_reached : ℕ → Option Reading → ℕ
+place_reached at None = at
+place_reached at (Some reading) = reading.looked.end

@@ -1,0 +1,176 @@
+//! Where children JSON is cut.
+ghost use Rattle.std.specs.Prelude.{◌≡◌, ◌≢◌, ◌<◌, ◌≤◌, ℕ, List, Some, None, length, IfOk, IfSome};
+ghost use Rattle.json.specs.Token.{begin_object};
+ghost use Rattle.json.specs.Lex.{tokens};
+ghost use Rattle.json.specs.Word.{is_space};
+ghost use Rattle.json_members.specs.MemberCuts.{first_token};
+ghost use Rattle.dir_codec.specs.Collected.{IsBehindBrace, IsPart};
+ghost use Rattle.dir_codec.specs.Piecewise.{IsLooked, IsPieceBehind};
+
+use json_members::MemberScanner;
+use json_seams::Scanner;
+use std::alloc::{AllocError, Global};
+
+/// How many bytes of a text one step reads, or looks through for a cut at a time.
+pub(crate) const STEP_BYTES: usize = 65_536;
+
+/// The place behind the brace that opens the object which a text begins with. None where it begins with no object.
+pub(crate) fn behind_brace(json: &[u8]) -> Option<usize>
+    ensures some { IfSome result (λ at. IsBehindBrace json.now at) }
+    ensures none { result ≡ None → first_token (tokens json.now) ≢ Some begin_object }
+{
+    json_members::laws::objects_begin_with_a_brace();
+    for (i, byte) in json.iter().enumerate() {
+        if *byte == b'{' {
+            return Some(i + 1);
+        }
+        if !is_space(*byte) {
+            return None;
+        }
+    }
+    None
+}
+
+/// White space between tokens.
+fn is_space(byte: u8) -> bool
+    ensures { result ≡ is_space byte }
+{
+    matches!(byte, b' ' | b'\t' | b'\n' | b'\r')
+}
+
+/// Some members of an object, as the text of an object.
+#[derive(Drop)]
+pub(crate) struct Part {
+    /// The text, in braces.
+    pub(crate) text: Vec<u8>,
+    /// The place behind the comma that it ends at. None where it is the rest.
+    pub(crate) next: Option<usize>,
+}
+
+/// What was looked through of children JSON.
+#[derive(Drop)]
+pub(crate) struct Looked {
+    /// The place behind the opening brace or the comma between members that it begins at.
+    pub(crate) at: usize,
+    /// The place that it ends at: that one, or one behind a comma outside strings.
+    pub(crate) end: usize,
+    /// What is open there.
+    scanner: MemberScanner,
+}
+
+impl Looked {
+    /// Nothing yet.
+    pub(crate) fn new(at: usize) -> Looked
+        ensures at { result.at ≡ at }
+        ensures end { result.end ≡ at }
+        ensures looked { (json : List ℕ) → at ≤ length json → IsLooked json result }
+    {
+        json_members::laws::member_cuts_are_found_in_parts();
+        let mut scanner = MemberScanner::new();
+        scanner.last_cut(b"{");
+        Looked {
+            at,
+            end: at,
+            scanner,
+        }
+    }
+}
+
+/// The members from where the looking began: up to the last comma between members in the first 65,536 bytes behind what was
+/// looked through that have one, or the rest.
+pub(crate) fn next_part(alloc: Global, json: &[u8], looked: &Looked) -> Result<Part, AllocError>
+    requires { IsLooked json.now looked.now }
+    ensures part { IfOk result (λ part. IsPart json.now looked.now.at part) }
+    ensures ahead { IfOk result (λ part. IfSome part.next (λ next. looked.now.end < next)) }
+{
+    json_members::laws::member_cuts_are_found_in_parts();
+    let at = looked.at;
+    let mut end = looked.end;
+    let mut scanner = looked.scanner;
+    let mut text = Vec::new(alloc);
+    text.push(b'{')?;
+    text.extend_from_slice(&json[at..end])?;
+    'windows: while end < json.len() {
+        let start = end;
+        end = json.len().min(start.saturating_add(STEP_BYTES));
+        let window = &json[start..end];
+        let cut = scanner.last_cut(window);
+        if let Some(cut) = cut {
+            text.extend_from_slice(&window[..cut])?;
+            text.push(b'}')?;
+            return Ok(Part {
+                text,
+                next: Some(start + cut + 1),
+            });
+        }
+        text.extend_from_slice(window)?;
+    }
+    Ok(Part { text, next: None })
+}
+
+/// A piece of the text of members.
+#[derive(Drop)]
+pub(crate) struct Piece {
+    /// The piece, with a closing brace in place of a comma between members.
+    pub(crate) text: Vec<u8>,
+    /// What stands behind it.
+    pub(crate) behind: Behind,
+}
+
+/// What stands behind a piece.
+#[derive(Drop)]
+pub(crate) enum Behind {
+    /// A comma inside a member, and what was looked through with it.
+    Comma(Looked),
+    /// A comma between members, and the place behind it. None where it is the last piece of all.
+    End(Option<usize>),
+}
+
+/// The piece that stands behind what was looked through: up to the last comma between members in the next 65,536 bytes, or
+/// else to their last comma outside strings, or to those of the first bytes behind them that have some, or the rest.
+pub(crate) fn next_piece(alloc: Global, json: &[u8], looked: &Looked) -> Result<Piece, AllocError>
+    requires { IsLooked json.now looked.now }
+    ensures { IfOk result (λ piece. IsPieceBehind json.now looked.now piece) }
+{
+    json_members::laws::member_cuts_are_found_in_parts();
+    json_seams::laws::cuts_are_found_in_parts();
+    let at = looked.at;
+    let mut end = looked.end;
+    let mut scanner = looked.scanner;
+    let mut commas = Scanner::new();
+    let mut text = Vec::new(alloc);
+    'windows: while end < json.len() {
+        let start = end;
+        end = json.len().min(start.saturating_add(STEP_BYTES));
+        let window = &json[start..end];
+        let mut before = scanner;
+        let last = scanner.last_cut(window);
+        if let Some(last) = last {
+            text.extend_from_slice(&window[..last])?;
+            text.push(b'}')?;
+            return Ok(Piece {
+                text,
+                behind: Behind::End(Some(start + last + 1)),
+            });
+        }
+        let comma = commas.last_cut(window);
+        if let Some(comma) = comma {
+            before.last_cut(&window[..comma + 1]);
+            text.extend_from_slice(&window[..comma])?;
+            let next = Looked {
+                at,
+                end: start + comma + 1,
+                scanner: before,
+            };
+            return Ok(Piece {
+                text,
+                behind: Behind::Comma(next),
+            });
+        }
+        text.extend_from_slice(window)?;
+    }
+    Ok(Piece {
+        text,
+        behind: Behind::End(None),
+    })
+}

@@ -1,0 +1,151 @@
+//! Judging long metadata, some of their text at a time.
+ghost use Rattle.std.specs.Prelude.{◌≡◌, ◌-◌, ◌≤◌, ℕ, List, drop, length, slice_index, ◌==◌, IfOk, IfSome, is_some, option_and_then};
+ghost use Rattle.json.specs.Lex.{tokens};
+ghost use Rattle.json_seams.specs.Cuts.{IsCutComma};
+ghost use Rattle.serde_json.specs.Read.{read};
+ghost use Rattle.dir_codec.specs.Metadata.{if_metadata, spelling_of};
+ghost use Rattle.dir_codec.specs.Speller.{IsSpelling};
+ghost use Rattle.dir_codec.specs.Judging.{IsJudging, IsJudgedOn, IsJudgedBehind, IsJudgedSoFar, judged_bytes};
+
+use crate::cutting::STEP_BYTES;
+use crate::fault::is_memory;
+use crate::metadata::read_metadata;
+use crate::speller::Speller;
+use crate::spelling::{Keys, Stop};
+use crate::token_pieces::push_tokens;
+use json_seams::Scanner;
+use std::alloc::{AllocError, Global};
+
+/// Metadata that are judged, some of their text at a time.
+#[derive(Debug, Drop)]
+pub(crate) struct Judging {
+    /// How many bytes of the text were read: none, or those up to a value and a comma.
+    at: usize,
+    /// The spelling of what was read.
+    speller: Speller,
+}
+
+/// How far the judging of metadata is.
+#[derive(Drop)]
+pub(crate) enum Judged {
+    /// More of the text is to be read.
+    More(Judging),
+    /// Whether the text is metadata.
+    Done(bool),
+}
+
+/// With more of a text judged: long ones by some 65,536 bytes, short ones whole. The text has to be the same each time.
+pub(crate) fn judge(
+    alloc: Global,
+    judging: Option<Judging>,
+    text: &[u8],
+) -> Result<Judged, AllocError>
+    ensures judged { IfOk result (λ judged. IsJudgedSoFar text.now judging → IsJudgedOn text.now judged) }
+    ensures behind { IfOk result (λ judged. IsJudgedBehind text.now (judged_bytes judging) judged) }
+{
+    match judging {
+        Some(judging) => judging.step(alloc, text),
+        None => {
+            if text.len() > STEP_BYTES {
+                Judging::new(alloc).step(alloc, text)
+            } else {
+                Ok(Judged::Done(are_metadata(alloc, text, Keys::Rising)?))
+            }
+        }
+    }
+}
+
+impl Judging {
+    /// Before the first byte.
+    fn new(alloc: Global) -> Judging
+        ensures { (text : List ℕ) → IsJudging text result }
+    {
+        Judging {
+            at: 0,
+            speller: Speller::new(alloc),
+        }
+    }
+
+    /// With one part more read: up to the last comma outside strings in the next 65,536 bytes that have one, or the rest.
+    /// Where a key isn't above the one before it in its object, all is read at once.
+    fn step(self, alloc: Global, text: &[u8]) -> Result<Judged, AllocError>
+        ensures judged { IfOk result (λ judged. IsJudging text.now self → IsJudgedOn text.now judged) }
+        ensures behind { IfOk result (λ judged. IsJudgedBehind text.now self.at judged) }
+    {
+        json_seams::laws::a_cut_text_is_joined();
+        let Judging { at, mut speller } = self;
+        if at > text.len() {
+            return Ok(Judged::Done(false));
+        }
+        let cut = next_cut(text, at);
+        let end = cut.unwrap_or(text.len());
+        let Ok(part) = str::from_utf8(&text[at..end]) else {
+            return Ok(Judged::Done(false));
+        };
+        match push_tokens(alloc, &mut speller, part, at > 0, cut.is_some()) {
+            Ok(()) => match cut {
+                Some(cut) => Ok(Judged::More(Judging {
+                    at: cut + 1,
+                    speller,
+                })),
+                None => Ok(Judged::Done(spells_metadata(speller))),
+            },
+            Err(Stop::NotJson) => Ok(Judged::Done(false)),
+            Err(Stop::NotRising) => Ok(Judged::Done(are_metadata(alloc, text, Keys::Any)?)),
+            Err(Stop::NoMemory) => Err(AllocError),
+        }
+    }
+}
+
+/// Whether a text is metadata, judged at once, with a guess of how keys come in it.
+fn are_metadata(alloc: Global, text: &[u8], keys: Keys) -> Result<bool, AllocError>
+    ensures { IfOk result (λ is. is ≡ is_some (spelling_of text.now)) }
+{
+    match read_metadata(alloc, text, keys) {
+        Ok(_) => Ok(true),
+        Err(fault) => {
+            if is_memory(&fault) {
+                Err(AllocError)
+            } else {
+                Ok(false)
+            }
+        }
+    }
+}
+
+/// The place of the comma that the part at a place ends at. None where the part is the rest.
+fn next_cut(text: &[u8], at: usize) -> Option<usize>
+    requires { at ≤ length text.now }
+    ensures { IfSome result (λ cut. (at ≤ cut) × IsCutComma (drop at text.now) (cut - at)) }
+{
+    json_seams::laws::cuts_are_found_in_parts();
+    let mut scanner = Scanner::new();
+    let mut end = at;
+    'windows: while end < text.len() {
+        let start = end;
+        end = text.len().min(start.saturating_add(STEP_BYTES));
+        let cut = scanner.last_cut(&text[start..end]);
+        if let Some(cut) = cut {
+            return Some(start + cut);
+        }
+    }
+    None
+}
+
+/// Whether what was spelled is metadata.
+fn spells_metadata(speller: Speller) -> bool
+    ensures { (text : List ℕ) → IsSpelling (tokens text) speller
+        → result ≡ is_some (option_and_then if_metadata (read text)) }
+{
+    match speller.finish() {
+        None => false,
+        Some(spelled) => begins_object(spelled.text.as_slice()) && spelled.extent.fits(),
+    }
+}
+
+/// Whether a spelling is that of an object.
+fn begins_object(text: &[u8]) -> bool
+    ensures { result ≡ (slice_index text.now 0 == 123) }
+{
+    !text.is_empty() && text[0] == b'{'
+}
