@@ -42,12 +42,16 @@ impl Awaited {
 
     /// What is copied next of a body and what follows it.
     pub(crate) fn next_piece<'a>(&self, body: &'a [u8], next: &'a [u8]) -> &'a [u8] {
-        let at = self.bytes.len();
-        if at < body.len() {
-            first_of(&body[at..])
-        } else {
-            first_of(&next[next.len().min(at - body.len())..])
-        }
+        next_piece(self.bytes.len(), body, next)
+    }
+}
+
+/// What is copied next of a body and what follows it, where so many bytes were copied.
+pub(crate) fn next_piece<'a>(copied: usize, body: &'a [u8], next: &'a [u8]) -> &'a [u8] {
+    if copied < body.len() {
+        first_of(&body[copied..])
+    } else {
+        first_of(&next[next.len().min(copied - body.len())..])
     }
 }
 

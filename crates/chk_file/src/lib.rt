@@ -12,6 +12,8 @@ mod uploader;
 mod encode;
 /// Uploads that are prepared.
 mod preparation;
+/// Directories that are prepared: the text of the directory that children JSON names.
+mod directory_ahead;
 /// Uploads that are awaited.
 mod awaited;
 /// Bytes that are copied and hashed.
@@ -89,6 +91,7 @@ pub mod laws;
 
 pub use cache::Cache;
 pub use checker::check;
+pub use directory_ahead::directory_text_of;
 pub use download::Download;
 pub use fault::ReadFault;
 pub use gathering::lends;

@@ -54,9 +54,12 @@ pub fn read_counted<S: Store>(
     ensures missing_reached { IsHonest grid.old → IsErrOf result ReadFault.NotEnoughShares →
         OfReached grid.old grid.new (index_of fields.now.key) (λ row. fit row fields.now ≡ None) }
 {
-    match counted_now(grid, cache, fields) {
-        Some(counted) => Ok(counted),
-        None => count_anew(alloc, grid, cache, fields),
+    if let Some(counted) = counted_now(grid, cache, fields) {
+        return Ok(counted);
+    }
+    match read(alloc, grid, cache, fields) {
+        Ok(bytes) => Ok(Counted::new(alloc, RcSlice::from_vec(bytes)?)?),
+        Err(fault) => Err(fault),
     }
 }
 
@@ -88,35 +91,6 @@ fn take_counted(cache: &mut Cache, fields: &ReadFields, stamp: u64) -> Option<Co
             cache.put_listed(listed);
             None
         }
-    }
-}
-
-/// The bytes that are read now, with their children counted.
-fn count_anew<S: Store>(
-    alloc: Global,
-    grid: &mut Grid<S>,
-    cache: &mut Cache,
-    fields: &ReadFields,
-) -> Result<Counted, ReadFault>
-    ensures leaves { Leaves grid.old grid.new }
-    ensures unchanged { IsHonest grid.old → IsUnchanged grid.old grid.new }
-    ensures fresh { IsCacheCurrent cache.old grid.old → IsCacheCurrent cache.new grid.new }
-    ensures bound { IfOk result (λ counted. Bound fields.now counted) }
-    ensures fit { IsCacheCurrent cache.old grid.old → IsHonest grid.old → NoneFailed grid.old grid.new →
-        IfOk result (λ counted. fit (table_of (stood grid.old) (index_of fields.now.key)) fields.now
-        ≡ Some counted) }
-    ensures missing { IsHonest grid.old → NoneFailed grid.old grid.new →
-        IsErrOf result ReadFault.NotEnoughShares →
-        fit (table_of (stood grid.old) (index_of fields.now.key)) fields.now ≡ None }
-    ensures fit_reached { IsCacheCurrent cache.old grid.old → IsHonest grid.old →
-        IfOk result (λ counted. OfReached grid.old grid.new
-        (index_of fields.now.key) (λ row. fit row fields.now ≡ Some counted)) }
-    ensures missing_reached { IsHonest grid.old → IsErrOf result ReadFault.NotEnoughShares →
-        OfReached grid.old grid.new (index_of fields.now.key) (λ row. fit row fields.now ≡ None) }
-{
-    match read(alloc, grid, cache, fields) {
-        Ok(bytes) => Ok(Counted::new(alloc, RcSlice::from_vec(bytes)?)?),
-        Err(fault) => Err(fault),
     }
 }
 

@@ -7,10 +7,10 @@ ghost use Rattle.chk_file.specs.Cached.{IsCacheCurrent, IsWithin};
 
 use crate::holds::{Holds, Prospect};
 use crate::parameters::Parameters;
-use caps::{Cap, ReadFields, VerifyFields, weaken};
+use caps::{Cap, VerifyCap, weaken};
 use chk_file::{Cache, lends};
 use grid::Grid;
-use http_edge::{Awaited, Conn, Head, LastChunks};
+use http_edge::{Conn, Head, LastChunks};
 use octets::Bytes;
 use path_walk::{Ahead, Names, walk_ahead};
 use share_store::Store;
@@ -115,6 +115,16 @@ fn let_go_of_read(cache: &mut Cache)
 pub struct WholeUpload<'a> {
     kept: &'a [u8],
     rest: Rest<'a>,
+    stored: Stored,
+}
+
+/// What is stored.
+#[derive(Drop)]
+enum Stored {
+    /// The body, as a file.
+    File,
+    /// The text of the directory whose children the body names, as JSON.
+    Directory,
 }
 
 /// The rest of a body.
@@ -126,57 +136,91 @@ enum Rest<'a> {
     Read(Vec<u8>),
 }
 
-/// The upload that these bytes complete, if it is one that is prepared: a file with a body of 262,144 bytes at least, whose
-/// length its head tells or which comes in chunks. None where memory is refused.
-pub fn whole_upload<'a>(alloc: Global, conn: &'a Conn, next: &'a [u8]) -> Option<WholeUpload<'a>> {
-    if conn.kept().saturating_add(next.len()) < LEAST {
-        return None;
-    }
-    match conn.under_way() {
-        Some((awaited, kept)) => of_length(alloc, awaited, kept, next),
-        None => in_chunks(alloc, conn, next),
+impl Rest<'_> {
+    /// Its bytes.
+    fn as_slice(&self) -> &[u8] {
+        match self {
+            Rest::Lent(bytes) => bytes,
+            Rest::Read(bytes) => bytes.as_slice(),
+        }
     }
 }
 
-/// The same of a body whose length its head tells.
-fn of_length<'a>(
+/// The request that a connection's next bytes complete first, where it is one that is prepared.
+#[derive(Drop)]
+pub enum Foreseen<'a> {
+    /// A file is uploaded, or a directory made, with a body of 262,144 bytes at least.
+    Upload(WholeUpload<'a>),
+    /// It is looked at what is stored.
+    Read(Asked),
+}
+
+/// The request that these bytes complete first: the one whose body is under way, or one whose head they complete. However its
+/// bytes were cut, this is the request that the gateway will carry out next. None where none is complete, where it isn't
+/// prepared, or where memory is refused.
+pub fn foresee<'a>(alloc: Global, conn: &'a Conn, next: &'a [u8]) -> Option<Foreseen<'a>> {
+    if let Some((awaited, kept)) = conn.under_way() {
+        let rest = next.get(..awaited.length.saturating_sub(kept.len()))?;
+        return foreseen_of(alloc, &awaited.head, kept, Rest::Lent(rest));
+    }
+    if let Some(last) = conn.last_chunks(next) {
+        let LastChunks {
+            request,
+            content,
+            added,
+        } = last;
+        return foreseen_of(alloc, &request.head, content, Rest::Read(added));
+    }
+    let head = conn.first_head(next).ok()??;
+    // Of a body that comes whole with its head nothing is prepared: it is short, where pieces are.
+    foreseen_of(alloc, &head, &[], Rest::Lent(&[]))
+}
+
+/// The same of a request with this head and this body.
+fn foreseen_of<'a>(
     alloc: Global,
-    awaited: &Awaited,
+    head: &Head,
     kept: &'a [u8],
-    next: &'a [u8],
-) -> Option<WholeUpload<'a>> {
-    if awaited.length < LEAST {
-        return None;
+    rest: Rest<'a>,
+) -> Option<Foreseen<'a>> {
+    match asked_by(alloc, head)? {
+        Request::Put(_) => whole_upload(kept, rest, Stored::File),
+        Request::Mkdir(_) => whole_upload(kept, rest, Stored::Directory),
+        Request::Get {
+            cap,
+            names,
+            json,
+            head_only,
+            range: _,
+        } => Some(Foreseen::Read(Asked {
+            cap,
+            names,
+            wanted: if json {
+                Wanted::Listing
+            } else {
+                Wanted::Content
+            },
+            head_only,
+        })),
+        Request::Check { cap, names, verify } => Some(Foreseen::Read(Asked {
+            cap,
+            names,
+            wanted: if verify {
+                Wanted::Verification
+            } else {
+                Wanted::Nothing
+            },
+            head_only: false,
+        })),
     }
-    let rest = next.get(..awaited.length.saturating_sub(kept.len()))?;
-    if !is_upload(alloc, &awaited.head) {
-        return None;
-    }
-    Some(WholeUpload {
-        kept,
-        rest: Rest::Lent(rest),
-    })
 }
 
-/// The same of a body that comes in chunks.
-fn in_chunks<'a>(alloc: Global, conn: &'a Conn, next: &[u8]) -> Option<WholeUpload<'a>> {
-    let LastChunks {
-        request,
-        content,
-        added,
-    } = conn.last_chunks(next)?;
-    if content.len().saturating_add(added.len()) < LEAST || !is_upload(alloc, &request.head) {
+/// An upload with this body, where it is one that is prepared.
+fn whole_upload<'a>(kept: &'a [u8], rest: Rest<'a>, stored: Stored) -> Option<Foreseen<'a>> {
+    if kept.len().saturating_add(rest.as_slice().len()) < LEAST {
         return None;
     }
-    Some(WholeUpload {
-        kept: content,
-        rest: Rest::Read(added),
-    })
-}
-
-/// Whether a request with this head asks for its body to be stored as a file.
-fn is_upload(alloc: Global, head: &Head) -> bool {
-    matches!(asked_by(alloc, head), Some(Request::Put(_)))
+    Some(Foreseen::Upload(WholeUpload { kept, rest, stored }))
 }
 
 /// What a request with this head asks for, by the very reading that carries it out. Its fields and its body, which decide
@@ -205,12 +249,12 @@ pub fn prepare_upload(
 ) -> bool
     ensures { cache.new ≡ cache.old }
 {
-    let rest = match &upload.rest {
-        Rest::Lent(rest) => rest,
-        Rest::Read(rest) => rest.as_slice(),
-    };
     let (k, n) = (parameters.k(), parameters.n());
-    cache.prepare(alloc, k, n, secret, upload.kept, rest)
+    let rest = upload.rest.as_slice();
+    match upload.stored {
+        Stored::File => cache.prepare(alloc, k, n, secret, upload.kept, rest),
+        Stored::Directory => cache.prepare_directory(alloc, k, n, secret, upload.kept, rest),
+    }
 }
 
 /// What a request looks at: what names lead to from a cap, and what is done with that.
@@ -234,55 +278,6 @@ enum Wanted {
     Verification,
     /// A check that looks at no share.
     Nothing,
-}
-
-/// What the request asks for that these bytes complete first, where it looks at what is stored. However its bytes were cut,
-/// this is the request that the gateway will carry out next. None where memory is refused.
-pub fn asked_for(alloc: Global, conn: &Conn, next: &[u8]) -> Option<Asked> {
-    match next_request(alloc, conn, next)? {
-        Request::Get {
-            cap,
-            names,
-            json,
-            head_only,
-            range: _,
-        } => Some(Asked {
-            cap,
-            names,
-            wanted: if json {
-                Wanted::Listing
-            } else {
-                Wanted::Content
-            },
-            head_only,
-        }),
-        Request::Check { cap, names, verify } => Some(Asked {
-            cap,
-            names,
-            wanted: if verify {
-                Wanted::Verification
-            } else {
-                Wanted::Nothing
-            },
-            head_only: false,
-        }),
-        Request::Put(_) | Request::Mkdir(_) => None,
-    }
-}
-
-/// The request that these bytes complete first: the one whose body is under way, or one without a body.
-fn next_request(alloc: Global, conn: &Conn, next: &[u8]) -> Option<Request> {
-    if let Some((awaited, kept)) = conn.under_way() {
-        if kept.len().saturating_add(next.len()) < awaited.length {
-            return None;
-        }
-        return asked_by(alloc, &awaited.head);
-    }
-    if let Some(last) = conn.last_chunks(next) {
-        return asked_by(alloc, &last.request.head);
-    }
-    let head = conn.first_head(next).ok()??;
-    asked_by(alloc, &head)
 }
 
 /// Takes a step of the work that such a request needs, and says how far it is: names are looked up in directories, and then
@@ -399,7 +394,7 @@ fn is_lent<S: Store>(grid: &Grid<S>, end: &Cap) -> bool {
     }
 }
 
-/// The same of what the names lead to: whether steps are left.
+/// The same of what the names lead to: whether steps are left, of its own or of another's that come first.
 fn prepare_end<S: Store>(
     alloc: Global,
     end: &Cap,
@@ -414,65 +409,20 @@ fn prepare_end<S: Store>(
 {
     match (wanted, end) {
         (Wanted::Verification, _) => match weaken(end) {
-            Some(verify_cap) => { check_ahead(alloc, &verify_cap.fields, is_its_turn, grid, cache) }
+            Some(VerifyCap { fields, .. }) => {
+                cache.can_check_ahead(&fields)
+                    && (!is_its_turn || cache.check_ahead(alloc, grid, &fields))
+            }
             None => false,
         },
-        (Wanted::Content, Cap::Chk(fields)) => read_ahead(alloc, fields, is_its_turn, grid, cache),
+        (Wanted::Content, Cap::Chk(fields)) => {
+            cache.can_read_ahead(grid, fields)
+                && (!is_its_turn || cache.read_ahead(alloc, grid, fields))
+        }
         (Wanted::Listing, Cap::DirChk(fields)) => {
-            list_ahead(alloc, fields, is_its_turn, grid, cache)
+            cache.can_list_ahead(grid, fields)
+                && (!is_its_turn || cache.list_ahead(alloc, grid, fields))
         }
         _ => false,
     }
-}
-
-/// The same of the listing of the directory with these fields.
-fn list_ahead<S: Store>(
-    alloc: Global,
-    fields: &ReadFields,
-    is_its_turn: bool,
-    grid: &mut Grid<S>,
-    cache: &mut Cache,
-) -> bool
-    ensures leaves { Leaves grid.old grid.new }
-    ensures unchanged { IsHonest grid.old → IsUnchanged grid.old grid.new }
-    ensures fresh { IsCacheCurrent cache.old grid.old → IsCacheCurrent cache.new grid.new }
-{
-    if !cache.can_list_ahead(grid, fields) {
-        return false;
-    }
-    !is_its_turn || cache.list_ahead(alloc, grid, fields)
-}
-
-/// The same of the reading of the file with these fields.
-fn read_ahead<S: Store>(
-    alloc: Global,
-    fields: &ReadFields,
-    is_its_turn: bool,
-    grid: &mut Grid<S>,
-    cache: &mut Cache,
-) -> bool
-    ensures leaves { Leaves grid.old grid.new }
-    ensures unchanged { IsHonest grid.old → IsUnchanged grid.old grid.new }
-    ensures fresh { IsCacheCurrent cache.old grid.old → IsCacheCurrent cache.new grid.new }
-{
-    if !cache.can_read_ahead(grid, fields) {
-        return false;
-    }
-    !is_its_turn || cache.read_ahead(alloc, grid, fields)
-}
-
-/// The same of a check of the file with these fields.
-fn check_ahead<S: Store>(
-    alloc: Global,
-    fields: &VerifyFields,
-    is_its_turn: bool,
-    grid: &Grid<S>,
-    cache: &mut Cache,
-) -> bool
-    ensures { cache.new ≡ cache.old }
-{
-    if !cache.can_check_ahead(fields) {
-        return false;
-    }
-    !is_its_turn || cache.check_ahead(alloc, grid, fields)
 }

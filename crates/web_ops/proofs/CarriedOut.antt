@@ -1,6 +1,6 @@
 -- Calls that store an upload, and requests.
 use Rattle.std.proofs.Common.{Fits, w8, get_or, ◌≡◌, ◌+◌, ◌<◌, ◌≤◌, ℕ, List, length, Bool, true, false, cond, Option, Some, None, Result, Ok, Err, IfOk, OnOk, refl, sym, ap, subst, ◌∙◌, arith, inl}
-use Rattle.std.specs.Prelude.{◌↔◌, ⊤, IsTrue, nat_lt}
+use Rattle.std.specs.Prelude.{◌↔◌, ⊤, IsTrue, nat_lt, option_map}
 use Rattle.std.specs.Result.{IsOkUnless, IsErrAnd}
 use Rattle.std.proofs.lemmas.Bool.Decides.{nat_tests}
 use Rattle.std.proofs.lemmas.List.{take_all, get_or_default}
@@ -24,6 +24,7 @@ use Rattle.web_ops.specs.declared.reply.Reply.{Reply}
 use Rattle.web_ops.specs.declared.reply.Status.TheVariants as status
 use Rattle.dir_codec.specs.declared.entry.Entry.{Entry}
 use Rattle.dir_codec.specs.Children.{made}
+use Rattle.dir_codec.specs.TextMakers.{text_made}
 use Rattle.dir_codec.specs.DirectoryText.{directory_text}
 use Rattle.web_request.specs.declared.request.Request.TheVariants.{Mkdir}
 use Rattle.web_ops.specs.Encoding.{Encoding, upload_of}
@@ -245,11 +246,17 @@ directory_stored e json items entries r old new some text done =
     subst (λ o. IsCarriedOut ⊤ (made_upload e o) (IsMade e o) (λ look. made_reply e o) r old new) (sym some)
     (subst (λ t. IsCarriedOut ⊤ (if_long (upload_of e t)) (IsPutReply (as_directory (upload_cap (upload_of e t)))) (λ look. cap_reply (as_directory (upload_cap (upload_of e t)))) r old new) text done)
 
-pub no_directory : (e : Encoding) (json : List ℕ) (r : Result Reply AllocError) (g : GridState) → made json ≡ None → IfOk r (λ x. x ≡ bad_children)
-    → IsPerformed e (Mkdir json) r g g
-no_directory e json r g none is =
-    subst (λ o. IsCarriedOut ⊤ (made_upload e o) (IsMade e o) (λ look. made_reply e o) r g g) (sym none)
-    (nothing_stored _ _ _ r g g (unasked _ _ _ bad_children r g is refl (λ look. refl)))
+-- the same, by the text
+stored_at : (e : Encoding) (json items : List ℕ) (made_there : Option (List Entry)) (r : Result Reply AllocError) (old new : GridState) → made json ≡ made_there → Some items ≡ option_map directory_text made_there
+    → IsCarriedOut ⊤ (if_long (upload_of e items)) (IsPutReply (as_directory (upload_cap (upload_of e items)))) (λ look. cap_reply (as_directory (upload_cap (upload_of e items)))) r old new
+    → IsPerformed e (Mkdir json) r old new
+stored_at e json items (Some entries) r old new is text done = directory_stored e json items entries r old new is (let same : items ≡ directory_text entries = cc in same) done
+stored_at e json items None r old new is text done = absurd cc
+
+pub text_stored : (e : Encoding) (json items : List ℕ) (r : Result Reply AllocError) (old new : GridState) → Some items ≡ text_made json
+    → IsCarriedOut ⊤ (if_long (upload_of e items)) (IsPutReply (as_directory (upload_cap (upload_of e items)))) (λ look. cap_reply (as_directory (upload_cap (upload_of e items)))) r old new
+    → IsPerformed e (Mkdir json) r old new
+text_stored e json items r old new text done = stored_at e json items (made json) r old new refl text done
 
 -- a test that was not met
 pub not_met : (b : Bool) (P : Type 0) → (IsTrue b ↔ P) → b ≡ false → P → ⊥

@@ -15,8 +15,7 @@ use crate::failed::{Failure, failure_reply};
 use crate::replies::cap_reply;
 use crate::reply::Reply;
 use caps::Cap;
-use chk_file::{Cache, upload};
-use dir_codec::{encode, from_children_json, is_memory};
+use chk_file::{Cache, directory_text_of, upload};
 use grid::{Grid, GridFault};
 use octets::Bytes;
 use share_store::Store;
@@ -55,14 +54,9 @@ pub fn make_directory<S: Store>(
     ensures stamped { IsStamped grid.old grid.new }
     ensures done { IsPerformed (encoding_of k n secret.now) (Mkdir json.now) result grid.old grid.new }
 {
-    dir_codec::laws::made_children_are_named();
-    match from_children_json(alloc, json) {
-        Ok(directory) => {
-            let text = encode(alloc, &directory)?;
-            store(alloc, grid, cache, k, n, secret, text, true)
-        }
-        Err(fault) if is_memory(&fault) => Err(AllocError),
-        Err(_) => failure_reply(alloc, Failure::BadChildren),
+    match directory_text_of(alloc, cache, json)? {
+        Some(text) => store(alloc, grid, cache, k, n, secret, text, true),
+        None => failure_reply(alloc, Failure::BadChildren),
     }
 }
 
