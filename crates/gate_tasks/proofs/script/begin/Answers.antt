@@ -1,5 +1,6 @@
-use Rattle.std.proofs.Common.{◌≡◌, length, None, subst, ap, ◌∙◌, rules, vec_len}
+use Rattle.std.proofs.Common.{◌≡◌, length, None, sym, subst, ap, ◌∙◌, vec_len}
 use Rattle.gate_core.specs.ConnectionState.{State}
+use Rattle.gate_core.proofs.Maps.{None-from_test}
 use Rattle.gate_tasks.specs.Running.{IsProgress}
 use Rattle.gate_tasks.proofs.Begins.{begin_made, made_with, set_is}
 use Rattle.gate_tasks.proofs.script.begin.Goals as goal
@@ -8,7 +9,7 @@ pub returns-in-Ok : goal.returns-in-Ok
 returns-in-Ok c log at =
     let was = c.args.progress.now.grid in
     let grid = c.args.grid in
-    let none : c.args.progress.now.gateway ≡ None = search rules in
+    let none : c.args.progress.now.gateway ≡ None = None-from_test c.args.progress.now.gateway (sym c.is_some.ensures ∙ c.if-is_some.false) in
     let servers = vec_len c.in_ok-stores.stores in
     let secret = c.as_slice.result.now in
     begin_made log was grid c.in-Ok.made (subst (IsProgress log was) none at)
