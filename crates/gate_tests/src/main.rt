@@ -22,6 +22,12 @@ mod longest;
 /// A walk into a long directory, and its listing.
 #[cfg(test)]
 mod walked;
+/// A directory that is made of long children JSON.
+#[cfg(test)]
+mod made;
+/// Directories whose one child has long metadata.
+#[cfg(test)]
+mod metadata;
 /// Crashes, and gateways that are resumed after them.
 #[cfg(test)]
 mod restarting;
