@@ -1,7 +1,7 @@
 #!/usr/bin/env python3
 """Loads on `wozhinnam serve`, the built program, on the loopback, with times and memory; each takes a minute or two at most.
 
-usage: bench/times/loads.py PROGRAM [open|readers|many_readers|slow_readers|untaken|came|million|pipelined|cut|listings|puts|many_puts|chunks|walks|forms|metadata|makes|verifies|parts|wide|disk_LOAD|redis_LOAD|mixed ..]
+usage: bench/times/loads.py PROGRAM [open|readers|many_readers|slow_readers|untaken|came|million|pipelined|cut|listings|puts|many_puts|chunks|walks|forms|metadata|makes|makes_many|verifies|parts|wide|disk_LOAD|redis_LOAD|mixed|tokens|text|name|falling|no_children|few ..]
 
 open          10,000 connections, a reply on each
 readers       8 readers of 4 MiB beside small GETs; many_readers: 200 of them; slow_readers: 200 that take 10 KB a second
@@ -19,13 +19,20 @@ walks         GETs of small files behind ten directories of 16 MB each, each of 
 forms         the same walks, in forms in which such a request was once not seen: its head in two parts, another request before it
               in one piece, a body, empty lines before it, a whole URI as its target
 metadata      GETs of names that a directory doesn't have whose one child has 1.3 million members of metadata
-makes         such a directory, made of children JSON
+makes         such a directory, made of children JSON; makes_many: one of 300,000 children
 verifies      checks with verify of a file of 16 MiB
 parts         GETs of 1,000 bytes of two files of 16 MiB, by turns
 wide          the `t=json` of a directory of 20,000 children
 mixed         all of these at once, by a client each
 
-Of the last ten each may begin with `disk_` or `redis_`, as `disk_parts`: over five folders whose shares stay on the disk, or three Redis servers (redis-server
+And beside what is long in another way, of some 15.6 MB each:
+tokens        GETs through a directory whose one child has metadata of 3.1 million times `true`
+text          GETs through one whose one child has metadata of one text; name: whose one child has a name of accented letters
+falling       directories made of one child with 1.3 million members of metadata whose keys fall
+no_children   children JSON that is refused, since its 1.6 million members are no children
+few           directories made of 245 children with 63,000 bytes of metadata each
+
+Of the last eleven each may begin with `disk_` or `redis_`, as `disk_parts`: over five folders whose shares stay on the disk, or three Redis servers (redis-server
 of Debian). Without a name these aren't tried.
 """
 
@@ -321,17 +328,35 @@ def many_members():
     return b"{" + b",".join(b'"%06x":{}' % at for at in range(1_300_000)) + b"}"
 
 
-def getter(server):
-    """GETs through a directory whose one child has 1.3 million members of metadata, 15.6 MB, each of another name that is missing."""
-    cap = put_text(server, entry(b"child", many_members()))
-    names = itertools.count()
+def through(server, text):
+    """GETs through a directory with this text, each of another name that is missing."""
+    cap, names = put_text(server, text), itertools.count()
     return lambda: once(server, asked(b"GET", "/%s/%08d" % (cap, next(names))), status=b"404")()
 
 
+def getter(server):
+    """GETs through a directory whose one child has 1.3 million members of metadata."""
+    return through(server, entry(b"child", many_members()))
+
+
+def made_of(server, members, status=b"200"):
+    """A directory made of children JSON with these members, again and again."""
+    body = b"{%s}" % b",".join(members)
+    return once(server, asked(b"POST", "?t=mkdir-immutable", len(body)), body, status)
+
+
+def member(name, metadata=b"{}"):
+    return b'"%s":["filenode",{"ro_uri":"URI:LIT:mzxw6","metadata":%s}]' % (name, metadata)
+
+
 def maker_of_directories(server):
-    """Directories made of children JSON, whose one child has such metadata."""
-    body = b'{"child":["filenode",{"ro_uri":"URI:LIT:mzxw6","metadata":%s}]}' % many_members()
-    return once(server, asked(b"POST", "?t=mkdir-immutable", len(body)), body)
+    """Directories whose one child has such metadata."""
+    return made_of(server, [member(b"child", many_members())])
+
+
+def maker_of_long_directories(server):
+    """Directories of 300,000 children, made of 14.4 MB of children JSON."""
+    return made_of(server, [b'"%06d":["filenode",{"ro_uri":"URI:LIT:mzxw6"}]' % at for at in range(300_000)])
 
 
 def verifier(server):
@@ -364,9 +389,25 @@ BESIDE = {
     "forms": (hider, "the same GETs, hidden"),
     "metadata": (getter, "GETs through 15.6 MB of metadata"),
     "makes": (maker_of_directories, "directories made of 15.6 MB of metadata"),
+    "makes_many": (maker_of_long_directories, "directories made of 300,000 children"),
     "verifies": (verifier, "checks of 16 MiB with verify"),
     "parts": (reader, "GETs of 1,000 bytes of two files of 16 MiB"),
     "wide": (lister, "listings of 20,000 children"),
+}
+
+
+def falling_members():
+    return b"{" + b",".join(b'"%06x":{}' % at for at in reversed(range(1_300_000))) + b"}"
+
+
+# The same of what is long in another way.
+STRANGE = {
+    "tokens": (lambda server: through(server, entry(b"child", b'{"a":[%s]}' % b",".join([b"true"] * 3_100_000))), "GETs through 3.1 million values"),
+    "text": (lambda server: through(server, entry(b"child", b'{"a":"%s"}' % (b"x" * 15_600_000))), "GETs through one text of 15.6 MB"),
+    "name": (lambda server: through(server, entry("é".encode() * 7_800_000)), "GETs by a name of 15.6 MB"),
+    "falling": (lambda server: made_of(server, [member(b"child", falling_members())]), "directories made of falling keys"),
+    "no_children": (lambda server: made_of(server, [b'"%06d":0' % at for at in range(1_600_000)], b"400"), "refusals of 1.6 million members"),
+    "few": (lambda server: made_of(server, [member(b"%03d" % at, b'{"a":"%s"}' % (b"x" * 63_000)) for at in range(245)]), "directories made of 245 children"),
 }
 
 
@@ -398,15 +439,15 @@ def over_redis(folder):
         each.kill()
 
 
-def loaded(program, name, count=1, stores=in_memory):
+def loaded(program, load, count=1, stores=in_memory):
     """One of these loads, by so many clients at once, over such stores."""
     with tempfile.TemporaryDirectory() as folder:
         with stores(folder) as places:
-            loaded_over(program, name, count, places)
+            loaded_over(program, load, count, places)
 
 
-def loaded_over(program, name, count, places):
-    maker, called = BESIDE[name]
+def loaded_over(program, load, count, places):
+    maker, called = load
     stores = [word for place in places for word in ("--store", place)]
     server = wozhinnam(program, "--connections", "100", *stores, control=True)
     load = maker(server)
@@ -574,11 +615,12 @@ LOADS = {
     "pipelined": pipelined,
     "cut": cut,
     "listings": listings,
-    **{name: functools.partial(loaded, name=name) for name in BESIDE},
-    **{"disk_" + name: functools.partial(loaded, name=name, stores=on_disks) for name in BESIDE},
-    **{"redis_" + name: functools.partial(loaded, name=name, stores=over_redis) for name in BESIDE},
-    "many_puts": functools.partial(loaded, name="puts", count=4),
+    **{name: functools.partial(loaded, load=load) for name, load in BESIDE.items()},
+    **{"disk_" + name: functools.partial(loaded, load=load, stores=on_disks) for name, load in BESIDE.items()},
+    **{"redis_" + name: functools.partial(loaded, load=load, stores=over_redis) for name, load in BESIDE.items()},
+    "many_puts": functools.partial(loaded, load=BESIDE["puts"], count=4),
     "mixed": mixed,
+    **{name: functools.partial(loaded, load=load) for name, load in STRANGE.items()},
 }
 
 
