@@ -1,7 +1,6 @@
 -- A speller goes over tokens as the machine with a stack does.
-use Rattle.std.proofs.Common.{◌≡◌, ℕ, zero, suc, ◌+◌, ◌<◌, ◌≤◌, max, List, [], ◌∷◌, ◌++◌, length, reverse, Bool, true, false, if◌then◌else◌, ◌&&◌, ◌||◌, Option, Some, None, MatchOption, Result, Ok, Err, MatchResult, option_map, option_and_then, is_some, string_bytes, String, Global, refl, sym, ap, ap₂, ◌∙◌, subst, arith, append_assoc}
+use Rattle.std.proofs.Common.{◌≡◌, ℕ, zero, suc, ◌+◌, ◌<◌, ◌≤◌, max, List, [], ◌∷◌, ◌++◌, length, reverse, Bool, true, false, if◌then◌else◌, ◌&&◌, ◌||◌, Option, Some, None, option_map, option_and_then, is_some, string_bytes, String, Global, refl, sym, ap, ap₂, ◌∙◌, subst, arith, append_assoc}
 use Rattle.std.specs.Option.{option_to_list}
-use Rattle.std.specs.Result.{result_ok}
 use Rattle.std.specs.Str.{IsUtf8}
 use Rattle.std.proofs.lemmas.Bool.{false≢true, true≢false, and_parts}
 use Rattle.std.proofs.lemmas.List.{reverse-append, length-reverse}
@@ -12,13 +11,13 @@ use Rattle.json.specs.Json.{Json}
 use Rattle.json.specs.Print.{quoted, token_text}
 use Rattle.json_stack.specs.Machine.{Frame, in_array, in_object, in_member, StackState, reading, done, failed, awaits_value, value_ended, opened_frame, array_ended, object_ended, key_read, state_within, next_state, state_after, start_state, result_of}
 use Rattle.json_stack.proofs.Reading.{machine_reads}
-use Rattle.json_stack.proofs.Runs.{state_after-append, failed_stays}
+use Rattle.json_stack.proofs.Runs.{failed_stays}
 use Rattle.json.proofs.Printed.Utf8.{are_ascii, IsUtf8-are_ascii}
 use Rattle.serde_json.specs.Data.{Num, Data, null, boolean, number, string, array, object, Items, Members, no_members, put, depth}
 use Rattle.serde_json.specs.Read.{number_of, of_json, of_items, of_members, max_depth}
 use Rattle.serde_json.specs.Written.{has_float, comma_if, compact_text}
-use Rattle.dir_codec.specs.Spelled.{IsExtent, IsSpelled, rises, data_of}
-use Rattle.dir_codec.specs.Speller.{DataFrame, data_array, data_object, data_member, IsFrameData, AreFrameData, items_with, has_members, items_written, members_written, frame_text, comma_awaited, frames_text, frame_depth, frame_float, frames_depth, frames_float, IsAboveMembers, IsOpenedAt, AreOpened, IsInside, FollowsMachine, awaits, with_value, IsBeforeValue, IsBehindValue, value_awaited, opened_after, is_array, is_object, IsPlainValue, GoesOver, RefusesToken, IsSpelling, IsEnded, IsUnended}
+use Rattle.dir_codec.specs.Spelled.{IsExtent, rises, data_of}
+use Rattle.dir_codec.specs.Speller.{DataFrame, data_array, data_object, data_member, IsFrameData, AreFrameData, items_with, has_members, items_written, members_written, frame_text, comma_awaited, frames_text, frame_depth, frame_float, frames_depth, frames_float, IsAboveMembers, IsOpenedAt, AreOpened, IsInside, FollowsMachine, awaits, with_value, IsBeforeValue, IsBehindValue, value_awaited, opened_after, is_array, is_object, IsPlainValue, GoesOver, RefusesToken, IsEnded, IsUnended}
 use Rattle.dir_codec.specs.declared.extent.Extent.{Extent}
 use Rattle.dir_codec.specs.declared.spelling.Spelled.{Spelled}
 use Rattle.dir_codec.specs.declared.speller.Opened.{Opened}
@@ -27,10 +26,10 @@ use Rattle.dir_codec.proofs.DataFrames.{members_with, of_items-items_and, of_mem
 
 -- ---- what is open, innermost first
 
-reverse_more : {A : Type 0} (xs : List A) (x : A) → reverse (xs ++ x ∷ []) ≡ x ∷ reverse xs
+pub reverse_more : {A : Type 0} (xs : List A) (x : A) → reverse (xs ++ x ∷ []) ≡ x ∷ reverse xs
 reverse_more xs x = reverse-append xs (x ∷ [])
 
-length_more : {A : Type 0} (xs : List A) (x : A) → length (xs ++ x ∷ []) ≡ suc (length xs)
+pub length_more : {A : Type 0} (xs : List A) (x : A) → length (xs ++ x ∷ []) ≡ suc (length xs)
 length_more [] x = refl
 length_more (y ∷ xs) x = ap suc (length_more xs x)
 
@@ -44,7 +43,7 @@ as_many [] (o ∷ os) are = absurd are
 as_many (f ∷ fs) [] are = absurd are
 as_many (f ∷ fs) (o ∷ os) are = omega (arith, as_many fs os are.1)
 
-as_many_data : (frames : List Frame) (fs : List DataFrame) → AreFrameData frames fs → length frames ≡ length fs
+pub as_many_data : (frames : List Frame) (fs : List DataFrame) → AreFrameData frames fs → length frames ≡ length fs
 as_many_data [] [] are = refl
 as_many_data [] (f ∷ fs) are = absurd are
 as_many_data (frame ∷ frames) [] are = absurd are
@@ -93,7 +92,7 @@ by_kind P none a o m (in_member js k ∷ frames) (data_member ms l ∷ fs) (Open
 
 -- ---- the comma before a value
 
-some_same : {A : Type 0} (x y : A) → Some x ≡ Some y → x ≡ y
+pub some_same : {A : Type 0} (x y : A) → Some x ≡ Some y → x ≡ y
 some_same x y is = grind arith
 
 abbrev Awaited : List Frame → List DataFrame → List Opened → Type 0
@@ -205,7 +204,7 @@ ended_within j d is old new rest x was now ended same out extent failed at = abs
 
 -- ---- an array or object opens
 
-opened_here : (room : ℕ) (frames : List Frame) (frame : Frame) → awaits_value frames ≡ true → opened_frame (suc room) frames frame ≡ reading room (frame ∷ frames)
+pub opened_here : (room : ℕ) (frames : List Frame) (frame : Frame) → awaits_value frames ≡ true → opened_frame (suc room) frames frame ≡ reading room (frame ∷ frames)
 opened_here room frames frame here = ap (λ b. if b then reading room (frame ∷ frames) else failed) here
 
 pub frame_begun : (t : Token) (frame : Frame) (f : DataFrame) (o : Opened) (b : ℕ) → ((room : ℕ) (frames : List Frame) → state_within room frames t ≡ opened_frame room frames frame) → IsFrameData frame f → IsOpenedAt f o → frame_text f ≡ b ∷ []
@@ -334,7 +333,7 @@ key_put k key named last rising old new rest was now written utf8 ended kept ext
 
 -- ---- a value of one token
 
-next_as_value : (t : Token) (j : Json) → ((room : ℕ) (frames : List Frame) → state_within room frames t ≡ value_ended room frames j) → (s : StackState) → next_state s t ≡ with_value s j
+pub next_as_value : (t : Token) (j : Json) → ((room : ℕ) (frames : List Frame) → state_within room frames t ≡ value_ended room frames j) → (s : StackState) → next_state s t ≡ with_value s j
 next_as_value t j step (reading room frames) = step room frames
 next_as_value t j step (done i) = refl
 next_as_value t j step failed = refl
@@ -387,7 +386,7 @@ number_read s n is = ap (option_map number) is
 
 -- ---- no value goes on so
 
-none_after : (s : StackState) → s ≡ failed → (more : List Token) → option_and_then of_json (result_of (state_after s more)) ≡ None
+pub none_after : (s : StackState) → s ≡ failed → (more : List Token) → option_and_then of_json (result_of (state_after s more)) ≡ None
 none_after s is more = ap (λ r. option_and_then of_json (result_of (state_after r more))) is ∙ ap (λ r. option_and_then of_json (result_of r)) (failed_stays more)
 
 pub fails : (old : Speller) (t : Token) → ((s : StackState) → FollowsMachine s old → next_state s t ≡ failed) → RefusesToken old t
@@ -404,7 +403,7 @@ no_value failed j none = refl
 pub value_refused : (t : Token) (j : Json) → ((room : ℕ) (frames : List Frame) → state_within room frames t ≡ value_ended room frames j) → (old : Speller) → ((s : StackState) → FollowsMachine s old → awaits s ≡ false) → RefusesToken old t
 value_refused t j step old none = fails old t (λ s at. next_as_value t j step s ∙ no_value s j (none s at))
 
-no_frame : (room : ℕ) (frames : List Frame) (frame : Frame) → awaits_value frames ≡ false → opened_frame room frames frame ≡ failed
+pub no_frame : (room : ℕ) (frames : List Frame) (frame : Frame) → awaits_value frames ≡ false → opened_frame room frames frame ≡ failed
 no_frame zero frames frame none = refl
 no_frame (suc room) frames frame none = ap (λ b. if b then reading room (frame ∷ frames) else failed) none
 
@@ -488,18 +487,8 @@ bad_refused old = fails old Token.bad failing
     failing (done j) at = refl
     failing failed at = refl
 
--- ---- all tokens so far
+-- ---- a value that has not ended, or has
 
-pub tokens_gone_over : (t : Token) (old new : Speller) → GoesOver old t new → (ts : List Token) → IsSpelling ts old → IsSpelling (ts ++ t ∷ []) new
-unfolding state_after
-tokens_gone_over t old new goes ts at = subst (λ s. FollowsMachine s new) (sym (state_after-append (start_state max_depth) ts (t ∷ []))) (goes (state_after (start_state max_depth) ts) at)
-
-pub tokens_refused : (t : Token) (old : Speller) → RefusesToken old t → (ts more : List Token) → IsSpelling ts old → data_of (ts ++ t ∷ more) ≡ None
-unfolding state_after
-tokens_refused t old none ts more at =
-    ap (option_and_then of_json) (machine_reads max_depth (ts ++ t ∷ more)) ∙ ap (λ s. option_and_then of_json (result_of s)) (state_after-append (start_state max_depth) ts (t ∷ more)) ∙ none (state_after (start_state max_depth) ts) at more
-
--- a value that has not ended, or has
 pub unended : (speller : Speller) → speller.ended ≡ false → (s : StackState) → FollowsMachine s speller → IsUnended s speller speller
 unended speller going (reading room frames) at = (room, frames, refl, refl)
 unended speller going (done j) at = absurd (true≢false (sym at.3 ∙ going))
@@ -514,15 +503,6 @@ object_has_ended speller spelled ended text extent failed at = absurd at
 -- the data that the tokens are
 pub data_read : (ts : List Token) (s : StackState) → state_after (start_state max_depth) ts ≡ s → data_of ts ≡ option_and_then of_json (result_of s)
 data_read ts s is = ap (option_and_then of_json) (machine_reads max_depth ts) ∙ ap (λ r. option_and_then of_json (result_of r)) is
-
-pub finished : (speller : Speller) (r : Result Spelled Speller) (found : Option Spelled) → found ≡ result_ok r → ((s : StackState) → FollowsMachine s speller → MatchResult r (IsEnded s) (IsUnended s speller)) → (ts : List Token) → IsSpelling ts speller
-    → MatchOption found (data_of ts ≡ None) (λ spelled. (d : Data) × (data_of ts ≡ Some d) × IsSpelled spelled d)
-finished speller r found same at ts spelling = subst (λ o. MatchOption o (data_of ts ≡ None) (λ spelled. (d : Data) × (data_of ts ≡ Some d) × IsSpelled spelled d)) (sym same) (go r (at (state_after (start_state max_depth) ts) spelling))
-  where
-    go : (r : Result Spelled Speller) → MatchResult r (IsEnded (state_after (start_state max_depth) ts)) (IsUnended (state_after (start_state max_depth) ts) speller)
-        → MatchOption (result_ok r) (data_of ts ≡ None) (λ spelled. (d : Data) × (data_of ts ≡ Some d) × IsSpelled spelled d)
-    go (Ok spelled) ended = (ended.1, data_read ts (done ended.0) ended.2 ∙ ended.3, ended.4)
-    go (Err left) going = data_read ts (reading going.0 going.1) going.2
 
 -- before the first token
 pub none_yet : (speller : Speller) → speller.out.items ≡ [] → speller.opened.items ≡ [] → speller.ended ≡ false → IsExtent speller.extent 0 false → FollowsMachine (start_state speller.levels) speller
@@ -636,7 +616,10 @@ number_has s (reading room frames) none is = false≢true (sym (ap (λ o. is_som
 number_has s (done j) none is = false≢true is
 number_has s failed none is = false≢true is
 
-pub number_unread : (text : List ℕ) → number_of text ≡ None → (old : Speller) → RefusesToken old (Token.number text)
-number_unread text none old s at more =
+pub none_behind_number : (text : List ℕ) → number_of text ≡ None → (s : StackState) (more : List Token) → option_and_then of_json (result_of (state_after (next_state s (Token.number text)) more)) ≡ None
+none_behind_number text none s more =
     none_if (option_and_then of_json (result_of (state_after (next_state s (Token.number text)) more)))
     (λ some. number_has text s none (after_has (next_state s (Token.number text)) more (result_has (state_after (next_state s (Token.number text)) more) some)))
+
+pub number_unread : (text : List ℕ) → number_of text ≡ None → (old : Speller) → RefusesToken old (Token.number text)
+number_unread text none old s at more = none_behind_number text none s more

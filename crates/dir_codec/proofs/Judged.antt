@@ -1,71 +1,29 @@
 -- Metadata of which parts were judged.
-use Rattle.std.proofs.Common.{◌≡◌, ℕ, ◌+◌, ◌-◌, ◌<◌, ◌≤◌, ◌^◌, ◌==◌, ◌&&◌, not, nat_le, nat_lt, List, [], ◌∷◌, ◌++◌, length, take, drop, get_or, Bool, true, false, Option, Some, None, option_map, option_and_then, is_some, unwrap_or, IfSome, pos, negsuc, decimal, IsUtf8, refl, sym, ap, ap₂, ◌∙◌, subst, arith, append_assoc, append-nil, length-drop}
-use Rattle.std.proofs.lemmas.Bool.{eqb-true, false_from_ne_true, lt-ltb}
-use Rattle.std.proofs.lemmas.Fmt.{decimal_is_IsNumeral}
+use Rattle.std.proofs.Common.{◌≡◌, ℕ, ◌+◌, ◌-◌, ◌<◌, ◌≤◌, nat_lt, List, [], ◌∷◌, ◌++◌, length, take, drop, get_or, true, false, Option, Some, None, option_map, option_and_then, is_some, unwrap_or, IfSome, IsUtf8, refl, sym, ap, ap₂, ◌∙◌, subst, arith, append_assoc, append-nil, length-drop}
+use Rattle.std.proofs.lemmas.Bool.{lt-ltb}
 use Rattle.std.proofs.lemmas.List.{take-append-drop, drop-drop, take_all, take_more}
 use Rattle.std.proofs.lemmas.Str.{IsUtf8-append, IsUtf8-take, IsUtf8-drop, IsUtf8-from_ascii, IsCharBoundary-from_take, IsCharBoundary-before_ascii}
-use Rattle.std.proofs.lemmas.Str.Parse.{digit_from_value}
 use Rattle.std.proofs.Math.Seq.{take-add}
-use Rattle.std.specs.Str.Parse.{AllDigits}
 use Rattle.json.specs.Token.{Token}
 use Rattle.json.specs.Lex.{tokens}
 use Rattle.json_seams.specs.Cuts.{IsCutComma}
 use Rattle.json_seams.specs.Seams.{behind_comma, seam}
-use Rattle.serde_json.specs.Data.{Num, unsigned, negative, float, Data, null, boolean, number, string, array, object}
-use Rattle.serde_json.specs.Find.{as_object}
+use Rattle.serde_json.specs.Data.{Data}
 use Rattle.serde_json.specs.Read.{read}
-use Rattle.serde_json.specs.Written.{number_text, compact_text}
+use Rattle.serde_json.specs.Written.{compact_text}
+use Rattle.dir_codec.specs.Judge.{HasJudged}
 use Rattle.dir_codec.specs.Judging.{IsJudging}
-use Rattle.dir_codec.specs.Metadata.{is_metadata, if_metadata, json_of, metadata_of, spelling_of}
-use Rattle.dir_codec.specs.Sound.{IsSoundNum, IsSound}
-use Rattle.dir_codec.specs.Spelled.{IsSpelled, data_of}
-use Rattle.dir_codec.specs.Speller.{IsSpelling}
+use Rattle.dir_codec.specs.Metadata.{if_metadata, json_of, metadata_of, spelling_of}
+use Rattle.dir_codec.specs.Spelled.{data_of}
 use Rattle.dir_codec.specs.TokenPieces.{tokens_behind, tokens_before, IsPiecePushed, IsPieceRefused}
+use Rattle.dir_codec.specs.declared.judge.Judge.{Judge}
 use Rattle.dir_codec.specs.declared.judging.Judging.{Judging}
-use Rattle.dir_codec.specs.declared.speller.Speller.{Speller}
-use Rattle.dir_codec.specs.declared.spelling.Spelled.{Spelled}
 use Rattle.dir_codec.proofs.Braces.{ascii_byte}
 use Rattle.dir_codec.proofs.CutPlaces.{IsCutAt}
 use Rattle.dir_codec.proofs.Json.{json_read, json_refused}
 use Rattle.dir_codec.proofs.OnePass.{no_text, unspelled}
-use Rattle.dir_codec.proofs.SoundLemmas.{read_sound}
 
--- ---- whether a value is metadata
-
--- the first byte of its text
-first_digit : (ds : List ℕ) (n : ℕ) → n < 2 ^ 64 → ds ≡ decimal n → (get_or ds 0 0 == 123) ≡ false
-first_digit [] n small is = refl
-first_digit (c ∷ cs) n small is =
-    let digits = subst (λ s. AllDigits 10 s) (sym is) (decimal_is_IsNumeral n small).0.1 in
-    let digit = digit_from_value c digits.0 in
-    false_from_ne_true (c == 123) (λ same. let is : c ≡ 123 = eqb-true c 123 same in let never : ⊥ = omega (arith, digit) in never)
-
-number_opens : (n : Num) → IsSoundNum n → (get_or (number_text n) 0 0 == 123) ≡ false
-number_opens (unsigned n) sound = first_digit (decimal n) n sound refl
-number_opens (negative (pos n)) sound = absurd sound
-number_opens (negative (negsuc n)) sound = refl
-number_opens (float x) sound = refl
-
-object_opens : (d : Data) → IsSound d → (get_or (compact_text d) 0 0 == 123) ≡ is_some (as_object d)
-object_opens null sound = refl
-object_opens (boolean true) sound = refl
-object_opens (boolean false) sound = refl
-object_opens (number n) sound = number_opens n sound
-object_opens (string s) sound = refl
-object_opens (array ds) sound = refl
-object_opens (object ms) sound = refl
-
-if_is : (d : Data) (b : Bool) → is_metadata d ≡ b → is_some (if_metadata d) ≡ b
-if_is d true is = rw is
-if_is d false is = rw is
-
-pub fits_or_not : (text : List ℕ) (d : Data) (spelled : Spelled) (opens fits : Bool) → read text ≡ Some d → IsSpelled spelled d → opens ≡ (get_or spelled.text.items 0 0 == 123)
-    → fits ≡ (not spelled.extent.fractional && nat_le spelled.extent.levels 100) → (opens && fits) ≡ is_some (option_and_then if_metadata (read text))
-fits_or_not text d spelled opens fits is made first extent =
-    let object : opens ≡ is_some (as_object d) = first ∙ ap (λ s. get_or s 0 0 == 123) made.0 ∙ object_opens d (read_sound text d is) in
-    let whole = extent ∙ ap₂ (λ b n. not b && nat_le n 100) made.1.1 made.1.0 in
-    let same : (opens && fits) ≡ is_metadata d = ap₂ (λ a b. a && b) object whole in
-    same ∙ sym (if_is d (is_metadata d) refl) ∙ ap (λ o. is_some (option_and_then if_metadata o)) (sym is)
+-- ---- whether a text is metadata
 
 is_some_mapped : {A B : Type 0} (f : A → B) (o : Option A) → is_some (option_map f o) ≡ is_some o
 is_some_mapped f None = refl
@@ -137,8 +95,8 @@ module _ (law : SeamLaw) (text part : List ℕ) (self : Judging) (cut : Option �
   all_tokens = before.joined ∙ ap (λ ts. before.read ++ tokens_behind (nat_lt 0 self.at) ts) (part_tokens law text part self.at cut ends)
 
   -- a part that is refused
-  pub part_refused : IsPieceRefused IsSpelling (nat_lt 0 self.at) (is_some cut) part self.speller → false ≡ is_some (spelling_of text)
-  part_refused none = no_value text (ap data_of all_tokens ∙ none before.read (rest_tokens cut text) before.spelled)
+  pub part_refused : IsPieceRefused HasJudged (nat_lt 0 self.at) (is_some cut) part self.judge → false ≡ is_some (spelling_of text)
+  part_refused none = no_value text (ap data_of all_tokens ∙ none before.read (rest_tokens cut text) before.judged)
 
   -- or that is no text
   pub no_part_text : (IsUtf8 part → ⊥) → false ≡ is_some (spelling_of text)
@@ -147,14 +105,14 @@ module _ (law : SeamLaw) (text part : List ℕ) (self : Judging) (cut : Option �
       (no_text text (λ whole. none (part_text text part self.at cut ends (IsUtf8-drop text self.at whole (IsCharBoundary-from_take text self.at whole before.within before.utf8)))))
 
 pub more_judged : SeamLaw → (text part : List ℕ) (self next : Judging) (cut : ℕ) → IsJudging text self → EndsAt text self.at (Some cut) part → IsUtf8 part → next.at ≡ cut + 1
-    → IsPiecePushed IsSpelling (nat_lt 0 self.at) true part self.speller next.speller → IsJudging text next
+    → IsPiecePushed HasJudged (nat_lt 0 self.at) true part self.judge next.judge → IsJudging text next
 more_judged law text part self next cut before ends utf8 place pushed =
     let at = self.at in
     let ahead = ends.0.ahead in
     let comma = ends.0.comma in
     let found = comma.within in
     let rest = tokens (drop (cut + 1) text) in
-    let there = pushed before.read rest before.spelled in
+    let there = pushed before.read rest before.judged in
     let size : at + (cut - at + 1) ≡ next.at = omega (arith, place) in
     let part_and : take (cut - at + 1) (drop at text) ≡ part ++ 44 ∷ [] = take_more (drop at text) (cut - at) 0 found ∙ ap₂ (λ a x. a ++ x ∷ []) (sym ends.1) comma.comma in
     let some : nat_lt 0 next.at ≡ true = lt-ltb 0 next.at (omega (arith, place)) in
@@ -165,28 +123,28 @@ more_judged law text part self next cut before ends utf8 place pushed =
           subst (λ n. IsUtf8 (take n text)) size
           (subst IsUtf8 (sym (take-add at (cut - at + 1) text ∙ ap (λ t. take at text ++ t) part_and))
           (IsUtf8-append (take at text) (part ++ 44 ∷ []) before.utf8 (IsUtf8-append part (44 ∷ []) utf8 (byte_text 44 (omega arith)))));
-      spelled = there.0;
+      judged = there.0;
       joined =
           all_tokens law text part self (Some cut) before ends ∙ ap (λ ts. before.read ++ ts) there.1 ∙ sym (append_assoc before.read (tokens part) (behind_comma rest))
           ∙ ap₂ (λ b n. (before.read ++ tokens part) ++ tokens_behind b (tokens (drop n text))) (sym some) (sym place);
     }
 
 -- the last part
-pub all_spelled : SeamLaw → (text part : List ℕ) (self : Judging) (new : Speller) → IsJudging text self → EndsAt text self.at None part → IsPiecePushed IsSpelling (nat_lt 0 self.at) false part self.speller new → IsSpelling (tokens text) new
-all_spelled law text part self new before ends pushed =
-    let there = pushed before.read [] before.spelled in
+pub all_judged : SeamLaw → (text part : List ℕ) (self : Judging) (new : Judge) → IsJudging text self → EndsAt text self.at None part → IsPiecePushed HasJudged (nat_lt 0 self.at) false part self.judge new → HasJudged (tokens text) new
+all_judged law text part self new before ends pushed =
+    let there = pushed before.read [] before.judged in
     let same : before.read ++ tokens part ≡ tokens text = sym (all_tokens law text part self None before ends ∙ ap (λ ts. before.read ++ ts) (there.1 ∙ append-nil (tokens part))) in
-    subst (λ ts. IsSpelling ts new) same there.0
+    subst (λ ts. HasJudged ts new) same there.0
 
 pub all_text : (text part : List ℕ) (self : Judging) → IsJudging text self → EndsAt text self.at None part → IsUtf8 part → IsUtf8 text
 all_text text part self before ends utf8 = subst IsUtf8 (take-append-drop self.at text) (IsUtf8-append (take self.at text) (drop self.at text) before.utf8 (subst IsUtf8 ends utf8))
 
 -- nothing was read
-pub none_judged : (text : List ℕ) (judging : Judging) → judging.at ≡ 0 → IsSpelling [] judging.speller → IsJudging text judging
-none_judged text judging at spelled = record {
+pub none_judged : (text : List ℕ) (judging : Judging) → judging.at ≡ 0 → HasJudged [] judging.judge → IsJudging text judging
+none_judged text judging at judged = record {
   read = [];
   within = omega (arith, at);
   utf8 = rw at (IsUtf8-from_ascii [] (λ i. omega arith));
-  spelled = spelled;
+  judged = judged;
   joined = rw at refl;
 }

@@ -37,6 +37,8 @@ pub mod EntrySizes
 pub mod NextEntries
 pub mod DataFrames
 pub mod Following
+pub mod Unfit
+pub mod TokensJudged
 pub mod Nested
 pub mod ValuesUnderWay
 pub mod MemberStages

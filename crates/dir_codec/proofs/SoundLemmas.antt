@@ -53,7 +53,7 @@ number_of_sound : (s : List ℕ) → Holds IsSoundNum (number_of s)
 unfolding number_of
 number_of_sound s = if_holds IsSoundNum (slice_index s 0 == minus) _ _ (λ _. number_sound true (scan (drop 1 s))) (number_sound false (scan s))
 
-below_trans : (k l : List ℕ) (ms : Members) → slice_cmp nat_cmp k l ≡ Less → IsBelowAll l ms → IsBelowAll k ms
+pub below_trans : (k l : List ℕ) (ms : Members) → slice_cmp nat_cmp k l ≡ Less → IsBelowAll l ms → IsBelowAll k ms
 below_trans k l no_members h b = tt
 below_trans k l (member m d ms) h b = (nat_list_cmp_total.trans k l m h b.0, below_trans k l ms h b.1)
 
@@ -104,3 +104,6 @@ converted_sound o d r is = let j = from_json of_json o d r is in subst (Holds Is
 
 pub made_sound : (j : json.Json) (d : Data) → of_json j ≡ Some d → IsSound d
 made_sound j d is = subst (Holds IsSound) is (json_sound j)
+
+pub members_made_sound : (js : json.Members) (ms : Members) → of_members js no_members ≡ Some ms → MembersAreSound ms
+members_made_sound js ms is = subst (Holds MembersAreSound) is (members_sound js no_members tt)

@@ -3,8 +3,8 @@ use Rattle.std.specs.Prelude.{◌≡◌, ⊤, ℕ, ◌<◌, ◌≤◌, nat_lt, L
 use Rattle.std.specs.Str.{IsUtf8}
 use Rattle.json.specs.Token.{Token}
 use Rattle.json.specs.Lex.{tokens}
+use Rattle.dir_codec.specs.Judge.{HasJudged}
 use Rattle.dir_codec.specs.Metadata.{spelling_of}
-use Rattle.dir_codec.specs.Speller.{IsSpelling}
 use Rattle.dir_codec.specs.TokenPieces.{tokens_behind}
 use Rattle.dir_codec.specs.declared.judging.Judging.{Judging}
 use Rattle.dir_codec.specs.declared.judging.Judged.{Judged}
@@ -14,7 +14,7 @@ pub record IsJudging (text : List ℕ) (judging : Judging) : Type 0 where
   pub read : List Token
   pub within : judging.at ≤ length text
   pub utf8 : IsUtf8 (take judging.at text)
-  pub spelled : IsSpelling read judging.speller
+  pub judged : HasJudged read judging.judge
   pub joined : tokens text ≡ read ++ tokens_behind (nat_lt 0 judging.at) (tokens (drop judging.at text))
 
 -- the judging goes on so, or what it says is whether the text is metadata

@@ -21,6 +21,7 @@ pub mod Collected
 pub mod TextMakers
 pub mod Speller
 pub mod TokenPieces
+pub mod Judge
 pub mod Judging
 pub mod MemberReader
 pub mod Piecewise

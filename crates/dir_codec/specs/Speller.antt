@@ -7,9 +7,9 @@ use Rattle.std.specs.Str.{IsUtf8}
 use Rattle.json.specs.Token.{Token}
 use Rattle.json.specs.Json.{Json}
 use Rattle.json.specs.Print.{quoted}
-use Rattle.json_stack.specs.Machine.{Frame, in_array, in_object, in_member, StackState, reading, done, failed, awaits_value, value_ended, next_state, state_after, start_state, result_of}
+use Rattle.json_stack.specs.Machine.{Frame, in_array, in_object, in_member, StackState, reading, done, failed, awaits_value, value_ended, next_state, state_after, result_of}
 use Rattle.serde_json.specs.Data.{Data, Items, no_items, item, Members, no_members, member, depth, items_depth, members_depth}
-use Rattle.serde_json.specs.Read.{of_json, of_items, of_members, max_depth}
+use Rattle.serde_json.specs.Read.{of_json, of_items, of_members}
 use Rattle.serde_json.specs.Written.{has_float, items_have_float, members_have_float, comma_if, compact_text}
 use Rattle.dir_codec.specs.Spelled.{IsExtent, IsSpelled, rises}
 use Rattle.dir_codec.specs.declared.spelling.Spelled.{Spelled}
@@ -201,10 +201,6 @@ GoesOver old t new = (s : StackState) → FollowsMachine s old → FollowsMachin
 -- no tokens that go on so are a value
 abbrev pub RefusesToken : Speller → Token → Type 0
 RefusesToken old t = (s : StackState) → FollowsMachine s old → (more : List Token) → option_and_then of_json (result_of (state_after (next_state s t) more)) ≡ None
-
--- The tokens came so far: what is open, or the whole value, is spelled.
-abbrev pub IsSpelling : List Token → Speller → Type 0
-IsSpelling ts speller = FollowsMachine (state_after (start_state max_depth) ts) speller
 
 -- ---- a value that has ended
 

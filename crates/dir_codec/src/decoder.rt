@@ -17,7 +17,6 @@ use crate::entry::Entry;
 use crate::fault::DirFault;
 use crate::metadata::read_metadata;
 use crate::parts::Parts;
-use crate::spelling::Keys;
 use caps::{Cap, parse_bytes};
 use octets::Text;
 use std::alloc::{AllocError, Global};
@@ -61,7 +60,7 @@ pub(crate) fn read_entry(alloc: Global, parts: Parts<'_>, last: &[u8]) -> Result
         → entry_reading last.now (texts_now parts.entry) ≡ Err fault) }
 {
     let Named { name, cap } = read_named(alloc, parts, last)?;
-    let metadata = read_metadata(alloc, parts.metadata, Keys::Rising)?;
+    let metadata = read_metadata(alloc, parts.metadata)?;
     Ok(Entry {
         name,
         cap,

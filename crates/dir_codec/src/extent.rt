@@ -3,7 +3,7 @@ ghost use Rattle.std.specs.Prelude.{◌≡◌, ◌+◌, ◌<◌, ◌^◌, max, �
 ghost use Rattle.dir_codec.specs.Spelled.{IsExtent};
 
 /// Levels of arrays and objects in metadata, at most. `{}` is one level.
-const MOST_LEVELS: usize = 100;
+pub(crate) const MOST_LEVELS: usize = 100;
 
 /// What metadata are measured by.
 #[derive(Clone, Copy, Debug, Drop)]

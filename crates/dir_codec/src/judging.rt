@@ -1,17 +1,14 @@
 //! Judging long metadata, some of their text at a time.
-ghost use Rattle.std.specs.Prelude.{◌≡◌, ◌-◌, ◌≤◌, ℕ, List, drop, length, slice_index, ◌==◌, IfOk, IfSome, is_some, option_and_then};
-ghost use Rattle.json.specs.Lex.{tokens};
+ghost use Rattle.std.specs.Prelude.{◌≡◌, ◌-◌, ◌≤◌, ℕ, List, drop, length, IfOk, IfSome, is_some};
 ghost use Rattle.json_seams.specs.Cuts.{IsCutComma};
-ghost use Rattle.serde_json.specs.Read.{read};
-ghost use Rattle.dir_codec.specs.Metadata.{if_metadata, spelling_of};
-ghost use Rattle.dir_codec.specs.Speller.{IsSpelling};
+ghost use Rattle.dir_codec.specs.Metadata.{spelling_of};
 ghost use Rattle.dir_codec.specs.Judging.{IsJudging, IsJudgedOn, IsJudgedBehind, IsJudgedSoFar, judged_bytes};
 
 use crate::cutting::STEP_BYTES;
 use crate::fault::is_memory;
+use crate::judge::Judge;
 use crate::metadata::read_metadata;
-use crate::speller::Speller;
-use crate::spelling::{Keys, Stop};
+use crate::spelling::Stop;
 use crate::token_pieces::push_tokens;
 use json_seams::Scanner;
 use std::alloc::{AllocError, Global};
@@ -21,8 +18,8 @@ use std::alloc::{AllocError, Global};
 pub(crate) struct Judging {
     /// How many bytes of the text were read: none, or those up to a value and a comma.
     at: usize,
-    /// The spelling of what was read.
-    speller: Speller,
+    /// What is known of what was read.
+    judge: Judge,
 }
 
 /// How far the judging of metadata is.
@@ -49,7 +46,7 @@ pub(crate) fn judge(
             if text.len() > STEP_BYTES {
                 Judging::new(alloc).step(alloc, text)
             } else {
-                Ok(Judged::Done(are_metadata(alloc, text, Keys::Rising)?))
+                Ok(Judged::Done(are_metadata(alloc, text)?))
             }
         }
     }
@@ -62,18 +59,17 @@ impl Judging {
     {
         Judging {
             at: 0,
-            speller: Speller::new(alloc),
+            judge: Judge::new(alloc),
         }
     }
 
     /// With one part more read: up to the last comma outside strings in the next 65,536 bytes that have one, or the rest.
-    /// Where a key isn't above the one before it in its object, all is read at once.
     fn step(self, alloc: Global, text: &[u8]) -> Result<Judged, AllocError>
         ensures judged { IfOk result (λ judged. IsJudging text.now self → IsJudgedOn text.now judged) }
         ensures behind { IfOk result (λ judged. IsJudgedBehind text.now self.at judged) }
     {
         json_seams::laws::a_cut_text_is_joined();
-        let Judging { at, mut speller } = self;
+        let Judging { at, mut judge } = self;
         if at > text.len() {
             return Ok(Judged::Done(false));
         }
@@ -82,26 +78,23 @@ impl Judging {
         let Ok(part) = str::from_utf8(&text[at..end]) else {
             return Ok(Judged::Done(false));
         };
-        match push_tokens(alloc, &mut speller, part, at > 0, cut.is_some()) {
+        match push_tokens(alloc, &mut judge, part, at > 0, cut.is_some()) {
             Ok(()) => match cut {
-                Some(cut) => Ok(Judged::More(Judging {
-                    at: cut + 1,
-                    speller,
-                })),
-                None => Ok(Judged::Done(spells_metadata(speller))),
+                Some(cut) => Ok(Judged::More(Judging { at: cut + 1, judge })),
+                None => Ok(Judged::Done(judge.finish())),
             },
-            Err(Stop::NotJson) => Ok(Judged::Done(false)),
-            Err(Stop::NotRising) => Ok(Judged::Done(are_metadata(alloc, text, Keys::Any)?)),
+            // A judge wants no order of keys: NotRising never comes.
+            Err(Stop::NotJson | Stop::NotRising) => Ok(Judged::Done(false)),
             Err(Stop::NoMemory) => Err(AllocError),
         }
     }
 }
 
-/// Whether a text is metadata, judged at once, with a guess of how keys come in it.
-fn are_metadata(alloc: Global, text: &[u8], keys: Keys) -> Result<bool, AllocError>
+/// Whether a text is metadata, judged at once.
+fn are_metadata(alloc: Global, text: &[u8]) -> Result<bool, AllocError>
     ensures { IfOk result (λ is. is ≡ is_some (spelling_of text.now)) }
 {
-    match read_metadata(alloc, text, keys) {
+    match read_metadata(alloc, text) {
         Ok(_) => Ok(true),
         Err(fault) => {
             if is_memory(&fault) {
@@ -130,22 +123,4 @@ fn next_cut(text: &[u8], at: usize) -> Option<usize>
         }
     }
     None
-}
-
-/// Whether what was spelled is metadata.
-fn spells_metadata(speller: Speller) -> bool
-    ensures { (text : List ℕ) → IsSpelling (tokens text) speller
-        → result ≡ is_some (option_and_then if_metadata (read text)) }
-{
-    match speller.finish() {
-        None => false,
-        Some(spelled) => begins_object(spelled.text.as_slice()) && spelled.extent.fits(),
-    }
-}
-
-/// Whether a spelling is that of an object.
-fn begins_object(text: &[u8]) -> bool
-    ensures { result ≡ (slice_index text.now 0 == 123) }
-{
-    !text.is_empty() && text[0] == b'{'
 }

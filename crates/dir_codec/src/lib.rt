@@ -46,6 +46,8 @@ mod metadata;
 mod spelling;
 /// The one spelling of JSON whose keys rise, written while its tokens come one at a time.
 mod speller;
+/// Judging JSON whose tokens come one at a time.
+mod judge;
 /// Judging long metadata, some of their text at a time.
 mod judging;
 /// How deep JSON nests, and whether all its numbers are whole.

@@ -1,5 +1,5 @@
 //! Reads the members of children JSON whose tokens come one at a time: what is made of a member is known when its value ends.
-ghost use Rattle.std.specs.Prelude.{◌≡◌, ◌≢◌, ℕ, List, [], ◌∷◌, None, Some, Err, true, MatchOption, MatchResult, IfOk, OnOk};
+ghost use Rattle.std.specs.Prelude.{◌≡◌, ◌≢◌, ⊤, ℕ, List, [], ◌∷◌, None, Some, Err, true, MatchOption, MatchResult, IfOk, OnOk};
 ghost use Rattle.json.specs.Token.{Token as JsonToken};
 ghost use Rattle.json.specs.Json.{Json};
 ghost use Rattle.json.specs.Print.{IsPrintable};
@@ -162,6 +162,8 @@ impl MemberReader {
 
 impl TakesTokens for MemberReader {
     ghost took = { IsReading };
+
+    ghost wants_order = { ⊤ };
 
     fn push(&mut self, alloc: Global, token: Token<'_>) -> Result<(), Stop> {
         self.go_over(alloc, token)

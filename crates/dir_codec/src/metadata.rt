@@ -4,12 +4,12 @@ ghost use Rattle.dir_codec.specs.Metadata.{spelling_of};
 ghost use Rattle.dir_codec.specs.declared.fault.DirFault.TheVariants.{NoMemory, BadMetadata};
 
 use crate::fault::DirFault;
-use crate::spelling::{Keys, spell_text};
+use crate::spelling::spell_text;
 use octets::Text;
 use std::alloc::Global;
 
-/// The metadata that bytes are, in their one spelling. How their keys may come is a guess, which costs time alone.
-pub(crate) fn read_metadata(alloc: Global, bytes: &[u8], keys: Keys) -> Result<Text, DirFault>
+/// The metadata that bytes are, in their one spelling.
+pub(crate) fn read_metadata(alloc: Global, bytes: &[u8]) -> Result<Text, DirFault>
     ensures ok { IfOk result (λ text. spelling_of bytes.now ≡ Some text) }
     ensures kept { IfOk result (λ text. spelling_of text ≡ Some text) }
     ensures err { IfErr result (λ fault. fault ≢ NoMemory → spelling_of bytes.now ≡ None) }
@@ -21,7 +21,7 @@ pub(crate) fn read_metadata(alloc: Global, bytes: &[u8], keys: Keys) -> Result<T
     let Ok(text) = str::from_utf8(bytes) else {
         return Err(DirFault::BadMetadata);
     };
-    let Some(spelling) = spell_text(alloc, text, keys)? else {
+    let Some(spelling) = spell_text(alloc, text)? else {
         return Err(DirFault::BadMetadata);
     };
     Ok(Text::from_string(spelling))

@@ -8,11 +8,10 @@ ghost use Rattle.json_stack.specs.Machine.{StackState, start_state};
 ghost use Rattle.serde_json.specs.Data.{Data};
 ghost use Rattle.serde_json.specs.Read.{of_json};
 ghost use Rattle.dir_codec.specs.Spelled.{IsExtent, data_of, IsSpelled};
-ghost use Rattle.dir_codec.specs.Speller.{FollowsMachine, GoesOver, RefusesToken, IsBeforeValue, IsBehindValue, IsSpelling, IsPlainValue, awaits, with_value, value_awaited, opened_after, is_array, is_object, IsEnded, IsUnended};
+ghost use Rattle.dir_codec.specs.Speller.{FollowsMachine, GoesOver, RefusesToken, IsBeforeValue, IsBehindValue, IsPlainValue, awaits, with_value, value_awaited, opened_after, is_array, is_object, IsEnded, IsUnended};
 
 use crate::extent::Extent;
-use crate::spelling::{READ_LEVELS, Spelled, Stop, put, rises, separate, spell_number};
-use crate::token_pieces::TakesTokens;
+use crate::spelling::{Spelled, Stop, put, rises, separate, spell_number};
 use json::Token;
 use std::alloc::{AllocError, Global};
 
@@ -43,14 +42,7 @@ pub(crate) enum Opened {
 }
 
 impl Speller {
-    /// Before the first token.
-    pub(crate) fn new(alloc: Global) -> Speller
-        ensures { IsSpelling [] result }
-    {
-        Speller::within(alloc, READ_LEVELS)
-    }
-
-    /// The same of a value with at most so many levels of arrays and objects.
+    /// Before the first token of a value with at most so many levels of arrays and objects.
     pub(crate) fn within(alloc: Global, levels: usize) -> Speller
         ensures { FollowsMachine (start_state levels) result }
     {
@@ -199,15 +191,7 @@ impl Speller {
         Ok(())
     }
 
-    /// The value's spelling, None where no whole value came.
-    pub(crate) fn finish(self) -> Option<Spelled>
-        ensures { (ts : List JsonToken) → IsSpelling ts self → MatchOption result (data_of ts ≡ None)
-            (λ spelled. (d : Data) × (data_of ts ≡ Some d) × IsSpelled spelled d) }
-    {
-        self.spelled().ok()
-    }
-
-    /// The same from wherever the machine stands: the value's spelling where it has ended, else the speller.
+    /// The value's spelling where it has ended, else the speller.
     pub(crate) fn spelled(self) -> Result<Spelled, Speller>
         ensures { (s : StackState) → FollowsMachine s self → MatchResult result (IsEnded s) (IsUnended s self) }
     {
@@ -216,14 +200,6 @@ impl Speller {
             return Ok(Spelled { text: out, extent });
         }
         Err(self)
-    }
-}
-
-impl TakesTokens for Speller {
-    ghost took = { IsSpelling };
-
-    fn push(&mut self, alloc: Global, token: Token<'_>) -> Result<(), Stop> {
-        self.go_over(alloc, token)
     }
 }
 

@@ -86,18 +86,13 @@ pub(crate) struct Spelled {
 }
 
 /// The one spelling of the metadata that a text is, None where it is none. Where keys rise in each object, it takes
-/// some twice the text's bytes, and else some 20 to 25 times at most. Whoever knows that they don't asks for them in any
-/// order at once. `Err` only where memory is refused.
-pub(crate) fn spell_text(
-    alloc: Global,
-    text: &str,
-    keys: Keys,
-) -> Result<Option<String>, AllocError>
+/// some twice the text's bytes, and else some 20 to 25 times at most. `Err` only where memory is refused.
+pub(crate) fn spell_text(alloc: Global, text: &str) -> Result<Option<String>, AllocError>
     ensures { IfOk result (λ found. MatchOption found (AreNoMetadata (tokens text.now))
         (λ spelling. SpellsMetadata (tokens text.now) [] (string_bytes spelling))) }
 {
     let mut scratch = Scratch::new(alloc);
-    match spell_once(alloc, text, &mut scratch, keys) {
+    match spell_once(alloc, text, &mut scratch, Keys::Rising) {
         Ok(found) => Ok(found),
         Err(Stop::NotRising) => match spell_once(alloc, text, &mut scratch, Keys::Any) {
             Ok(found) => Ok(found),
@@ -491,7 +486,7 @@ pub(crate) fn spell_number(text: &str, out: &mut Vec<u8>) -> Result<Extent, Stop
 
 /// The whole number of 64 bits that a token writes, None within for another number; None where `serde_json` has no
 /// such number.
-fn integer_in(text: &str) -> Option<Option<i128>>
+pub(crate) fn integer_in(text: &str) -> Option<Option<i128>>
     ensures { result ≡ option_map as_integer (number_of text.now) }
 {
     let bytes = text.as_bytes();

@@ -15,6 +15,9 @@ pub(crate) trait TakesTokens {
     /// It took these tokens so far.
     ghost took: { List JsonToken → Self → Type 0 };
 
+    /// It has objects whose keys have to rise.
+    ghost wants_order: { Type 0 };
+
     /// Takes one token more. NotRising where a key isn't above the one before it in an object whose keys have to rise.
     ///
     /// # Errors
@@ -24,7 +27,8 @@ pub(crate) trait TakesTokens {
         ensures ok { OnOk result ((ts : List JsonToken) → took ts self.old
             → took (ts ++ token_of token.entry ∷ []) self.new) }
         ensures err { result ≡ Err Stop.NotJson → (ts more : List JsonToken)
-            → took ts self.old → data_of (ts ++ token_of token.entry ∷ more) ≡ None };
+            → took ts self.old → data_of (ts ++ token_of token.entry ∷ more) ≡ None }
+        ensures order { result ≡ Err Stop.NotRising → wants_order };
 }
 
 /// Pushes the tokens of a piece that stands behind a comma or at the beginning, and before a comma or at the end.
@@ -41,6 +45,7 @@ pub(crate) fn push_tokens<T: TakesTokens>(
     ensures ok { OnOk result (IsPiecePushed T.took behind before text.now taker.old taker.new) }
     ensures err { result ≡ Err Stop.NotJson
         → IsPieceRefused T.took behind before text.now taker.old }
+    ensures order { result ≡ Err Stop.NotRising → T.wants_order }
 {
     let mut scratch = Scratch::new(alloc);
     let mut reader = Reader::new(text, &mut scratch)?;

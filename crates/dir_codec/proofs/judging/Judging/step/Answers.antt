@@ -1,7 +1,9 @@
-use Rattle.std.proofs.Common.{nat_lt, None, Some, Err, is_some, IsUtf8, refl, sym, ap, ◌∙◌, subst}
-use Rattle.dir_codec.specs.Speller.{IsSpelling}
+use Rattle.std.proofs.Common.{◌≡◌, nat_lt, None, Some, Err, is_some, IsUtf8, refl, sym, ap, ◌∙◌, subst, arith}
+use Rattle.json.specs.Lex.{tokens}
+use Rattle.dir_codec.specs.Judge.{HasJudged}
 use Rattle.dir_codec.specs.TokenPieces.{IsPiecePushed, IsPieceRefused}
-use Rattle.dir_codec.proofs.Judged.{EndsAt, part_ends, no_part_text, part_refused, more_judged, all_spelled, all_text, spelling_there}
+use Rattle.dir_codec.specs.declared.spelling.Stop.{Stop}
+use Rattle.dir_codec.proofs.Judged.{EndsAt, part_ends, no_part_text, part_refused, more_judged, all_judged, all_text, spelling_there}
 use Rattle.dir_codec.proofs.judging.Judging.step.Goals as goal
 
 pub returns-in_default-clause-judged : goal.returns-in_default-clause-judged
@@ -21,7 +23,7 @@ returns-in-Some-clause-judged c before =
     let found = c.in-Ok.ensures.cases in
     let ends : EndsAt text self.at (Some cut) part =
     subst (λ o. EndsAt text self.at o part) is (part_ends text part self.at c.next_cut-cut.result c.unwrap_or-end.result c.next_cut-cut.ensures c.unwrap_or-end.ensures found.0) in
-    let pushed = subst (λ b. IsPiecePushed IsSpelling (nat_lt 0 self.at) b part self.speller c.push_tokens.new.taker) (c.is_some.ensures ∙ ap is_some is) c.in-Ok-push_tokens.ensures.ok in
+    let pushed = subst (λ b. IsPiecePushed HasJudged (nat_lt 0 self.at) b part self.judge c.push_tokens.new.taker) (c.is_some.ensures ∙ ap is_some is) c.in-Ok-push_tokens.ensures.ok in
     more_judged c.a_cut_text_is_joined.ensures text part self _ cut before ends (subst IsUtf8 (sym found.0) found.1) refl pushed
 
 pub returns-in-Ok-push_tokens-clause-judged : goal.returns-in-Ok-push_tokens-clause-judged
@@ -33,8 +35,8 @@ returns-in-Ok-push_tokens-clause-judged c before =
     let found = c.in-Ok.ensures.cases in
     let ends : EndsAt text self.at None part =
     subst (λ o. EndsAt text self.at o part) is (part_ends text part self.at c.next_cut-cut.result c.unwrap_or-end.result c.next_cut-cut.ensures c.unwrap_or-end.ensures found.0) in
-    let pushed = subst (λ b. IsPiecePushed IsSpelling (nat_lt 0 self.at) b part self.speller c.push_tokens.new.taker) (c.is_some.ensures ∙ ap is_some is) c.in-Ok-push_tokens.ensures.ok in
-    c.spells_metadata.ensures text (all_spelled c.a_cut_text_is_joined.ensures text part self c.push_tokens.new.taker before ends pushed)
+    let pushed = subst (λ b. IsPiecePushed HasJudged (nat_lt 0 self.at) b part self.judge c.push_tokens.new.taker) (c.is_some.ensures ∙ ap is_some is) c.in-Ok-push_tokens.ensures.ok in
+    c.finish.ensures (tokens text) (all_judged c.a_cut_text_is_joined.ensures text part self c.push_tokens.new.taker before ends pushed)
     ∙ spelling_there text (all_text text part self before ends (subst IsUtf8 (sym found.0) found.1))
 
 pub returns-in-Err-NotJson-clause-judged : goal.returns-in-Err-NotJson-clause-judged
@@ -44,5 +46,6 @@ returns-in-Err-NotJson-clause-judged c before =
     let part = c.in-Ok.part.now in
     let cut = c.next_cut-cut.result in
     let ends = part_ends text part self.at cut c.unwrap_or-end.result c.next_cut-cut.ensures c.unwrap_or-end.ensures c.in-Ok.ensures.cases.0 in
-    let refused = subst (λ b. IsPieceRefused IsSpelling (nat_lt 0 self.at) b part self.speller) c.is_some.ensures (c.in-Err-NotJson.ensures.err (ap (λ f. Err f) c.in-Err-NotJson.field-0-is)) in
+    let stop : c.in-Err-NotJson.field-0 ≡ Stop.NotJson = grind (arith, c.in-Err-NotJson.ensures.order) in
+    let refused = subst (λ b. IsPieceRefused HasJudged (nat_lt 0 self.at) b part self.judge) c.is_some.ensures (c.in-Err-NotJson.ensures.err (ap (λ f. Err f) stop)) in
     part_refused c.a_cut_text_is_joined.ensures text part self cut before ends refused
