@@ -1,7 +1,7 @@
 #!/usr/bin/env python3
 """Loads on `wozhinnam serve`, the built program, on the loopback, with times and memory; each takes a minute or two at most.
 
-usage: bench/times/loads.py PROGRAM [open|readers|many_readers|slow_readers|untaken|came|million|pipelined|cut|listings|puts|many_puts|chunks|walks|forms|metadata|makes|makes_many|verifies|parts|wide|disk_LOAD|redis_LOAD|mixed|tokens|text|name|falling|no_children|few ..]
+usage: bench/times/loads.py PROGRAM [open|readers|many_readers|slow_readers|untaken|came|million|pipelined|cut|listings|puts|many_puts|chunks|walks|forms|metadata|makes|makes_many|verifies|parts|wide|disk_LOAD|redis_LOAD|mixed|tokens|falling|text|name|makes_falling|no_children|few ..]
 
 open          10,000 connections, a reply on each
 readers       8 readers of 4 MiB beside small GETs; many_readers: 200 of them; slow_readers: 200 that take 10 KB a second
@@ -26,9 +26,10 @@ wide          the `t=json` of a directory of 20,000 children
 mixed         all of these at once, by a client each
 
 And beside what is long in another way, of some 15.6 MB each:
-tokens        GETs through a directory whose one child has metadata of 3.1 million times `true`
+tokens        GETs through a directory whose one child has metadata of 3.1 million times `true`; falling: of 1.3 million members whose
+              keys fall
 text          GETs through one whose one child has metadata of one text; name: whose one child has a name of accented letters
-falling       directories made of one child with 1.3 million members of metadata whose keys fall
+makes_falling directories made of one child with metadata whose keys fall
 no_children   children JSON that is refused, since its 1.6 million members are no children
 few           directories made of 245 children with 63,000 bytes of metadata each
 
@@ -405,7 +406,8 @@ STRANGE = {
     "tokens": (lambda server: through(server, entry(b"child", b'{"a":[%s]}' % b",".join([b"true"] * 3_100_000))), "GETs through 3.1 million values"),
     "text": (lambda server: through(server, entry(b"child", b'{"a":"%s"}' % (b"x" * 15_600_000))), "GETs through one text of 15.6 MB"),
     "name": (lambda server: through(server, entry("é".encode() * 7_800_000)), "GETs by a name of 15.6 MB"),
-    "falling": (lambda server: made_of(server, [member(b"child", falling_members())]), "directories made of falling keys"),
+    "falling": (lambda server: through(server, entry(b"child", falling_members())), "GETs through falling keys"),
+    "makes_falling": (lambda server: made_of(server, [member(b"child", falling_members())]), "directories made of falling keys"),
     "no_children": (lambda server: made_of(server, [b'"%06d":0' % at for at in range(1_600_000)], b"400"), "refusals of 1.6 million members"),
     "few": (lambda server: made_of(server, [member(b"%03d" % at, b'{"a":"%s"}' % (b"x" * 63_000)) for at in range(245)]), "directories made of 245 children"),
 }
