@@ -18,6 +18,8 @@ pub mod RowLists
 pub mod RowPuts
 pub mod RowsWritten
 pub mod Raising
+pub mod SomeStood
 pub mod StampLemmas
 pub mod Standing
 pub mod Turns
+pub mod Views

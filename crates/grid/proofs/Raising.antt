@@ -14,7 +14,7 @@ use Rattle.grid.specs.GridState.{GridState, StoreState, stood, raised_at, IsHone
 use Rattle.grid.specs.Standing.{Standing, standing}
 use Rattle.grid.specs.Changes.{changed_at}
 use Rattle.grid.specs.Placement.{server_of, placed}
-use Rattle.grid.specs.Leaves.{HoldsAsBefore}
+use Rattle.grid.specs.Leaves.{Leaves, HoldsAsBefore}
 use Rattle.grid.specs.Changed.{ArePut, PutStopsAt, IsLost, IsSpoiled}
 use Rattle.grid.specs.Stamped.{IsStamped}
 use Rattle.grid.specs.Histories.{TellsOfChange}
@@ -50,6 +50,11 @@ module _ {old mid : GridState} (new : GridState) (index : List ℕ) (is : mid �
 
   pub spoiled_raised : (server : ℕ) (key : ShareKey) (place : ℕ) → IsSpoiled server key place mid new → IsSpoiled server key place old new
   spoiled_raised server key place spoiled = let p = subst (λ g. IsSpoiled server key place g new) is spoiled in record { stands = p.stands; rooms = p.rooms }
+
+pub leaves_raised : (old mid new : GridState) → mid.stores ≡ old.stores → Leaves mid new → Leaves old new
+leaves_raised old mid new is left =
+    let same = subst (λ (ts : List StoreState). Leaves (record { stores = ts; stamps = mid.stamps }) new) is left in
+    record { servers = same.servers; rises = same.rises; honest = same.honest; was_honest = same.was_honest; sums = same.sums }
 
 pub told_raised : (old mid new : GridState) (index : List ℕ) → mid ≡ stamped_so old (raised index old.stamps) → (asked : List StoreState → Standing) → (IsHonest mid → TellsOfChange (asked mid.stores) mid new) → IsHonest old → TellsOfChange (asked old.stores) old new
 told_raised old mid new index is asked told all = subst (λ (g : GridState). TellsOfChange (asked g.stores) g new) is (told (subst IsHonest (sym is) all))

@@ -26,4 +26,5 @@ pub mod Stamped
 pub mod Stamps
 pub mod Standing
 pub mod StoreAnswers
+pub mod Views
 pub mod Written

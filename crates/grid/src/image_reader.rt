@@ -13,6 +13,7 @@ ghost use Rattle.grid.specs.ImageHeads.{head_key};
 ghost use Rattle.grid.specs.Layout.{front as front_size, row_front as row_front_size};
 ghost use Rattle.grid.specs.ImageReading.{image_said, said_in, rows_said, said_row, stopped};
 ghost use Rattle.grid.specs.ImageSteps.{SaysRow, Reads, RefusesRow, AreFirst};
+ghost use Rattle.grid.specs.Views.{TellOn};
 
 use crate::image_fields::{RowHead, head_in, shares_in};
 use crate::image_layout::Layout;
@@ -53,6 +54,10 @@ impl<S: Store> Grid<S> {
         ensures leaves { MatchResult result
             (Leaves (states S.shares S.room S.held S.failures S.honest S.history stores.items))
             (λ refusal. Leaves (states S.shares S.room S.held S.failures S.honest S.history stores.items)
+            (states S.shares S.room S.held S.failures S.honest S.history refusal.1.items)) }
+        ensures told { MatchResult result
+            (TellOn (states S.shares S.room S.held S.failures S.honest S.history stores.items))
+            (λ refusal. TellOn (states S.shares S.room S.held S.failures S.honest S.history stores.items)
             (states S.shares S.room S.held S.failures S.honest S.history refusal.1.items)) }
         ensures none_failed { IfOk result (NoneFailed
             (states S.shares S.room S.held S.failures S.honest S.history stores.items)) }
@@ -111,6 +116,7 @@ impl<S: Store> Grid<S> {
     /// Takes the shares of an image into its stores, which are empty.
     fn take_image<R: Read>(&mut self, alloc: Global, reader: &mut R) -> Result<(), GridFault>
         ensures leaves { Leaves self.old self.new }
+        ensures told { TellOn self.old self.new }
         ensures down { TellsDown self.old self.new result }
         ensures refusals { IfErr result IsReadRefusal }
         ensures reads { IfSome (R.remaining reader.old) (λ bytes.
@@ -137,6 +143,7 @@ impl<S: Store> Grid<S> {
         layout: Layout,
     ) -> Result<(), GridFault>
         ensures leaves { Leaves self.old self.new }
+        ensures told { TellOn self.old self.new }
         ensures down { TellsDown self.old self.new result }
         ensures refusals { IfErr result IsReadRefusal }
         ensures reads { IfSome (R.remaining reader.old) (λ bytes.
@@ -164,6 +171,7 @@ impl<S: Store> Grid<S> {
         count: u64,
     ) -> Result<(), GridFault>
         ensures leaves { Leaves self.old self.new }
+        ensures told { TellOn self.old self.new }
         ensures down { TellsDown self.old self.new result }
         ensures refusals { IfErr result IsReadRefusal }
         ensures reads { IfSome (R.remaining reader.old) (λ bytes.
@@ -190,6 +198,7 @@ impl<S: Store> Grid<S> {
         requires server { head.server < length_of self.old.stores }
         requires some { 0 < length_of (rc_slice_items bytes) }
         ensures leaves { Leaves self.old self.new }
+        ensures told { TellOn self.old self.new }
         ensures down { TellsDown self.old self.new result }
         ensures refusals { IfErr result IsPutRefusal }
         ensures full { (s : ℕ) → IsErrOf result (GridFault.Full s) →

@@ -17,6 +17,7 @@ ghost use Rattle.grid.specs.Image.{image, image_head, row_head, row_bytes, refus
 ghost use Rattle.grid.specs.ImageLaws.{CanBeWritten};
 ghost use Rattle.grid.specs.Written.{WritesBeginning};
 ghost use Rattle.grid.specs.RowsWritten.{AreWritten, WritesImage};
+ghost use Rattle.grid.specs.Views.{StandStill, TellOn};
 ghost use Rattle.grid.specs.declared.image_layout.Layout.TheVariants.{VersionTwo};
 
 use crate::{Grid, GridFault};
@@ -65,6 +66,8 @@ impl<S: Store> Grid<S> {
             (W.contents writer.old) (W.contents writer.new)) }
 
         ensures unchanged { IsHonest self.old → IsUnchanged self.old self.new }
+        ensures stand_still { StandStill self.old self.new }
+        ensures told { TellOn self.old self.new }
         ensures ok { IsHonest self.old →
             OnOk result (Appends (W.contents writer.old) (W.contents writer.new)
             (image (length_of self.old.stores) (rows_of (maps_of self.old)))) }
@@ -101,6 +104,8 @@ impl<S: Store> Grid<S> {
         ensures down { TellsDown self.old self.new result }
         ensures refusals { IfErr result IsWriteRefusal }
         ensures unchanged { IsHonest self.old → IsUnchanged self.old self.new }
+        ensures stand_still { StandStill self.old self.new }
+        ensures told { TellOn self.old self.new }
         ensures bad_image { IsHonest self.old → (place : ℕ) →
             IsErrOf result (GridFault.BadImage place) →
             refused_place (rows_of (maps_of self.old)) ≡ Some place }
@@ -126,6 +131,8 @@ impl<S: Store> Grid<S> {
         ensures down { TellsDown self.old self.new result }
         ensures refusals { IfErr result IsLookRefusal }
         ensures unchanged { IsHonest self.old → IsUnchanged self.old self.new }
+        ensures stand_still { StandStill self.old self.new }
+        ensures told { TellOn self.old self.new }
         ensures found { IsHonest self.old →
             IfOk result (λ count. count ≡ length_of (entries_at (maps_of self.old) server)) }
     {
@@ -150,6 +157,8 @@ impl<S: Store> Grid<S> {
         ensures down { TellsDown self.old self.new result }
         ensures refusals { IfErr result IsWriteRefusal }
         ensures unchanged { IsHonest self.old → IsUnchanged self.old self.new }
+        ensures stand_still { StandStill self.old self.new }
+        ensures told { TellOn self.old self.new }
         ensures ok { OnOk result ((rows : List Row)
             × AreWritten progress.old progress.new (W.contents writer.old) (W.contents writer.new) rows
             × (IsHonest self.old → rows ≡ rows_of (maps_of self.old))) }
@@ -181,6 +190,8 @@ impl<S: Store> Grid<S> {
         ensures down { TellsDown self.old self.new result }
         ensures refusals { IfErr result IsWriteRefusal }
         ensures unchanged { IsHonest self.old → IsUnchanged self.old self.new }
+        ensures stand_still { StandStill self.old self.new }
+        ensures told { TellOn self.old self.new }
         ensures ok { OnOk result ((rows : List Row)
             × AreWritten progress.old progress.new (W.contents writer.old) (W.contents writer.new) rows
             × (IsHonest self.old → rows ≡ rows_at (maps_of self.old) server)) }
@@ -208,6 +219,8 @@ impl<S: Store> Grid<S> {
         ensures down { TellsDown self.old self.new result }
         ensures refusals { IfErr result IsLookRefusal }
         ensures unchanged { IsHonest self.old → IsUnchanged self.old self.new }
+        ensures stand_still { StandStill self.old self.new }
+        ensures told { TellOn self.old self.new }
         ensures few { IsHonest self.old →
             length_of (entries_at (maps_of self.old) server) < 2 ^ 64 }
         ensures found { IsHonest self.old → IfOk result (λ share. option_map entry_of share

@@ -5,6 +5,7 @@ ghost use Rattle.std.specs.FinMap as finite;
 ghost use Rattle.share_store.specs.Looked.{Looked};
 ghost use Rattle.share_store.specs.NumberedShares.{AllBut, below_limit, numbered_bytes};
 ghost use Rattle.share_store.specs.Put.{put_once};
+ghost use Rattle.share_store.specs.Shared.{IsShared, SeesAmid, TellsOn};
 ghost use Rattle.share_store.specs.Stored.{entry_of};
 ghost use Rattle.grid.specs.GridState.{states, stores_seen, maps_of, stood, room_at, held_at, size_at, failures_at, failures_in, raised_at, IsHonest, NoneFailed};
 ghost use Rattle.grid.specs.Stamps.{raised, stamp_of};
@@ -12,12 +13,13 @@ ghost use Rattle.grid.specs.Stamped.{IsStamped, MayRaise};
 ghost use Rattle.grid.specs.Leaves.{Leaves, TellsDown, IsUnchanged, HoldsAsBefore};
 ghost use Rattle.grid.specs.Histories.{TellsOfChange};
 ghost use Rattle.grid.specs.Changes.{put_at, without, spoiled};
-ghost use Rattle.grid.specs.Placement.{placed};
+ghost use Rattle.grid.specs.Placement.{placed, server_of};
 ghost use Rattle.grid.specs.Changed.{ArePut, PutStopsAt, IsLost, IsSpoiled};
 ghost use Rattle.grid.specs.NewBytes.{HasRoom};
 ghost use Rattle.grid.specs.Refusals.{IsPutRefusal, IsChangeRefusal};
 ghost use Rattle.grid.specs.Found.{entries_at, found_in, found_below, found_bytes, found_place, of_server};
 ghost use Rattle.grid.specs.OneStore.{IsPutHere};
+ghost use Rattle.grid.specs.Views.{AllTell, EachStore, KeepsShares, Sees, SomeStood, StandStill, TellOn};
 
 use crate::GridFault;
 use crate::counts::Counts;
@@ -85,6 +87,9 @@ impl<S: Store> Grid<S> {
     /// Puts the shares of a file, at most 256 and none of them empty: share i as number i at server
     /// (last byte of `index` + i) modulo the number of servers. A share that stands is kept as it is.
     ///
+    /// Where it isn't refused, a share stood at the place of each of them at some moment of the call, also over stores
+    /// that others change.
+    ///
     /// It stops at the first share that is refused, and over honest stores exactly those before it were put:
     /// [`GridFault::Full`] only where that share is longer than the room of its server's store and, over honest
     /// stores, none stands there, [`GridFault::Down`] exactly when that store failed, or [`GridFault::NoMemory`].
@@ -108,6 +113,9 @@ impl<S: Store> Grid<S> {
         ensures never_full { IsHonest self.old →
             HasRoom self.old index (map rc_slice_items shares.now) →
             (s : ℕ) → IsErrOf result (GridFault.Full s) → ⊥ }
+        ensures told { TellOn self.old self.new }
+        ensures stood { AllTell self.old → OnOk result ((i : ℕ) → i < length shares.now →
+            SomeStood self.old self.new (server_of (length self.old.stores) index i) (index, i)) }
     {
         if shares.len() == 0 {
             return Ok(());
@@ -138,6 +146,7 @@ impl<S: Store> Grid<S> {
         ensures err { IsHonest self.old → OnErr result (HoldsAsBefore self.old self.new) }
         ensures history { IsHonest self.old → TellsOfChange
             (without server (index, number) (stood self.old)) self.old self.new }
+        ensures told { TellOn self.old self.new }
     {
         if server >= self.stores.len() {
             return Err(GridFault::NoServer);
@@ -175,6 +184,7 @@ impl<S: Store> Grid<S> {
         ensures err { IsHonest self.old → OnErr result (HoldsAsBefore self.old self.new) }
         ensures history { IsHonest self.old → TellsOfChange
             (spoiled server (index, number) place (stood self.old)) self.old self.new }
+        ensures told { TellOn self.old self.new }
     {
         if server >= self.stores.len() {
             return Err(GridFault::NoServer);
@@ -240,6 +250,9 @@ impl<S: Store> Grid<S> {
         ensures never_full { IsHonest self.old →
             HasRoom self.old index (map rc_slice_items shares.now) →
             (s : ℕ) → IsErrOf result (GridFault.Full s) → ⊥ }
+        ensures told { TellOn self.old self.new }
+        ensures stood { AllTell self.old → OnOk result ((i : ℕ) → i < length shares.now →
+            SomeStood self.old self.new (server_of (length self.old.stores) index i) (index, i)) }
     {
         let servers = self.servers();
         for (i, share) in shares.iter().enumerate() {
@@ -264,6 +277,7 @@ impl<S: Store> Grid<S> {
         ensures err { IsHonest self.old → OnErr result (HoldsAsBefore self.old self.new) }
         ensures history { IsHonest self.old → TellsOfChange
             (without server (index, number) (stood self.old)) self.old self.new }
+        ensures told { TellOn self.old self.new }
     {
         size_laws();
         if server >= self.stores.len() {
@@ -293,6 +307,7 @@ impl<S: Store> Grid<S> {
         ensures err { IsHonest self.old → OnErr result (HoldsAsBefore self.old self.new) }
         ensures history { IsHonest self.old → TellsOfChange
             (spoiled server (index, number) place (stood self.old)) self.old self.new }
+        ensures told { TellOn self.old self.new }
     {
         size_laws();
         if server >= self.stores.len() {
@@ -303,11 +318,14 @@ impl<S: Store> Grid<S> {
 
     /// Each share that stands under a storage index, with its server and its number: server by server, in the order
     /// of the numbers. Bytes are lent without a copy. Over honest stores nothing else is given, and nothing is left
-    /// out but shares of servers whose store failed in the call. Refused where there was no memory for the list.
+    /// out but shares of servers whose store failed in the call. The same holds of what is seen of stores that others
+    /// change, each place at some moment of the call. Refused where there was no memory for the list.
     pub fn gather(&mut self, index: [u8; 16]) -> Result<Vec<(usize, u16, RcSlice<u8>)>, AllocError>
         ensures leaves { Leaves self.old self.new }
         ensures stamps { self.new.stamps ≡ self.old.stamps }
         ensures unchanged { IsHonest self.old → IsUnchanged self.old self.new }
+        ensures stand_still { StandStill self.old self.new }
+        ensures told { TellOn self.old self.new }
         ensures found { IsHonest self.old → IfOk result (λ found.
             AllBut (λ f. failures_at self.old f.0 < failures_at self.new f.0)
             (found_below (maps_of self.old) index (length self.old.stores))
@@ -318,6 +336,10 @@ impl<S: Store> Grid<S> {
         ensures stands { IsHonest self.old → IfOk result (λ found.
             All (λ f. stood self.old f.0 (index, f.1) ≡ Some f.2)
             (map (found_bytes rc_slice_items) found.items)) }
+        ensures seen { AllTell self.old → IfOk result (λ found. Sees self.old self.new (λ views.
+            AllBut (λ f. failures_at self.old f.0 < failures_at self.new f.0)
+            (found_below views index (length self.old.stores))
+            (map (found_bytes rc_slice_items) found.items))) }
     {
         self.gather_within(index, None)
     }
@@ -331,6 +353,8 @@ impl<S: Store> Grid<S> {
         ensures leaves { Leaves self.old self.new }
         ensures stamps { self.new.stamps ≡ self.old.stamps }
         ensures unchanged { IsHonest self.old → IsUnchanged self.old self.new }
+        ensures stand_still { StandStill self.old self.new }
+        ensures told { TellOn self.old self.new }
         ensures found { IsHonest self.old → IfOk result (λ found.
             AllBut (λ f. failures_at self.old f.0 < failures_at self.new f.0)
             (below_limit (λ f. f.1) (Some limit)
@@ -343,6 +367,11 @@ impl<S: Store> Grid<S> {
         ensures stands { IsHonest self.old → IfOk result (λ found.
             All (λ f. stood self.old f.0 (index, f.1) ≡ Some f.2)
             (map (found_bytes rc_slice_items) found.items)) }
+        ensures seen { AllTell self.old → IfOk result (λ found. Sees self.old self.new (λ views.
+            AllBut (λ f. failures_at self.old f.0 < failures_at self.new f.0)
+            (below_limit (λ f. f.1) (Some limit)
+            (found_below views index (length self.old.stores)))
+            (map (found_bytes rc_slice_items) found.items))) }
     {
         self.gather_within(index, Some(limit))
     }
@@ -368,11 +397,14 @@ impl<S: Store> Grid<S> {
 
     /// Where shares stand under a storage index: the server and the number of each, server by server, in the order of
     /// the numbers. No store is asked for bytes. Over honest stores these are the places of shares that stand, and none
-    /// is left out but those at servers whose store failed in the call. Refused where there was no memory for them.
+    /// is left out but those at servers whose store failed in the call. The same holds of what is seen of stores that
+    /// others change, each place at some moment of the call. Refused where there was no memory for them.
     pub fn places(&mut self, index: [u8; 16]) -> Result<Vec<(usize, u16)>, AllocError>
         ensures leaves { Leaves self.old self.new }
         ensures stamps { self.new.stamps ≡ self.old.stamps }
         ensures unchanged { IsHonest self.old → IsUnchanged self.old self.new }
+        ensures stand_still { StandStill self.old self.new }
+        ensures told { TellOn self.old self.new }
         ensures found { IsHonest self.old → IfOk result (λ places. (given : _)
             × (places.items ≡ map found_place given)
             × AllBut (λ f. failures_at self.old f.0 < failures_at self.new f.0)
@@ -380,6 +412,10 @@ impl<S: Store> Grid<S> {
         ensures all { IsHonest self.old → NoneFailed self.old self.new → IfOk result (λ places.
             places.items
             ≡ map found_place (found_below (maps_of self.old) index (length self.old.stores))) }
+        ensures seen { AllTell self.old → IfOk result (λ places. (given : _)
+            × (places.items ≡ map found_place given) × Sees self.old self.new (λ views.
+            AllBut (λ f. failures_at self.old f.0 < failures_at self.new f.0)
+            (found_below views index (length self.old.stores)) given)) }
     {
         let mut places = Vec::new(*self.stores.allocator());
         for server in 0..self.servers() {
@@ -399,10 +435,17 @@ impl<S: Store> Grid<S> {
         ensures leaves { Leaves self.old self.new }
         ensures stamps { self.new.stamps ≡ self.old.stamps }
         ensures unchanged { IsHonest self.old → IsUnchanged self.old self.new }
+        ensures stand_still { StandStill self.old self.new }
+        ensures told { TellOn self.old self.new }
         ensures found { IsHonest self.old → OnOk result ((given : _)
             × (places.new.items ≡ places.old.items ++ map found_place given)
             × AllBut (λ f. failures_at self.old f.0 < failures_at self.new f.0)
             (found_in server index (entries_at (maps_of self.old) server)) given) }
+        ensures seen { AllTell self.old → OnOk result ((given : _)
+            × (places.new.items ≡ places.old.items ++ map found_place given)
+            × Sees self.old self.new (λ views.
+            AllBut (λ f. failures_at self.old f.0 < failures_at self.new f.0)
+            (found_in server index (entries_at views server)) given)) }
     {
         places_in(&mut self.stores[server], server, index, places)
     }
@@ -413,6 +456,8 @@ impl<S: Store> Grid<S> {
         ensures leaves { Leaves self.old self.new }
         ensures stamps { self.new.stamps ≡ self.old.stamps }
         ensures unchanged { IsHonest self.old → IsUnchanged self.old self.new }
+        ensures stand_still { StandStill self.old self.new }
+        ensures told { TellOn self.old self.new }
     {
         for server in 0..self.servers() {
             self.prefetch_at(server, index, limit);
@@ -425,6 +470,8 @@ impl<S: Store> Grid<S> {
         ensures leaves { Leaves self.old self.new }
         ensures stamps { self.new.stamps ≡ self.old.stamps }
         ensures unchanged { IsHonest self.old → IsUnchanged self.old self.new }
+        ensures stand_still { StandStill self.old self.new }
+        ensures told { TellOn self.old self.new }
     {
         self.stores[server].prefetch(index, limit);
     }
@@ -438,6 +485,8 @@ impl<S: Store> Grid<S> {
         ensures leaves { Leaves self.old self.new }
         ensures stamps { self.new.stamps ≡ self.old.stamps }
         ensures unchanged { IsHonest self.old → IsUnchanged self.old self.new }
+        ensures stand_still { StandStill self.old self.new }
+        ensures told { TellOn self.old self.new }
         ensures found { IsHonest self.old → IfOk result (λ found.
             AllBut (λ f. failures_at self.old f.0 < failures_at self.new f.0)
             (below_limit (λ f. f.1) limit
@@ -450,6 +499,11 @@ impl<S: Store> Grid<S> {
         ensures stands { IsHonest self.old → IfOk result (λ found.
             All (λ f. stood self.old f.0 (index, f.1) ≡ Some f.2)
             (map (found_bytes rc_slice_items) found.items)) }
+        ensures seen { AllTell self.old → IfOk result (λ found. Sees self.old self.new (λ views.
+            AllBut (λ f. failures_at self.old f.0 < failures_at self.new f.0)
+            (below_limit (λ f. f.1) limit
+            (found_below views index (length self.old.stores)))
+            (map (found_bytes rc_slice_items) found.items))) }
     {
         self.prefetch_all(index, limit);
         let mut found = Vec::new(*self.stores.allocator());
@@ -471,12 +525,21 @@ impl<S: Store> Grid<S> {
         ensures leaves { Leaves self.old self.new }
         ensures stamps { self.new.stamps ≡ self.old.stamps }
         ensures unchanged { IsHonest self.old → IsUnchanged self.old self.new }
+        ensures stand_still { StandStill self.old self.new }
+        ensures told { TellOn self.old self.new }
         ensures found { IsHonest self.old → OnOk result ((given : _)
             × (map (found_bytes rc_slice_items) found.new.items
             ≡ map (found_bytes rc_slice_items) found.old.items ++ given)
             × AllBut (λ f. failures_at self.old f.0 < failures_at self.new f.0)
             (below_limit (λ f. f.1) limit
             (found_in server index (entries_at (maps_of self.old) server))) given) }
+        ensures seen { AllTell self.old → OnOk result ((given : _)
+            × (map (found_bytes rc_slice_items) found.new.items
+            ≡ map (found_bytes rc_slice_items) found.old.items ++ given)
+            × Sees self.old self.new (λ views.
+            AllBut (λ f. failures_at self.old f.0 < failures_at self.new f.0)
+            (below_limit (λ f. f.1) limit (found_in server index (entries_at views server)))
+            given)) }
     {
         gather_in(&mut self.stores[server], server, index, limit, found)
     }
@@ -506,6 +569,10 @@ impl<S: Store> Grid<S> {
         ensures history { IsHonest self.old → TellsOfChange
             (put_at server (index, number) (rc_slice_items bytes) (stood self.old))
             self.old self.new }
+        ensures told { TellOn self.old self.new }
+        ensures kept { EachStore KeepsShares self.old.stores self.new.stores }
+        ensures stood { AllTell self.old →
+            OnOk result (SomeStood self.old self.new server (index, number)) }
     {
         size_laws();
         answer_of(server, self.stores[server].put(index, number, bytes))
@@ -523,12 +590,20 @@ fn gather_in<S: Store>(
     ensures looked { Looked S.honest S.shares S.room S.failures store.old store.new }
     ensures same_history { IsTrue (S.honest store.old) →
         S.history store.new ≡ S.history store.old }
+    ensures told { TellsOn S.honest S.history store.old store.new }
     ensures found { IsTrue (S.honest store.old) → OnOk result ((given : _)
         × (map (found_bytes rc_slice_items) found.new.items
         ≡ map (found_bytes rc_slice_items) found.old.items ++ given)
         × AllBut (λ f. (f.0 ≡ server) × (S.failures store.old < S.failures store.new))
         (below_limit (λ f. f.1) limit
         (found_in server index (finite.entries (S.shares store.old)))) given) }
+    ensures seen { IsShared (S.honest store.old) (S.history store.old) →
+        OnOk result ((given : _)
+        × (map (found_bytes rc_slice_items) found.new.items
+        ≡ map (found_bytes rc_slice_items) found.old.items ++ given)
+        × SeesAmid (S.history store.old) (S.history store.new) (λ view.
+        AllBut (λ f. (f.0 ≡ server) × (S.failures store.old < S.failures store.new))
+        (below_limit (λ f. f.1) limit (found_in server index (finite.entries view))) given)) }
 {
     let shares = store.gather(index, limit)?;
     add_shares(server, shares, found)
@@ -560,10 +635,17 @@ fn places_in<S: Store>(
     ensures looked { Looked S.honest S.shares S.room S.failures store.old store.new }
     ensures same_history { IsTrue (S.honest store.old) →
         S.history store.new ≡ S.history store.old }
+    ensures told { TellsOn S.honest S.history store.old store.new }
     ensures found { IsTrue (S.honest store.old) → OnOk result ((given : _)
         × (places.new.items ≡ places.old.items ++ map found_place given)
         × AllBut (λ f. (f.0 ≡ server) × (S.failures store.old < S.failures store.new))
         (found_in server index (finite.entries (S.shares store.old))) given) }
+    ensures seen { IsShared (S.honest store.old) (S.history store.old) →
+        OnOk result ((given : _)
+        × (places.new.items ≡ places.old.items ++ map found_place given)
+        × SeesAmid (S.history store.old) (S.history store.new) (λ view.
+        AllBut (λ f. (f.0 ≡ server) × (S.failures store.old < S.failures store.new))
+        (found_in server index (finite.entries view)) given)) }
 {
     let numbers = store.numbers(index)?;
     add_places(server, numbers, places)

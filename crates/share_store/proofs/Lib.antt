@@ -1,3 +1,6 @@
+pub mod Along
+pub mod Amassed
+pub mod Amid
 pub mod Edits
 pub mod Gathering
 pub mod Levels
@@ -8,6 +11,7 @@ pub mod Parts
 pub mod Places
 pub mod Puts
 pub mod Ranges
+pub mod Seen
 pub mod Sizes
 pub mod Sorted
 pub mod Stands

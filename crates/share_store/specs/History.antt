@@ -3,7 +3,7 @@ use Rattle.std.specs.Prelude.{◌≡◌, ◌⊎◌, List, ◌++◌, Option, Some
 use Rattle.std.specs.List.{AllByRecursion}
 use Rattle.share_store.specs.Shares.{Shares}
 
--- what a crash might have left in it so far, the oldest first; none of a store that doesn't tell
+-- what a crash, or another's look, might have found in it so far, the oldest first; none of a store that doesn't tell
 abbrev pub History : Type 0
 History = Option (List Shares)
 

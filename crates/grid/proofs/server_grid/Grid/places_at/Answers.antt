@@ -1,10 +1,11 @@
-use Rattle.std.proofs.Common.{◌<◌, ℕ, List, slice_set, sym, subst}
+use Rattle.std.proofs.Common.{◌<◌, ℕ, List, None, slice_set, sym, subst}
 use Rattle.std.proofs.lemmas.Result.{on_ok_weaker}
 use Rattle.grid.specs.GridState.{failures_at}
 use Rattle.share_store.specs.NumberedShares.{AllBut}
 use Rattle.grid.specs.Found.{found_in}
 use Rattle.grid.proofs.Calls.{CallsStore, grid_of, call_in, honest_there, entries_there, rose_after, leaves_looked, unchanged_looked}
 use Rattle.share_store.proofs.Missing.{more_may_miss}
+use Rattle.grid.proofs.Views.{tell_on_called, still_looked, seen_at}
 use Rattle.grid.proofs.server_grid.Grid.places_at.Given.{Over}
 use Rattle.grid.proofs.server_grid.Grid.places_at.Goals as goal
 
@@ -16,6 +17,12 @@ returns-clause-leaves g c = leaves_looked g.S.Store (call g c) c.places_in.ensur
 
 pub returns-clause-unchanged : goal.returns-clause-unchanged
 returns-clause-unchanged g c = unchanged_looked g.S.Store (call g c) c.places_in.ensures.looked c.places_in.ensures.same_history
+
+pub returns-clause-stand_still : goal.returns-clause-stand_still
+returns-clause-stand_still g c = still_looked g.S.Store (call g c) c.places_in.ensures.looked
+
+pub returns-clause-told : goal.returns-clause-told
+returns-clause-told g c = tell_on_called g.S.Store (call g c) c.places_in.ensures.looked.still_honest c.places_in.ensures.told
 
 pub returns-clause-found : goal.returns-clause-found
 returns-clause-found g c all =
@@ -29,3 +36,9 @@ returns-clause-found g c all =
           (more_may_miss _ missed _ found.0 (λ f rose. rose_after (call g c) f.0 rose.0 rose.1) found.2),
     ))
     (c.places_in.ensures.found (honest_there (call g c) all))
+
+pub returns-clause-seen : goal.returns-clause-seen
+returns-clause-seen g c all =
+    seen_at g.S.Store (call g c) c.args.index None all
+    (tell_on_called g.S.Store (call g c) c.places_in.ensures.looked.still_honest c.places_in.ensures.told)
+    c.places_in.result _ c.places_in.ensures.found c.places_in.ensures.seen

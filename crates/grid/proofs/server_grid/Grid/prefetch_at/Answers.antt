@@ -1,4 +1,5 @@
 use Rattle.grid.proofs.Calls.{CallsStore, call_in, leaves_looked, unchanged_looked}
+use Rattle.grid.proofs.Views.{tell_on_called, still_looked}
 use Rattle.grid.proofs.server_grid.Grid.prefetch_at.Given.{Over}
 use Rattle.grid.proofs.server_grid.Grid.prefetch_at.Goals as goal
 
@@ -10,3 +11,9 @@ returns-clause-leaves g c = leaves_looked g.S.Store (call g c) c.prefetch.ensure
 
 pub returns-clause-unchanged : goal.returns-clause-unchanged
 returns-clause-unchanged g c = unchanged_looked g.S.Store (call g c) c.prefetch.ensures.looked c.prefetch.ensures.same_history
+
+pub returns-clause-stand_still : goal.returns-clause-stand_still
+returns-clause-stand_still g c = still_looked g.S.Store (call g c) c.prefetch.ensures.looked
+
+pub returns-clause-told : goal.returns-clause-told
+returns-clause-told g c = tell_on_called g.S.Store (call g c) c.prefetch.ensures.looked.still_honest c.prefetch.ensures.told

@@ -1,15 +1,18 @@
-use Rattle.std.proofs.Common.{◌∙◌, ◌≡◌, ◌<◌, sym, ap, subst, map, take, length, get_or, [], arith}
+use Rattle.std.proofs.Common.{◌∙◌, ◌≡◌, ◌<◌, sym, ap, subst, map, take, length, List, get_or, [], arith}
 use Rattle.std.proofs.lemmas.List.{length-map}
 use Rattle.std.proofs.lemmas.Option.{slice_get-get_or}
 use Rattle.std.proofs.lemmas.Result.{on_ok_weaker}
 use Rattle.std.specs.Rc.{rc_slice_items}
 use Rattle.grid.specs.declared.fault.GridFault.TheVariants.{NoMemory}
 use Rattle.grid.specs.Standing.{standing}
-use Rattle.grid.specs.GridState.{GridState, stood, IsHonest}
+use Rattle.grid.specs.GridState.{GridState, StoreState, stood, IsHonest}
 use Rattle.grid.specs.Changed.{ArePut, PutStopsAt}
 use Rattle.grid.proofs.Puts.{put_none, passed_on}
-use Rattle.grid.specs.Placement.{placed}
+use Rattle.grid.specs.Placement.{placed, server_of}
 use Rattle.grid.proofs.Raising.{SameBut, none_there, put_raised, stops_raised, told_raised, raise_stamped, same_but_placed, by_fault, if_err_weaker}
+use Rattle.grid.specs.Views.{AllTell, SomeStood, TellOn}
+use Rattle.grid.proofs.SomeStood.{stood_raised}
+use Rattle.grid.proofs.Views.{tell_on_none, tell_on_raised}
 use Rattle.grid.proofs.server_grid.Grid.put_all.Goals as goal
 
 pub returns-then-shares-eq0-clause-ok : goal.returns-then-shares-eq0-clause-ok
@@ -61,3 +64,28 @@ pub returns-clause-ok : goal.returns-clause-ok
 returns-clause-ok g c all =
     let is = c.in_ok-raise.ensures.ok in
     on_ok_weaker c.put_each.result (put_raised c.put_each.new.self c.args.index is (map rc_slice_items c.args.shares.now)) (c.put_each.ensures.ok (subst IsHonest (sym is) all))
+
+pub returns-clause-told : goal.returns-clause-told
+returns-clause-told g c = tell_on_raised c.args.self.now c.raise.new.self c.put_each.new.self (ap (λ (g : GridState). g.stores) c.in_ok-raise.ensures.ok) c.put_each.ensures.told
+
+pub returns-then-shares-eq0-clause-told : goal.returns-then-shares-eq0-clause-told
+returns-then-shares-eq0-clause-told g c = tell_on_none c.args.self.now
+
+pub returns-in_err-raise-clause-told : goal.returns-in_err-raise-clause-told
+returns-in_err-raise-clause-told g c = subst (TellOn c.args.self.now) (sym c.in_err-raise.ensures.err) (tell_on_none c.args.self.now)
+
+pub returns-clause-stood : goal.returns-clause-stood
+returns-clause-stood g c all =
+    let is = c.in_ok-raise.ensures.ok in
+    let old = c.args.self.now in
+    let mid = c.raise.new.self in
+    let new = c.put_each.new.self in
+    let same : mid.stores ≡ old.stores = ap (λ (g : GridState). g.stores) is in
+    on_ok_weaker c.put_each.result
+    (λ each i lt.
+    subst (λ (ts : List StoreState). SomeStood old new (server_of (length ts) c.args.index i) (c.args.index, i)) same
+    (stood_raised old mid new (server_of (length mid.stores) c.args.index i) (c.args.index, i) same (each i lt)))
+    (c.put_each.ensures.stood (subst AllTell (sym is) all))
+
+pub returns-then-shares-eq0-clause-stood : goal.returns-then-shares-eq0-clause-stood
+returns-then-shares-eq0-clause-stood g c all i lt = absurd (omega arith)

@@ -5,6 +5,7 @@ use Rattle.grid.specs.ImageReading.{image_said}
 use Rattle.grid.specs.ImageSteps.{Reads}
 use Rattle.grid.proofs.ImageSteps.{front_of}
 use Rattle.grid.proofs.ImageRuns.{named, not_named, bad_front, no_front, reads_passed}
+use Rattle.grid.proofs.Views.{tell_on_none}
 use Rattle.grid.proofs.server_grid.Grid.take_image.Goals as goal
 
 pub returns-in_err-came-clause-reads : goal.returns-in_err-came-clause-reads
@@ -33,3 +34,9 @@ returns-in-None-clause-reads g c =
     let came = front_of (g.R.Read.remaining c.args.reader.now) (g.R.Read.remaining c.fill.new.reader) 8 c.in_ok-came.came c.fill.new.buffer (search rules) c.in_ok-came.ensures.told in
     bad_front (g.R.Read.remaining c.args.reader.now) (g.R.Read.remaining c.fill.new.reader) (image_said (length old.stores)) 0 (room_at old) good (rows_of (maps_of old)) (λ good. good.1)
     (not_named (g.R.Read.remaining c.args.reader.now) (g.R.Read.remaining c.fill.new.reader) (length old.stores) front came (sym c.in-None.ensures))
+
+pub returns-in_err-came-clause-told : goal.returns-in_err-came-clause-told
+returns-in_err-came-clause-told g c = tell_on_none c.args.self.now
+
+pub returns-in-None-clause-told : goal.returns-in-None-clause-told
+returns-in-None-clause-told g c = tell_on_none c.args.self.now

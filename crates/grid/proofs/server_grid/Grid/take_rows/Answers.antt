@@ -10,11 +10,13 @@ use Rattle.grid.specs.ImageSteps.{SaysRow}
 use Rattle.grid.proofs.Puts.{calm_after}
 use Rattle.grid.proofs.Turns.{leaves_none, leaves_both}
 use Rattle.grid.proofs.ImageRuns.{starts, goes_on, stops_reading, stops_putting, stops_at_end, ends, reads_passed}
+use Rattle.grid.proofs.Views.{tell_on_none, tell_on_both}
 use Rattle.grid.proofs.server_grid.Grid.take_rows.Goals as goal
 
 pub loop-done-init : goal.loop-done-init
 loop-done-init g c = record {
   leaves = leaves_none c.args.self.now;
+  told = tell_on_none c.args.self.now;
   calm = λ s. refl;
   so_far = starts (g.R.Read.remaining c.args.reader.now) c.args.layout (c.args.count - 0) c.args.count (length c.args.self.now.stores) (12 + c.wide.result)
       (IsHonest c.args.self.now × (rows_of (maps_of c.args.self.now) ≡ []))
@@ -71,6 +73,7 @@ loop-done-preserved g c =
     let row = subst (λ n. IfSome (g.R.Read.remaining c.loop-done.reader) (λ left. SaysRow c.args.layout n last c.loop-done.place left (g.R.Read.remaining c.read_row.new.reader) head own)) same c.in_ok-row.ensures.told in
     record {
       leaves = leaves_both c.args.self.now c.loop-done.self c.put_row.new.self inv.leaves put.leaves;
+      told = tell_on_both c.args.self.now c.loop-done.self c.put_row.new.self inv.told put.told;
       calm = λ s. calm_after c.loop-done.self c.put_row.new.self _ put.leaves put.down s ∙ inv.calm s;
       so_far = goes_on all c.args.layout servers good (g.R.Read.remaining c.args.reader.now) (g.R.Read.remaining c.loop-done.reader) (g.R.Read.remaining c.read_row.new.reader)
           (c.args.count - c.loop-done.done) (c.args.count - (c.loop-done.done + 1)) c.loop-done.place c.in_ok-row.row.next last held new head own (omega arith) c.in_ok-row.ensures.next c.in_ok-row.ensures.after
@@ -101,3 +104,6 @@ returns-clause-reads g c =
 
 pub returns-in_err-_put-clause-leaves : goal.returns-in_err-_put-clause-leaves
 returns-in_err-_put-clause-leaves g c = leaves_both c.args.self.now c.loop-done.self c.put_row.new.self c.loop-done.invariant.leaves c.in_err-_put.ensures.leaves
+
+pub returns-in_err-_put-clause-told : goal.returns-in_err-_put-clause-told
+returns-in_err-_put-clause-told g c = tell_on_both c.args.self.now c.loop-done.self c.put_row.new.self c.loop-done.invariant.told c.in_err-_put.ensures.told

@@ -7,12 +7,14 @@ use Rattle.grid.specs.Layout.{front}
 use Rattle.grid.specs.ImageHeads.{head_key}
 use Rattle.grid.specs.ImageReading.{rows_said}
 use Rattle.grid.proofs.ImageRuns.{SoFar}
+use Rattle.grid.specs.Views.{TellOn}
 use Rattle.grid.proofs.server_grid.Grid.take_rows.Given as goal
 
 -- the rows so far stand, and no store failed
 abbrev pub invariant-loop-done : goal.invariant-loop-done
 invariant-loop-done g l = record {
   leaves : Leaves l.fn.self l.self;
+  told : TellOn l.fn.self l.self;
   calm : NoneFailed l.fn.self l.self;
   so_far : IfSome (g.R.Read.remaining l.fn.reader) (λ bytes. SoFar (rows_said l.layout l.count (length l.fn.self.stores) None (front l.layout) bytes) l.layout (l.count - l.done) (length l.fn.self.stores)
       (option_map head_key l.last) l.place (g.R.Read.remaining l.reader)

@@ -7,6 +7,7 @@ use Rattle.grid.specs.ImageReading.{said_in}
 use Rattle.grid.specs.ImageSteps.{Reads}
 use Rattle.grid.proofs.ImageSteps.{front_of}
 use Rattle.grid.proofs.ImageRuns.{counted, not_counted, bad_front, no_front, reads_passed}
+use Rattle.grid.proofs.Views.{tell_on_none}
 use Rattle.grid.proofs.server_grid.Grid.take_shares.Goals as goal
 
 pub returns-in_err-came-clause-reads : goal.returns-in_err-came-clause-reads
@@ -38,3 +39,9 @@ returns-in-Err-clause-reads g c =
     bad_front (g.R.Read.remaining c.args.reader.now) (g.R.Read.remaining c.fill.new.reader) (said_in layout (length old.stores)) c.in-Err.place (room_at old) good (rows_of (maps_of old)) (λ good. good.1)
     (not_counted (g.R.Read.remaining c.args.reader.now) (g.R.Read.remaining c.fill.new.reader) layout (length old.stores) front c.in-Err.place came
     (ap (λ n. shares_said layout n front) (sym c.servers.ensures.servers) ∙ sym c.in-Err.ensures))
+
+pub returns-in_err-came-clause-told : goal.returns-in_err-came-clause-told
+returns-in_err-came-clause-told g c = tell_on_none c.args.self.now
+
+pub returns-in-Err-clause-told : goal.returns-in-Err-clause-told
+returns-in-Err-clause-told g c = tell_on_none c.args.self.now

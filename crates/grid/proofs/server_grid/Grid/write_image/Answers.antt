@@ -15,6 +15,7 @@ use Rattle.grid.proofs.ImageWrites.{on_err, passed_cause, place_in_fields, stopp
 use Rattle.grid.proofs.RowFacts.{can_be_written}
 use Rattle.grid.proofs.RowsWritten.{image_written, image_fits}
 use Rattle.grid.proofs.Turns.{leaves_both}
+use Rattle.grid.proofs.Views.{tell_on_both, still_both}
 use Rattle.grid.proofs.server_grid.Grid.write_image.Given.{Over}
 use Rattle.grid.proofs.server_grid.Grid.write_image.Goals as goal
 use Rattle.grid.proofs.server_grid.Grid.write_image.Goals.{After-write_whole}
@@ -111,3 +112,21 @@ returns-in_err-write_rows-clause-bad_image g c all place is =
     let same = passed_cause _ c.in_err-write_rows.field-0.0 (BadImage place) c.from_residual-in_err-write_rows.ensures.1 is in
     place_in_fields (rows_of maps) (Some place) (omega (arith, few, c.in_ok-shares.ensures.found all))
     (ap (λ ms. refused_field 20 (rows_of ms)) (sym (c.in_ok-shares.ensures.unchanged all).maps) ∙ c.in_err-write_rows.ensures.bad_image (c.in_ok-shares.ensures.leaves.honest all) place (ap Err same))
+
+pub returns-clause-stand_still : goal.returns-clause-stand_still
+returns-clause-stand_still g c = still_both c.args.self.now c.count_shares.new.self c.write_rows.new.self c.in_ok-shares.ensures.stand_still c.in_ok-write_rows.ensures.stand_still
+
+pub returns-clause-told : goal.returns-clause-told
+returns-clause-told g c = tell_on_both c.args.self.now c.count_shares.new.self c.write_rows.new.self c.in_ok-shares.ensures.told c.in_ok-write_rows.ensures.told
+
+pub returns-then-progress-gt0-clause-stand_still : goal.returns-then-progress-gt0-clause-stand_still
+returns-then-progress-gt0-clause-stand_still g c = still_both c.args.self.now c.count_shares.new.self c.write_rows.new.self c.in_ok-shares.ensures.stand_still c.in_ok-write_rows.ensures.stand_still
+
+pub returns-then-progress-gt0-clause-told : goal.returns-then-progress-gt0-clause-told
+returns-then-progress-gt0-clause-told g c = tell_on_both c.args.self.now c.count_shares.new.self c.write_rows.new.self c.in_ok-shares.ensures.told c.in_ok-write_rows.ensures.told
+
+pub returns-in_err-write_rows-clause-stand_still : goal.returns-in_err-write_rows-clause-stand_still
+returns-in_err-write_rows-clause-stand_still g c = still_both c.args.self.now c.count_shares.new.self c.write_rows.new.self c.in_ok-shares.ensures.stand_still c.in_err-write_rows.ensures.stand_still
+
+pub returns-in_err-write_rows-clause-told : goal.returns-in_err-write_rows-clause-told
+returns-in_err-write_rows-clause-told g c = tell_on_both c.args.self.now c.count_shares.new.self c.write_rows.new.self c.in_ok-shares.ensures.told c.in_err-write_rows.ensures.told

@@ -1,4 +1,4 @@
-use Rattle.std.proofs.Common.{◌≡◌, ◌+◌, ◌++◌, ◌∙◌, suc, List, length, subst, ap, sym, arith, Some, Err}
+use Rattle.std.proofs.Common.{◌≡◌, ◌+◌, ◌++◌, ◌∙◌, suc, List, [], length, refl, subst, ap, sym, arith, Some, Err}
 use Rattle.std.proofs.lemmas.List.{length-map}
 use Rattle.std.specs.List.{flat_map}
 use Rattle.share_store.specs.Shares.{Shares}
@@ -10,8 +10,9 @@ use Rattle.grid.specs.declared.fault.GridFault.TheVariants.{BadImage}
 use Rattle.grid.specs.declared.image_layout.Layout.TheVariants.{VersionTwo}
 use Rattle.grid.proofs.ImageWrites.{on_err, passed_cause}
 use Rattle.grid.proofs.Puts.{calm_after}
-use Rattle.grid.proofs.RowsWritten.{rows_split, written_both, stopped_rows, refused_rows}
-use Rattle.grid.proofs.Turns.{leaves_both, unchanged_then}
+use Rattle.grid.proofs.RowsWritten.{written_none, rows_split, written_both, stopped_rows, refused_rows}
+use Rattle.grid.proofs.Turns.{leaves_none, leaves_both, unchanged_none, unchanged_then}
+use Rattle.grid.proofs.Views.{tell_on_none, tell_on_both, still_none, still_both}
 use Rattle.grid.proofs.server_grid.Grid.write_rows.Goals as goal
 
 pub loop-server-preserved : goal.loop-server-preserved
@@ -26,6 +27,8 @@ loop-server-preserved g c =
       stamps = one.stamps ∙ inv.stamps;
       calm = λ s. calm_after mid new _ one.leaves one.down s ∙ inv.calm s;
       unchanged = unchanged_then inv.leaves inv.unchanged one.unchanged;
+      stand_still = still_both old mid new inv.stand_still one.stand_still;
+      told = tell_on_both old mid new inv.told one.told;
       done = (
         inv.done.0 ++ one.ok.0,
         written_both _ _ _ _ inv.done.0 inv.done.1 _ _ one.ok.0 one.ok.1,
@@ -75,3 +78,20 @@ returns-in_err-write_server-clause-bad_image g c all place is =
     ap (refused_field c.args.progress.now.place) (split.1 ∙ ap (λ l. l ++ (rows_at maps n ++ split.0)) (sym (inv.done.2 all)))
     ∙ refused_rows _ _ _ _ inv.done.0 inv.done.1 (rows_at maps n) split.0 (Some place)
     (λ more. ap (λ (ms : List Shares). refused_field c.loop-server.progress.place (rows_at ms n ++ more)) (sym (inv.unchanged all).maps) ∙ c.in_err-write_server.ensures.bad_image (inv.leaves.honest all) place (ap Err same) more)
+
+pub returns-in_err-write_server-clause-stand_still : goal.returns-in_err-write_server-clause-stand_still
+returns-in_err-write_server-clause-stand_still g c = still_both c.args.self.now c.loop-server.self c.write_server.new.self c.loop-server.invariant.stand_still c.in_err-write_server.ensures.stand_still
+
+pub returns-in_err-write_server-clause-told : goal.returns-in_err-write_server-clause-told
+returns-in_err-write_server-clause-told g c = tell_on_both c.args.self.now c.loop-server.self c.write_server.new.self c.loop-server.invariant.told c.in_err-write_server.ensures.told
+
+pub loop-server-init : goal.loop-server-init
+loop-server-init g c = record {
+  leaves = leaves_none c.args.self.now;
+  stamps = refl;
+  calm = λ s. refl;
+  unchanged = λ all. unchanged_none c.args.self.now;
+  stand_still = still_none c.args.self.now;
+  told = tell_on_none c.args.self.now;
+  done = ([], written_none c.args.progress.now (g.W.Write.contents c.args.writer.now), λ all. refl);
+}

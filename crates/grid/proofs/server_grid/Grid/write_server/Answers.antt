@@ -1,4 +1,4 @@
-use Rattle.std.proofs.Common.{◌≡◌, ◌<◌, ◌+◌, ◌^◌, ◌++◌, ◌∙◌, length, subst, List, [], ◌∷◌, ap, sym, arith, map, drop, Some, None, Err, slice_get, append_assoc}
+use Rattle.std.proofs.Common.{◌≡◌, ◌<◌, ◌+◌, ◌^◌, ◌++◌, ◌∙◌, length, refl, subst, List, [], ◌∷◌, ap, sym, arith, map, drop, Some, None, Err, slice_get, append_assoc}
 use Rattle.std.proofs.lemmas.List.{take_all}
 use Rattle.std.specs.List.{flat_map}
 use Rattle.std.specs.Option.{option_map}
@@ -15,8 +15,9 @@ use Rattle.grid.proofs.Gather.{past_end}
 use Rattle.grid.proofs.ImageWrites.{on_err, passed_cause, stopped_before}
 use Rattle.grid.proofs.Puts.{calm_after}
 use Rattle.grid.proofs.RowLists.{map_take_more}
-use Rattle.grid.proofs.RowsWritten.{mapped_parts, mapped_split, written_both, stopped_rows, stopped_here, refused_rows}
-use Rattle.grid.proofs.Turns.{leaves_both, unchanged_then}
+use Rattle.grid.proofs.RowsWritten.{written_none, mapped_parts, mapped_split, written_both, stopped_rows, stopped_here, refused_rows}
+use Rattle.grid.proofs.Turns.{leaves_none, leaves_both, unchanged_none, unchanged_then}
+use Rattle.grid.proofs.Views.{tell_on_none, tell_on_both, still_none, still_both}
 use Rattle.grid.proofs.server_grid.Grid.write_server.Goals as goal
 
 pub loop-at-preserved : goal.loop-at-preserved
@@ -31,6 +32,8 @@ loop-at-preserved g c =
       stamps = one.stamps ∙ inv.stamps;
       calm = λ s. calm_after c.loop-at.self c.share_at.new.self _ one.leaves one.down s ∙ inv.calm s;
       unchanged = unchanged_then inv.leaves inv.unchanged one.unchanged;
+      stand_still = still_both c.args.self.now c.loop-at.self c.share_at.new.self inv.stand_still one.stand_still;
+      told = tell_on_both c.args.self.now c.loop-at.self c.share_at.new.self inv.told one.told;
       few = λ all some. subst (λ (maps : List Shares). length (entries_at maps server) < 2 ^ 64) (inv.unchanged all).maps (one.few (inv.leaves.honest all));
       done = (
         inv.done.0 ++ row (entry_of share) ∷ [],
@@ -128,3 +131,33 @@ returns-in_err-write_row-in-Some-clause-leaves g c = leaves_both c.args.self.now
 
 pub returns-in_err-write_row-in-Some-clause-unchanged : goal.returns-in_err-write_row-in-Some-clause-unchanged
 returns-in_err-write_row-in-Some-clause-unchanged g c = unchanged_then c.loop-at.invariant.leaves c.loop-at.invariant.unchanged c.in_ok-share_at.ensures.unchanged
+
+pub returns-in_err-share_at-clause-stand_still : goal.returns-in_err-share_at-clause-stand_still
+returns-in_err-share_at-clause-stand_still g c = still_both c.args.self.now c.loop-at.self c.share_at.new.self c.loop-at.invariant.stand_still c.in_err-share_at.ensures.stand_still
+
+pub returns-in_err-share_at-clause-told : goal.returns-in_err-share_at-clause-told
+returns-in_err-share_at-clause-told g c = tell_on_both c.args.self.now c.loop-at.self c.share_at.new.self c.loop-at.invariant.told c.in_err-share_at.ensures.told
+
+pub returns-in-None-clause-stand_still : goal.returns-in-None-clause-stand_still
+returns-in-None-clause-stand_still g c = still_both c.args.self.now c.loop-at.self c.share_at.new.self c.loop-at.invariant.stand_still c.in_ok-share_at.ensures.stand_still
+
+pub returns-in-None-clause-told : goal.returns-in-None-clause-told
+returns-in-None-clause-told g c = tell_on_both c.args.self.now c.loop-at.self c.share_at.new.self c.loop-at.invariant.told c.in_ok-share_at.ensures.told
+
+pub returns-in_err-write_row-in-Some-clause-stand_still : goal.returns-in_err-write_row-in-Some-clause-stand_still
+returns-in_err-write_row-in-Some-clause-stand_still g c = still_both c.args.self.now c.loop-at.self c.share_at.new.self c.loop-at.invariant.stand_still c.in_ok-share_at.ensures.stand_still
+
+pub returns-in_err-write_row-in-Some-clause-told : goal.returns-in_err-write_row-in-Some-clause-told
+returns-in_err-write_row-in-Some-clause-told g c = tell_on_both c.args.self.now c.loop-at.self c.share_at.new.self c.loop-at.invariant.told c.in_ok-share_at.ensures.told
+
+pub loop-at-init : goal.loop-at-init
+loop-at-init g c = record {
+  leaves = leaves_none c.args.self.now;
+  stamps = refl;
+  calm = λ s. refl;
+  unchanged = λ all. unchanged_none c.args.self.now;
+  stand_still = still_none c.args.self.now;
+  told = tell_on_none c.args.self.now;
+  few = λ all some. absurd (omega (arith, some));
+  done = ([], written_none c.args.progress.now (g.W.Write.contents c.args.writer.now), λ all. refl);
+}

@@ -24,3 +24,9 @@ returns-in-Second-clause-found g c =
     (below_limit (λ (share : ℕ × List ℕ). share.0) c.args.limit (shares_for (of.shares before) c.args.index))
     (map (numbered_bytes rc_slice_items) found.items)))
     (sym c.in-Second.is) c.gather-in-Second.ensures.found
+
+pub returns-in-First-clause-seen : goal.returns-in-First-clause-seen
+returns-in-First-clause-seen g c = rw c.in-First.is c.gather.ensures.seen
+
+pub returns-in-Second-clause-seen : goal.returns-in-Second-clause-seen
+returns-in-Second-clause-seen g c = rw c.in-Second.is c.gather-in-Second.ensures.seen

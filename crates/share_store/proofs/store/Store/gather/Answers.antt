@@ -1,5 +1,5 @@
-use Rattle.std.proofs.Common.{◌≡◌, inl, inr, ◌<◌, ◌+◌, ◌++◌, ◌∙◌, ℕ, List, [], ◌∷◌, refl, sym, ap, subst, arith, map, take, length, append-nil, Some, None, slice_get, get_or}
-use Rattle.std.proofs.lemmas.List.{map-append, length-map, take_all}
+use Rattle.std.proofs.Common.{◌≡◌, inl, inr, ◌<◌, ◌+◌, ◌++◌, ◌∙◌, ℕ, List, [], ◌∷◌, refl, sym, ap, subst, arith, map, take, drop, drop-cons, add-one, length, append-nil, Some, None, slice_get, get_or, rules}
+use Rattle.std.proofs.lemmas.List.{map-append, length-map, take_all, drop_all}
 use Rattle.std.proofs.lemmas.Option.{slice_get-get_or}
 use Rattle.std.proofs.lemmas.Simd.{map-map}
 use Rattle.std.specs.FinMap.{entries, get}
@@ -9,6 +9,8 @@ use Rattle.share_store.specs.Shares.{ShareEntry}
 use Rattle.share_store.specs.Numbers.{of_index}
 use Rattle.share_store.specs.NumberedShares.{AllBut, below_limit, numbered_bytes, shares_for}
 use Rattle.share_store.proofs.Gathering.{numbered, stands_at, one_more, share_of_number, by_calm, by_rise, rises_or_stays}
+use Rattle.share_store.proofs.Amassed.{IsAmassed, amassed_none, amassed_failed, amassed_one, amassed_missed, amassed_all, amassed_later}
+use Rattle.share_store.proofs.Amid.{goes_on_same, tells_on_both, amid_whole, seen_first}
 use Rattle.share_store.proofs.Looks.{looked_both}
 use Rattle.share_store.proofs.Missing.{more_may_miss, all_but_both, all_missing}
 use Rattle.share_store.proofs.Within.{within_none, within_map, within_at}
@@ -29,6 +31,7 @@ loop-number-preserved g c =
     record {
       looked = looked_both inv.looked got.looked;
       same_history = λ honest. got.same_history (inv.looked.still_honest honest) ∙ inv.same_history honest;
+      told = tells_on_both store.honest store.history old mid new inv.told got.told;
       risen = λ rose. omega (arith, inv.risen rose, got.looked.rises);
       found = λ honest ss nums stands.
           let P : ℕ × List ℕ → Type 0 = λ _. store.failures old < store.failures mid in
@@ -64,6 +67,41 @@ loop-number-preserved g c =
                 (subst (AllBut Q (seen ++ s ∷ [])) (append-nil so_far ∙ sym now_found)
                 (all_but_both Q seen (s ∷ []) so_far [] weaker (inl (omega (arith, rose, inv.looked.rises), refl))))
           ];
+      seen = λ shared.
+          let Q : Type 0 = store.failures old < store.failures new in
+          let so_far = map (numbered_bytes rc_slice_items) c.loop-number.found.items in
+          let told = inv.told shared in
+          let then = got.told told.0 in
+          let within : i < length items = c.loop-number-test.true in
+          let next : drop i items ≡ n ∷ drop (i + 1) items = rw (add-one, drop-cons items i 0) refl in
+          let before : IsAmassed (store.history old) (store.history new) Q c.args.index c.args.limit (n ∷ drop (i + 1) items) so_far =
+          subst (λ (l : List ℕ). IsAmassed (store.history old) (store.history new) Q c.args.index c.args.limit l so_far) next
+          (amassed_later shared then.1 (λ missed. omega (arith, missed, got.looked.rises)) (inv.seen shared)) in
+          elim c.match-branch-3.branch [
+            | in-Some+in_ok-push-in-Some w ↦
+                let bytes = w.in-Some.bytes in
+                let calm : store.failures new ≡ store.failures mid = by_calm (store.failures mid) (store.failures new) got.looked.rises
+                (λ rose. let none = got.failed rose in let is = w.in-Some.is in cc) in
+                let sight = got.seen told.0 calm in
+                let at = sight.1 (c.args.index, n) in
+                let now_found : map (numbered_bytes rc_slice_items) c.match-branch-3.found.items ≡ so_far ++ (n, rc_slice_items bytes) ∷ [] = ap (λ v. map (numbered_bytes rc_slice_items) v.items) w.found-is
+                ∙ ap (map (numbered_bytes rc_slice_items)) w.in_ok-push-in-Some.ensures.items
+                ∙ map-append (numbered_bytes rc_slice_items) c.loop-number.found.items _ in
+                subst (IsAmassed (store.history old) (store.history new) Q c.args.index c.args.limit (drop (i + 1) items)) (sym now_found)
+                (amassed_one (Some (rc_slice_items bytes)) at.0 (amid_whole shared told.1 at.1 (goes_on_same (store.history new) (store.history new) refl))
+                (sym (ap (option_map rc_slice_items) w.in-Some.is) ∙ sight.2 ∙ at.2) before)
+            | in-None w ↦
+                let now_found : map (numbered_bytes rc_slice_items) c.match-branch-3.found.items ≡ so_far = ap (λ v. map (numbered_bytes rc_slice_items) v.items) w.found-is in
+                subst (IsAmassed (store.history old) (store.history new) Q c.args.index c.args.limit (drop (i + 1) items)) (sym now_found)
+                (rises_or_stays (store.failures mid) (store.failures new) got.looked.rises _
+                (λ rose. amassed_missed (omega (arith, rose, inv.looked.rises)) before)
+                (λ calm.
+                let sight = got.seen told.0 calm in
+                let at = sight.1 (c.args.index, n) in
+                subst (IsAmassed (store.history old) (store.history new) Q c.args.index c.args.limit (drop (i + 1) items)) (append-nil so_far)
+                (amassed_one None at.0 (amid_whole shared told.1 at.1 (goes_on_same (store.history new) (store.history new) refl))
+                (sym (ap (option_map rc_slice_items) w.in-None.is) ∙ sight.2 ∙ at.2) before)))
+          ];
     }
 
 pub returns-clause-found : goal.returns-clause-found
@@ -93,3 +131,47 @@ returns-clause-found g c honest =
     (λ k s at. let there = within_at (λ (x : ℕ × List ℕ). x.0) c.args.limit whole k s at in stands_at (store.shares old) c.args.index there.0 s there.1) in
     let all_looked : take i ss ≡ ss = take_all i ss (omega (arith, ap length nums, length-map ss (λ (s : ℕ × List ℕ). s.0), c.loop-number-test.false)) in
     subst (λ (l : List (ℕ × List ℕ)). AllBut P l found) all_looked so_far)
+
+pub returns-clause-seen : goal.returns-clause-seen
+returns-clause-seen g c shared =
+    let items = c.deref-number-items.result.now in
+    let i = c.loop-number.number-index in
+    let so_far = c.loop-number.invariant.seen shared in
+    let done : drop i items ≡ [] = drop_all i items (omega (arith, c.loop-number-test.false)) in
+    (so_far.view, so_far.seen, amassed_all done so_far)
+
+pub loop-number-init : goal.loop-number-init
+loop-number-init g c =
+    let store = g.Self.Store in
+    let old = c.args.self.now in
+    let new = c.numbers.new.self in
+    let items = c.deref-number-items.result.now in
+    let stored = c.in_ok-stored.ensures in
+    let kept : items ≡ below_limit (λ (n : ℕ). n) c.args.limit c.in_ok-stored.stored.items = c.deref-number-items.ensures.value ∙ c.below-numbers.ensures in
+    let none : c.new-found.result.items ≡ [] = search rules in
+    record {
+      looked = stored.looked;
+      same_history = stored.same_history;
+      told = stored.told;
+      risen = λ rose. rose;
+      found = λ honest ss nums stands. ap (map (numbered_bytes rc_slice_items)) none;
+      seen = λ shared.
+          let told = stored.told shared in
+          let Q : Type 0 = store.failures old < store.failures new in
+          subst (IsAmassed (store.history old) (store.history new) Q c.args.index c.args.limit items) (sym (ap (map (numbered_bytes rc_slice_items)) none))
+          (rises_or_stays (store.failures old) (store.failures new) stored.looked.rises _
+          (λ rose. amassed_failed shared.last items (seen_first shared told.1)
+          (kept ∙ ap (below_limit (λ (n : ℕ). n) c.args.limit) (stored.failed rose) ∙ within_none (λ (n : ℕ). n) c.args.limit) rose)
+          (λ calm.
+          let sight = stored.seen shared calm in
+          let there : List ShareEntry = of_index c.args.index (entries sight.0) in
+          amassed_none sight.0 items sight.1
+          (kept ∙ ap (below_limit (λ (n : ℕ). n) c.args.limit) (sight.2 ∙ sym (map-map (λ (s : ℕ × List ℕ). s.0) numbered there))
+          ∙ within_map (λ (n : ℕ). n) (λ (s : ℕ × List ℕ). s.0) c.args.limit (shares_for sight.0 c.args.index))));
+    }
+
+pub returns-in_err-bytes-clause-told : goal.returns-in_err-bytes-clause-told
+returns-in_err-bytes-clause-told g c = tells_on_both g.Self.Store.honest g.Self.Store.history _ _ _ c.loop-number.invariant.told c.in_err-bytes.ensures.told
+
+pub returns-in_err-push-in-Some-clause-told : goal.returns-in_err-push-in-Some-clause-told
+returns-in_err-push-in-Some-clause-told g c = tells_on_both g.Self.Store.honest g.Self.Store.history _ _ _ c.loop-number.invariant.told c.in_ok-bytes.ensures.told
