@@ -1,5 +1,6 @@
--- Read GridText and Strange for whose a server is and Keys for where a share stands, then Exchanges, Told and Ahead: what a
--- connection was told and what came. Commands, Replies and Answers are its bytes. AfterExchange says how a connection is left.
+-- Read GridText and Strange for whose a server is and Keys for where a share stands, then Exchanges, Told and Ahead:
+-- what a connection was told and what came. Commands, Replies and Answers are its bytes. AfterExchange says how a
+-- connection is left. Engine is what a server is assumed to do, and EngineShares what is seen of shares then.
 pub mod Keys
 pub mod GridText
 pub mod Strange
@@ -10,3 +11,5 @@ pub mod Answers
 pub mod Told
 pub mod Ahead
 pub mod AfterExchange
+pub mod Engine
+pub mod EngineShares

@@ -26,7 +26,8 @@ mod connection;
 mod redis_store;
 /// A way to a server, in the time that its bytes are given.
 mod paced_link;
-/// What holds of keys, of the text and of the name under which it stands.
+/// What holds of keys, of the text and of the name under which it stands, and of what calls answer where the server
+/// does what is assumed of one.
 pub mod laws;
 
 pub use fault::{LinkFault, ServerFault};
