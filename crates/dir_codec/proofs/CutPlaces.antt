@@ -1,21 +1,16 @@
--- Where metadata are cut, looked through a window at a time.
+-- A text that is looked through for a comma, a window at a time.
 use Rattle.std.proofs.Common.{◌≡◌, ℕ, ◌+◌, ◌-◌, ◌<◌, ◌≤◌, List, ◌++◌, length, take, drop, sym, ap, ◌∙◌, subst, arith, length-drop}
 use Rattle.std.proofs.lemmas.List.{length-take-le, get_or-take, take-take, drop-drop}
 use Rattle.std.proofs.Math.Seq.{take-add}
 use Rattle.json.specs.Lex.{Mode, between}
 use Rattle.json_seams.specs.Modes.{mode_after, is_outside}
 use Rattle.json_seams.specs.Cuts.{IsCutFrom, IsCutComma}
-use Rattle.dir_codec.proofs.Windows.{window}
+use Rattle.dir_codec.specs.CommaSearch.{IsSearchedTo, IsCommaCut}
+use Rattle.dir_codec.proofs.Windows.{window, window_size}
 
 -- what stands at a place up to another
 abbrev seen_to : ℕ → ℕ → List ℕ → List ℕ
 seen_to at end text = take (end - at) (drop at text)
-
--- the scanner stands behind what stands there
-pub record IsSeenTo (text : List ℕ) (at : ℕ) (end : ℕ) (mode : Mode) : Type 0 where
-  pub ahead : at ≤ end
-  pub within : end ≤ length text
-  pub stands : mode ≡ mode_after between (seen_to at end text)
 
 seen_more : (text : List ℕ) (at end stop : ℕ) → at ≤ end → end ≤ stop → seen_to at end text ++ window end stop text ≡ seen_to at stop text
 seen_more text at end stop first ahead =
@@ -25,7 +20,7 @@ seen_more text at end stop first ahead =
     ap (λ r. take (end - at) (drop at text) ++ take (stop - end) r) (sym rest) ∙ sym (take-add (end - at) (stop - end) (drop at text)) ∙ ap (λ n. take n (drop at text)) size
 
 pub seen_on : ((mode : Mode) (before bytes : List ℕ) → mode_after mode (before ++ bytes) ≡ mode_after (mode_after mode before) bytes)
-    → (text : List ℕ) (at end stop : ℕ) (mode next : Mode) → end ≤ stop → stop ≤ length text → next ≡ mode_after mode (window end stop text) → IsSeenTo text at end mode → IsSeenTo text at stop next
+    → (text : List ℕ) (at end stop : ℕ) (mode next : Mode) → end ≤ stop → stop ≤ length text → next ≡ mode_after mode (window end stop text) → IsSearchedTo text at end mode → IsSearchedTo text at stop next
 seen_on law text at end stop mode next ahead within goes before =
     let first = before.ahead in
     record {
@@ -48,12 +43,12 @@ in_all bytes n at within is =
       outside = ap (λ t. is_outside (mode_after between t)) (sym (take-take at n bytes (omega arith))) ∙ is.outside;
     }
 
-pub record IsCutAt (text : List ℕ) (at cut : ℕ) : Type 0 where
-  pub ahead : at ≤ cut
-  pub comma : IsCutComma (drop at text) (cut - at)
+-- a cut in a window stands before its end
+pub cut_inside : (text : List ℕ) (end stop cut : ℕ) (mode : Mode) → end ≤ stop → stop ≤ length text → IsCutFrom mode (window end stop text) cut → end + cut < stop
+cut_inside text end stop cut mode ahead within is = let found = is.within in omega (arith, found, window_size end stop text ahead within)
 
 pub cut_seen : ((mode : Mode) (before bytes : List ℕ) (at : ℕ) → IsCutFrom (mode_after mode before) bytes at → IsCutFrom mode (before ++ bytes) (length before + at))
-    → (text : List ℕ) (at end stop cut : ℕ) (mode : Mode) → end ≤ stop → stop ≤ length text → IsCutFrom mode (window end stop text) cut → IsSeenTo text at end mode → IsCutAt text at (end + cut)
+    → (text : List ℕ) (at end stop cut : ℕ) (mode : Mode) → end ≤ stop → stop ≤ length text → IsCutFrom mode (window end stop text) cut → IsSearchedTo text at end mode → IsCommaCut text at (end + cut)
 cut_seen law text at end stop cut mode ahead within is before =
     let first = before.ahead in
     let seen = seen_to at end text in

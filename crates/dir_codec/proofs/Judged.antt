@@ -11,15 +11,16 @@ use Rattle.json_seams.specs.Seams.{behind_comma, seam}
 use Rattle.serde_json.specs.Data.{Data}
 use Rattle.serde_json.specs.Read.{read}
 use Rattle.serde_json.specs.Written.{compact_text}
+use Rattle.dir_codec.specs.CommaSearch.{IsSearched, IsCommaCut}
 use Rattle.dir_codec.specs.Judge.{HasJudged}
 use Rattle.dir_codec.specs.Judging.{IsJudging}
 use Rattle.dir_codec.specs.Metadata.{if_metadata, json_of, metadata_of, spelling_of}
 use Rattle.dir_codec.specs.Spelled.{data_of}
 use Rattle.dir_codec.specs.TokenPieces.{tokens_behind, tokens_before, IsPiecePushed, IsPieceRefused}
+use Rattle.dir_codec.specs.declared.comma_search.CommaSearch.{CommaSearch}
 use Rattle.dir_codec.specs.declared.judge.Judge.{Judge}
 use Rattle.dir_codec.specs.declared.judging.Judging.{Judging}
 use Rattle.dir_codec.proofs.Braces.{ascii_byte}
-use Rattle.dir_codec.proofs.CutPlaces.{IsCutAt}
 use Rattle.dir_codec.proofs.Json.{json_read, json_refused}
 use Rattle.dir_codec.proofs.OnePass.{no_text, unspelled}
 
@@ -53,19 +54,25 @@ SeamLaw = (text : List ℕ) (at : ℕ) → IsCutComma text at → tokens text �
 -- the part stands at a place and ends at that comma, or else with the text
 abbrev pub EndsAt : List ℕ → ℕ → Option ℕ → List ℕ → Type 0
 EndsAt text at None part = part ≡ drop at text
-EndsAt text at (Some cut) part = IsCutAt text at cut × (part ≡ take (cut - at) (drop at text))
+EndsAt text at (Some cut) part = IsCommaCut text at cut × (part ≡ take (cut - at) (drop at text))
 
 -- the tokens of what stands behind that comma, where there is one
 abbrev rest_tokens : Option ℕ → List ℕ → List Token
 rest_tokens None text = []
 rest_tokens (Some cut) text = tokens (drop (cut + 1) text)
 
-abbrev IsCutOrNone : List ℕ → ℕ → Option ℕ → Type 0
-IsCutOrNone text at cut = IfSome cut (λ c. (at ≤ c) × IsCutComma (drop at text) (c - at))
+abbrev pub IsCutOrNone : List ℕ → ℕ → Option ℕ → Type 0
+IsCutOrNone text at cut = IfSome cut (IsCommaCut text at)
 
 pub part_ends : (text part : List ℕ) (at : ℕ) (cut : Option ℕ) (end : ℕ) → IsCutOrNone text at cut → end ≡ unwrap_or cut (length text) → part ≡ take (end - at) (drop at text) → EndsAt text at cut part
 part_ends text part at None end found is same = same ∙ ap (λ n. take (n - at) (drop at text)) is ∙ take_all (length text - at) (drop at text) (omega (arith, length-drop at text))
-part_ends text part at (Some cut) end found is same = (record { ahead = found.0; comma = found.1 }, same ∙ ap (λ n. take (n - at) (drop at text)) is)
+part_ends text part at (Some cut) end found is same = (found, same ∙ ap (λ n. take (n - at) (drop at text)) is)
+
+-- the comma that a search found
+pub found_cut : (text : List ℕ) (at reached : ℕ) (old : CommaSearch) (cut : Option ℕ) → IsSearched text at old
+    → IfSome cut (λ c. (old.reached ≤ c) × (c < reached) × ((at : ℕ) → IsSearched text at old → IsCommaCut text at c)) → IsCutOrNone text at cut
+found_cut text at reached old None searched found = tt
+found_cut text at reached old (Some c) searched found = found.2 at searched
 
 behind_comma_place : (text : List ℕ) (at cut : ℕ) → at ≤ cut → drop (cut - at + 1) (drop at text) ≡ drop (cut + 1) text
 behind_comma_place text at cut ahead =
@@ -90,6 +97,9 @@ part_text text part at (Some cut) ends rest =
 
 -- ---- one part more
 
+begun_within : {text : List ℕ} {self : Judging} → IsJudging text self → self.at ≤ length text
+begun_within before = let first = before.searched.ahead in let last = before.searched.within in omega (arith, first, last)
+
 module _ (law : SeamLaw) (text part : List ℕ) (self : Judging) (cut : Option ℕ) (before : IsJudging text self) (ends : EndsAt text self.at cut part) where
   all_tokens : tokens text ≡ before.read ++ tokens_behind (nat_lt 0 self.at) (tokens_before (is_some cut) (tokens part) (rest_tokens cut text))
   all_tokens = before.joined ∙ ap (λ ts. before.read ++ tokens_behind (nat_lt 0 self.at) ts) (part_tokens law text part self.at cut ends)
@@ -102,11 +112,11 @@ module _ (law : SeamLaw) (text part : List ℕ) (self : Judging) (cut : Option �
   pub no_part_text : (IsUtf8 part → ⊥) → false ≡ is_some (spelling_of text)
   no_part_text none =
       no_spelling text
-      (no_text text (λ whole. none (part_text text part self.at cut ends (IsUtf8-drop text self.at whole (IsCharBoundary-from_take text self.at whole before.within before.utf8)))))
+      (no_text text (λ whole. none (part_text text part self.at cut ends (IsUtf8-drop text self.at whole (IsCharBoundary-from_take text self.at whole (begun_within before) before.utf8)))))
 
-pub more_judged : SeamLaw → (text part : List ℕ) (self next : Judging) (cut : ℕ) → IsJudging text self → EndsAt text self.at (Some cut) part → IsUtf8 part → next.at ≡ cut + 1
+pub more_judged : SeamLaw → (text part : List ℕ) (self next : Judging) (cut : ℕ) → IsJudging text self → EndsAt text self.at (Some cut) part → IsUtf8 part → next.at ≡ cut + 1 → (cut + 1 ≤ length text → IsSearched text (cut + 1) next.search)
     → IsPiecePushed HasJudged (nat_lt 0 self.at) true part self.judge next.judge → IsJudging text next
-more_judged law text part self next cut before ends utf8 place pushed =
+more_judged law text part self next cut before ends utf8 place searched pushed =
     let at = self.at in
     let ahead = ends.0.ahead in
     let comma = ends.0.comma in
@@ -118,7 +128,7 @@ more_judged law text part self next cut before ends utf8 place pushed =
     let some : nat_lt 0 next.at ≡ true = lt-ltb 0 next.at (omega (arith, place)) in
     record {
       read = before.read ++ tokens part;
-      within = omega (arith, place, length-drop at text);
+      searched = subst (λ n. IsSearched text n next.search) (sym place) (searched (omega (arith, length-drop at text)));
       utf8 =
           subst (λ n. IsUtf8 (take n text)) size
           (subst IsUtf8 (sym (take-add at (cut - at + 1) text ∙ ap (λ t. take at text ++ t) part_and))
@@ -140,10 +150,10 @@ pub all_text : (text part : List ℕ) (self : Judging) → IsJudging text self �
 all_text text part self before ends utf8 = subst IsUtf8 (take-append-drop self.at text) (IsUtf8-append (take self.at text) (drop self.at text) before.utf8 (subst IsUtf8 ends utf8))
 
 -- nothing was read
-pub none_judged : (text : List ℕ) (judging : Judging) → judging.at ≡ 0 → HasJudged [] judging.judge → IsJudging text judging
-none_judged text judging at judged = record {
+pub none_judged : (text : List ℕ) (judging : Judging) → judging.at ≡ 0 → IsSearched text judging.at judging.search → HasJudged [] judging.judge → IsJudging text judging
+none_judged text judging at searched judged = record {
   read = [];
-  within = omega (arith, at);
+  searched = searched;
   utf8 = rw at (IsUtf8-from_ascii [] (λ i. omega arith));
   judged = judged;
   joined = rw at refl;

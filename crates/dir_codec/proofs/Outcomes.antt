@@ -1,12 +1,12 @@
 -- The outcomes of members, judged in the order of their keys.
-use Rattle.std.proofs.Common.{◌≡◌, ℕ, true, false, List, [], ◌∷◌, Option, is_some, Ok, Err, Some, None, IsUtf8, String, Global, string_bytes, refl, ap, ◌∙◌, subst}
+use Rattle.std.proofs.Common.{◌≡◌, ℕ, true, false, List, [], ◌∷◌, Option, is_some, Ok, Err, Some, None, IsUtf8, String, Global, Box, string_bytes, refl, ap, ◌∙◌, subst}
 use Rattle.std.specs.BTreeMap.{insert_entry, is_at}
 use Rattle.std.specs.Map.{lookup}
 use Rattle.std.specs.String.{string_cmp}
 use Rattle.json.specs.Lex.{tokens}
 use Rattle.serde_json.specs.Data.{Data, object, Members, no_members, member}
 use Rattle.serde_json.specs.Read.{read}
-use Rattle.dir_codec.specs.Entries.{AreEntriesAbove}
+use Rattle.dir_codec.specs.Entries.{IsEntry, AreEntriesAbove}
 use Rattle.dir_codec.specs.Children.{making_after, making, then_make, with_entry}
 use Rattle.dir_codec.specs.Kept.{Outcome, AreOutcomes, AreBefore, IsNoObject}
 use Rattle.dir_codec.specs.Metadata.{json_of}
@@ -36,31 +36,33 @@ pub fault_made : (children : List (String Global × Child)) (left : List Outcome
 fault_made children left key fault more ms turn before = fault_at children key fault more ms before.rest (subst (λ es. AreOutcomes es before.rest) turn before.outcomes) before.made
 
 -- at a name that stands already
-same_at : (children : List (String Global × Child)) (key name : String Global) (child : Child) (more : List Outcome) (ms rest : Members) → AreOutcomes ((key, Ok (name, child)) ∷ more) rest → making_after [] ms ≡ making_after (entries_of children) rest
+same_at : (children : List (String Global × Child)) (key name : String Global) (child : Child) (boxed : Box (String Global × Child) Global) (more : List Outcome) (ms rest : Members) → AreOutcomes ((key, Ok boxed) ∷ more) rest → boxed.value ≡ (name, child) → making_after [] ms ≡ making_after (entries_of children) rest
     → with_entry (entries_of children) (entry_of_child (name, child)) ≡ Err SameName → making_after [] ms ≡ Err SameName
-same_at children key name child more ms no_members outcomes made same = absurd outcomes
-same_at children key name child more ms (member k d rest) outcomes made same = made ∙ make_fault (entries_of children) k d rest (entry_of_child (name, child)) SameName outcomes.1.0 same
+same_at children key name child boxed more ms no_members outcomes holds made same = absurd outcomes
+same_at children key name child boxed more ms (member k d rest) outcomes holds made same = made ∙ make_fault (entries_of children) k d rest (entry_of_child (name, child)) SameName (outcomes.1.0 ∙ ap (λ n. Ok (entry_of_child n)) holds) same
 
-pub same_made : (children : List (String Global × Child)) (left : List Outcome) (key name : String Global) (child : Child) (more : List Outcome) (old : Option Child) (ms : Members) → left ≡ (key, Ok (name, child)) ∷ more
+pub same_made : (children : List (String Global × Child)) (left : List Outcome) (key name : String Global) (child : Child) (boxed : Box (String Global × Child) Global) (more : List Outcome) (old : Option Child) (ms : Members) → left ≡ (key, Ok boxed) ∷ more → boxed.value ≡ (name, child)
     → old ≡ lookup (is_at (string_cmp name)) children → is_some old ≡ true → AreBefore children left ms → making_after [] ms ≡ Err SameName
-same_made children left key name child more old ms turn is some before =
-    same_at children key name child more ms before.rest (subst (λ es. AreOutcomes es before.rest) turn before.outcomes) before.made (same_name name child children old is some)
+same_made children left key name child boxed more old ms turn holds is some before =
+    same_at children key name child boxed more ms before.rest (subst (λ es. AreOutcomes es before.rest) turn before.outcomes) holds before.made (same_name name child children old is some)
 
 -- at a new name
-new_at : (children new : List (String Global × Child)) (key name : String Global) (child : Child) (more : List Outcome) (old : Option Child) (ms rest : Members) → AreOutcomes ((key, Ok (name, child)) ∷ more) rest
+new_at : (children new : List (String Global × Child)) (key name : String Global) (child : Child) (boxed : Box (String Global × Child) Global) (more : List Outcome) (old : Option Child) (ms rest : Members) → AreOutcomes ((key, Ok boxed) ∷ more) rest → boxed.value ≡ (name, child)
     → making_after [] ms ≡ making_after (entries_of children) rest → AreEntriesAbove [] (entries_of children) → old ≡ lookup (is_at (string_cmp name)) children → is_some old ≡ false → new ≡ insert_entry string_cmp children name child → AreBefore new more ms
-new_at children new key name child more old ms no_members outcomes made kept is none put = absurd outcomes
-new_at children new key name child more old ms (member k d rest) outcomes made kept is none put = record {
+new_at children new key name child boxed more old ms no_members outcomes holds made kept is none put = absurd outcomes
+new_at children new key name child boxed more old ms (member k d rest) outcomes holds made kept is none put = record {
   rest = rest;
   outcomes = outcomes.2;
-  made = made ∙ make_next (entries_of children) k d rest (entry_of_child (name, child)) (entries_of new) outcomes.1.0 (new_name name child children new old is none put);
-  kept = new_above name child children new old is none put kept outcomes.1.1 (name_above (string_bytes name) outcomes.1.1.name);
+  made = made ∙ make_next (entries_of children) k d rest (entry_of_child (name, child)) (entries_of new) (outcomes.1.0 ∙ ap (λ n. Ok (entry_of_child n)) holds) (new_name name child children new old is none put);
+  kept =
+      let entry : IsEntry (entry_of_child (name, child)) = subst (λ n. IsEntry (entry_of_child n)) holds outcomes.1.1 in
+      new_above name child children new old is none put kept entry (name_above (string_bytes name) entry.name);
 }
 
-pub new_made : (children new : List (String Global × Child)) (left : List Outcome) (key name : String Global) (child : Child) (more : List Outcome) (old : Option Child) (ms : Members) → left ≡ (key, Ok (name, child)) ∷ more
+pub new_made : (children new : List (String Global × Child)) (left : List Outcome) (key name : String Global) (child : Child) (boxed : Box (String Global × Child) Global) (more : List Outcome) (old : Option Child) (ms : Members) → left ≡ (key, Ok boxed) ∷ more → boxed.value ≡ (name, child)
     → old ≡ lookup (is_at (string_cmp name)) children → is_some old ≡ false → new ≡ insert_entry string_cmp children name child → AreBefore children left ms → AreBefore new more ms
-new_made children new left key name child more old ms turn is none put before =
-    new_at children new key name child more old ms before.rest (subst (λ es. AreOutcomes es before.rest) turn before.outcomes) before.made before.kept is none put
+new_made children new left key name child boxed more old ms turn holds is none put before =
+    new_at children new key name child boxed more old ms before.rest (subst (λ es. AreOutcomes es before.rest) turn before.outcomes) holds before.made before.kept is none put
 
 -- ---- the whole
 

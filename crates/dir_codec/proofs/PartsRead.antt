@@ -63,7 +63,7 @@ no_value found ts is none = is.value ∙ ap (λ ms. Some (json.object ms)) (no_p
 
 read_at_most : (bytes : List ℕ) (at : ℕ) (o : Option Reading) → at ≤ length bytes → IsReadingAt bytes at o → place_reached at o ≤ length bytes
 read_at_most bytes at None within read = within
-read_at_most bytes at (Some reading) within read = read.looked.within
+read_at_most bytes at (Some reading) within read = read.looked.searched.within
 
 pub read_within : (bytes : List ℕ) (g : Collecting) → IsCollecting bytes g → place_reached g.at g.reading ≤ length bytes
 read_within bytes g before = read_at_most bytes g.at g.reading before.within before.reading

@@ -57,6 +57,10 @@ nothing_read json at reading begun ends looked utf8 reader = record {
     same : read_to at reading.looked.end json ≡ 123 ∷ []
     same = ap (λ n. read_to at n json) ends ∙ nothing_between at json
 
+-- the pieces end in the text
+ends_within : (json : List ℕ) (looked : Looked) → IsLooked json looked → looked.end ≤ length json
+ends_within json looked is = let first = is.searched.ahead in let last = is.searched.within in omega (arith, first, last)
+
 -- what is under way, or nothing
 pub reading_at : (json : List ℕ) (at : ℕ) (reading : Reading) (o : Option Reading) → o ≡ Some reading → IsReadingAt json at o → IsReadSoFar json at reading
 reading_at json at reading o is read = subst (IsReadingAt json at) is read
@@ -79,7 +83,7 @@ comma_joined law text rest outside =
 
 module _ (law : SeamLaw) (json text : List ℕ) (at : ℕ) (old : Reading) (next : Looked) (before : IsReadSoFar json at old) (to : IsToComma json old.looked text next) where
   ahead_of : at ≤ old.looked.end
-  ahead_of = let first = before.looked.ahead in let same = before.begun in omega (arith, first, same)
+  ahead_of = let first = before.looked.begun in let same = before.begun in omega (arith, first, same)
 
   front_and : read_to at next.end json ≡ read_to at old.looked.end json ++ (text ++ 44 ∷ [])
   front_and = let on = to.ahead in sym (read_more at old.looked.end next.end json ahead_of (omega (arith, on))) ∙ ap (λ t. read_to at old.looked.end json ++ t) to.bytes
@@ -146,16 +150,16 @@ module _ (json text : List ℕ) (at : ℕ) (old : Reading) (before : IsReadSoFar
 
   pub end_no_text : (next : Option ℕ) → IsPartUpTo json at (read_to at old.looked.end json ++ text) next → (IsUtf8 text → ⊥) → IsUtf8 json → ⊥
   end_no_text next part none whole =
-      let first = before.looked.ahead in
-      let last = before.looked.within in
+      let first = before.looked.begun in
+      let last = ends_within json old.looked before.looked in
       let same = before.begun in
       none (text_behind (read_to at old.looked.end json) text before.utf8 (part_text json (read_to at old.looked.end json ++ text) at next (omega (arith, first, last, same)) before.before part whole))
 
 -- what stands before a comma is text where the rest is
 comma_text : (law : SeamLaw) (json text : List ℕ) (at : ℕ) (old : Reading) (next : Looked) (before : IsReadSoFar json at old) → IsToComma json old.looked text next → IsUtf8 json → IsUtf8 text
 comma_text law json text at old next before to whole =
-    let first = before.looked.ahead in
-    let last = before.looked.within in
+    let first = before.looked.begun in
+    let last = ends_within json old.looked before.looked in
     let same = before.begun in
     let rest = drop next.end json in
     let front = read_to at old.looked.end json in
@@ -202,7 +206,7 @@ module _ (laws : CutLaws) (json text : List ℕ) (at : ℕ) (old : Reading) (bef
       (refl, λ _. refused_behind laws json (read_to at old.looked.end json ++ text) at next whole_part (unfinished ts (none ts (part_read json text at old before reader pushed))))
 
   pub all_finished : IsUtf8 text → (found : List Outcome) → ((ts : List Token) → IsReading ts reader → AreMembersRead found ts)
-      → (whole : List ℕ) × IsPartUpTo json at whole next × IsUtf8 whole × AreMembersRead found (tokens whole) × IfSome next (λ n. old.looked.end < n)
+      → (whole : List ℕ) × IsPartUpTo json at whole next × IsUtf8 whole × AreMembersRead found (tokens whole) × IfSome next (λ n. old.looked.search.reached < n)
   all_finished utf8 found read =
       let whole = read_to at old.looked.end json ++ text in
       (whole, whole_part, end_text json text at old before utf8, read (tokens whole) (part_read json text at old before reader pushed), to.1)
@@ -237,18 +241,18 @@ part_text_read json text at start next same up_to utf8 = record { part = subst (
 -- the place that the reading began at
 pub read_from : (json : List ℕ) (at : ℕ) (reading : Reading) → IsReadSoFar json at reading → at ≤ length json
 read_from json at reading before =
-    let first = before.looked.ahead in
-    let last = before.looked.within in
+    let first = before.looked.begun in
+    let last = ends_within json reading.looked before.looked in
     let same = before.begun in
     omega (arith, first, last, same)
 
 -- a piece before which nothing was read
 pub first_piece : (json text more : List ℕ) (looked : Looked) (next after : Option ℕ) → looked.at ≤ looked.end → looked.end ≤ looked.at → IsPieceTo json looked text (Behind.End next) → more ≡ 123 ∷ text → after ≡ next
-    → IsPartUpTo json looked.at more after × IfSome after (λ n. looked.end < n)
+    → IsPartUpTo json looked.at more after × IfSome after (λ n. looked.search.reached < n)
 first_piece json text more looked next after ahead none to same is =
     let ends : looked.end ≡ looked.at = omega arith in
     let front : read_to looked.at looked.end json ≡ 123 ∷ [] = ap (λ n. read_to looked.at n json) ends ∙ nothing_between looked.at json in
     let whole : read_to looked.at looked.end json ++ text ≡ more = ap (λ t. t ++ text) front ∙ sym same in (
       subst (λ o. IsPartUpTo json looked.at more o) (sym is) (subst (λ t. IsPartUpTo json looked.at t next) whole to.0),
-      subst (λ o. IfSome o (λ n. looked.end < n)) (sym is) to.1,
+      subst (λ o. IfSome o (λ n. looked.search.reached < n)) (sym is) to.1,
     )

@@ -1,5 +1,5 @@
 -- Outcomes in the order of the text, and the members that were put in one after another.
-use Rattle.std.proofs.Common.{◌≡◌, ◌≢◌, ℕ, List, [], ◌∷◌, ◌++◌, length, false, Option, Some, None, Result, option_map, option_and_then, String, Global, string_bytes, refl, sym, ap, subst, ◌∙◌, arith}
+use Rattle.std.proofs.Common.{◌≡◌, ◌≢◌, ℕ, List, [], ◌∷◌, ◌++◌, length, false, Option, Some, None, option_map, option_and_then, String, Global, string_bytes, refl, sym, ap, subst, ◌∙◌, arith}
 use Rattle.json.specs.Token.{Token}
 use Rattle.json.specs.Json as json
 use Rattle.json.specs.Json.{value, members, parse_map, if_last}
@@ -8,19 +8,17 @@ use Rattle.json_members.specs.MemberCuts.{first_token}
 use Rattle.serde_json.specs.Data.{Data, Members, no_members, put}
 use Rattle.serde_json.specs.Read.{of_members, converted}
 use Rattle.dir_codec.specs.Collected.{AreEntered, AreMembersRead}
-use Rattle.dir_codec.specs.Kept.{Outcome, IsOutcome}
+use Rattle.dir_codec.specs.Kept.{MemberOutcome, Outcome, IsOutcome}
 use Rattle.dir_codec.specs.Spelled.{begins_object}
-use Rattle.dir_codec.specs.declared.child.Child.{Child}
-use Rattle.dir_codec.specs.declared.fault.DirFault.{DirFault}
 use Rattle.dir_codec.proofs.ReadData.{from_json}
 
-put_last : (es : List Outcome) (before after : Members) (k : String Global) (o : Result (String Global × Child) DirFault) (d : Data) → AreEntered es before after → IsOutcome (string_bytes k) d o
+put_last : (es : List Outcome) (before after : Members) (k : String Global) (o : MemberOutcome) (d : Data) → AreEntered es before after → IsOutcome (string_bytes k) d o
     → AreEntered (es ++ ((k, o) ∷ [])) before (put (string_bytes k) d after)
 put_last [] before after k o d are is = (d, is, ap (put (string_bytes k) d) are)
 put_last (e ∷ es) before after k o d are is = (are.0, are.1, put_last es (put (string_bytes e.0) are.0 before) after k o d are.2 is)
 
 -- one more outcome, of the member that goes in last
-pub put_next : (es next : List Outcome) (before after : Members) (k : String Global) (name : List ℕ) (o : Result (String Global × Child) DirFault) (d : Data) → next ≡ es ++ ((k, o) ∷ []) → string_bytes k ≡ name
+pub put_next : (es next : List Outcome) (before after : Members) (k : String Global) (name : List ℕ) (o : MemberOutcome) (d : Data) → next ≡ es ++ ((k, o) ∷ []) → string_bytes k ≡ name
     → IsOutcome name d o → AreEntered es before after → AreEntered next before (put name d after)
 put_next es next before after k name o d pushed copied is are =
     let last = put_last es before after k o d are (subst (λ n. IsOutcome n d o) (sym copied) is) in

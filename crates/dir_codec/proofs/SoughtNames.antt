@@ -71,7 +71,7 @@ pub more_judged : (name text : List ℕ) (finder next : Finder) (judging : Judgi
     → next.judging ≡ Some judging → IsJudging (metadata_of_entry (first_entry (drop finder.at text))) judging → length (metadata_of_entry (first_entry (drop finder.at text))) ≤ length (drop finder.at text) → IsFinding name text next
 more_judged name text finder next judging so named last at found is judged few =
     let within = so.within in
-    let inside = judged.within in
+    let inside = judged.searched.within in
     let long = length-drop finder.at text in
     record {
       entries = so.entries;

@@ -1,11 +1,13 @@
 -- A part of children JSON, looked through a window at a time.
-use Rattle.std.proofs.Common.{◌≡◌, ℕ, ◌+◌, ◌-◌, ◌<◌, ◌≤◌, List, [], ◌∷◌, ◌++◌, length, take, drop, get_or, Some, None, refl, sym, ap, ap₂, ◌∙◌, subst, arith, append_assoc, length-append, length-drop}
+use Rattle.std.proofs.Common.{◌≡◌, ℕ, ◌+◌, ◌-◌, ◌<◌, ◌≤◌, List, [], ◌∷◌, ◌++◌, length, take, drop, Some, None, refl, sym, ap, ap₂, ◌∙◌, subst, arith, append_assoc, length-append, length-drop}
 use Rattle.std.proofs.lemmas.List.{length-take-le, take-append-drop, drop-drop, take_all, take-take, take_more}
 use Rattle.std.proofs.Math.Seq.{take-add, take-append-add}
 use Rattle.json.specs.Lex.{Mode, between}
 use Rattle.json_members.specs.Brackets.{bracket_depth}
 use Rattle.json_members.specs.MemberCuts.{IsMemberCutFrom, IsMemberCut, front_object}
+use Rattle.json_seams.specs.Modes.{mode_after}
 use Rattle.dir_codec.specs.Collected.{object_behind, IsPartUpTo}
+use Rattle.dir_codec.specs.CommaSearch.{IsCommaCut}
 use Rattle.dir_codec.specs.Piecewise.{FindsBehind, read_to, IsReadTo}
 
 pub finds_first : FindsBehind [] between 0
@@ -94,35 +96,44 @@ cut_there laws json text more at end stop cut mode depth ahead within is same be
 
 -- ---- a piece
 
-module _ (json text : List ℕ) (at start end : ℕ) (mode : Mode) (depth : ℕ) (seen : IsReadTo json at end (read_to at end json) mode depth) (first : at ≤ start) (ahead : start ≤ end) (piece : text ≡ take (end - start) (drop start json)) where
-  -- what was read before, and the piece
-  piece_joined : read_to at start json ++ text ≡ read_to at end json
-  piece_joined = ap (λ t. read_to at start json ++ t) piece ∙ read_more at start end json first ahead
-
-  pub piece_cut : FrontLaws → (more : List ℕ) (stop cut : ℕ) → end ≤ stop → stop ≤ length json → IsMemberCutFrom mode depth (window end stop json) cut → more ≡ (text ++ take cut (window end stop json)) ++ 125 ∷ []
-      → IsPartUpTo json at (read_to at start json ++ more) (Some (end + cut + 1))
-  piece_cut laws more stop cut on within is same =
-      let seen_window = take cut (window end stop json) in
-      let joined : read_to at start json ++ more ≡ (read_to at end json ++ seen_window) ++ 125 ∷ [] =
-      ap (λ t. read_to at start json ++ t) same ∙ sym (append_assoc (read_to at start json) (text ++ seen_window) (125 ∷ []))
-      ∙ ap (λ t. t ++ 125 ∷ []) (sym (append_assoc (read_to at start json) text seen_window) ∙ ap (λ t. t ++ seen_window) piece_joined) in
-      cut_there laws json (read_to at end json) (read_to at start json ++ more) at end stop cut mode depth on within is joined seen
-
-  pub piece_last : length json ≤ end → IsPartUpTo json at (read_to at start json ++ text) None
-  piece_last all = piece_joined ∙ ap (λ t. 123 ∷ t) (take_all (end - at) (drop at json) (omega (arith, length-drop at json)))
-
 -- the first bytes of a window are a window
-pub window_front : (end stop n : ℕ) (json : List ℕ) → n ≤ length (window end stop json) → end ≤ stop → stop ≤ length json → take n (window end stop json) ≡ window end (end + n) json
+window_front : (end stop n : ℕ) (json : List ℕ) → n ≤ length (window end stop json) → end ≤ stop → stop ≤ length json → take n (window end stop json) ≡ window end (end + n) json
 window_front end stop n json few ahead within =
     let size = window_size end stop json ahead within in
     take-take n (stop - end) (drop end json) (omega (arith, size)) ∙ ap (λ m. take m (drop end json)) (let e : n ≡ end + n - end = omega arith in e)
 
--- a piece, a window of it up to a comma, and the comma
-pub piece_to_comma : (json text more : List ℕ) (start end stop comma : ℕ) → start ≤ end → end ≤ stop → stop ≤ length json → text ≡ take (end - start) (drop start json) → comma < length (window end stop json) → get_or (window end stop json) comma 0 ≡ 44
-    → more ≡ text ++ take comma (window end stop json) → take (end + comma + 1 - start) (drop start json) ≡ more ++ 44 ∷ []
-piece_to_comma json text more start end stop comma ahead on within piece found is same =
-    let seen = window end stop json in
-    let place : end + (comma + 1) ≡ end + comma + 1 = omega arith in
-    let front : window end (end + comma + 1) json ≡ take comma seen ++ 44 ∷ [] =
-    ap (λ n. window end n json) (sym place) ∙ sym (window_front end stop (comma + 1) json (omega arith) on within) ∙ take_more seen comma 0 found ∙ ap (λ x. take comma seen ++ x ∷ []) is in
-    sym (window_more start end (end + comma + 1) json ahead (omega arith)) ∙ ap₂ (λ a b. a ++ b) (sym piece) front ∙ sym (append_assoc text (take comma seen) (44 ∷ [])) ∙ ap (λ t. t ++ 44 ∷ []) (sym same)
+module _ (json text : List ℕ) (at start end : ℕ) (mode : Mode) (depth : ℕ) (seen : IsReadTo json at end (read_to at end json) mode depth) (first : at ≤ start) (ahead : start ≤ end) where
+  -- up to a comma between members in the next window, and a brace
+  pub piece_cut : FrontLaws → (stop cut : ℕ) → end ≤ stop → stop ≤ length json → IsMemberCutFrom mode depth (window end stop json) cut → text ≡ window start (end + cut) json ++ 125 ∷ []
+      → IsPartUpTo json at (read_to at start json ++ text) (Some (end + cut + 1))
+  piece_cut laws stop cut on within is same =
+      let inside = is.comma.within in
+      let seen_window = take cut (window end stop json) in
+      let front : read_to at start json ++ window start (end + cut) json ≡ read_to at end json ++ seen_window =
+      read_more at start (end + cut) json first (omega arith) ∙ sym (read_more at end (end + cut) json (omega arith) (omega arith))
+      ∙ ap (λ t. read_to at end json ++ t) (sym (window_front end stop cut json (omega (arith, inside)) on within)) in
+      let joined : read_to at start json ++ text ≡ (read_to at end json ++ seen_window) ++ 125 ∷ [] =
+      ap (λ t. read_to at start json ++ t) same ∙ sym (append_assoc (read_to at start json) (window start (end + cut) json) (125 ∷ [])) ∙ ap (λ t. t ++ 125 ∷ []) front in
+      cut_there laws json (read_to at end json) (read_to at start json ++ text) at end stop cut mode depth on within is joined seen
+
+-- the rest
+pub piece_last : (json text : List ℕ) (at start : ℕ) → at ≤ start → start ≤ length json → text ≡ window start (length json) json → IsPartUpTo json at (read_to at start json ++ text) None
+piece_last json text at start first within same =
+    ap (λ t. read_to at start json ++ t) same ∙ read_more at start (length json) json first within ∙ ap (λ t. 123 ∷ t) (take_all (length json - at) (drop at json) (omega (arith, length-drop at json)))
+
+-- up to a comma outside strings
+pub piece_to_comma : (json text : List ℕ) (start comma : ℕ) → (is : IsCommaCut json start comma) → text ≡ window start comma json → take (comma + 1 - start) (drop start json) ≡ text ++ 44 ∷ []
+piece_to_comma json text start comma is same =
+    let ahead = is.ahead in
+    let size : comma + 1 - start ≡ comma - start + 1 = omega arith in
+    ap (λ n. take n (drop start json)) size ∙ take_more (drop start json) (comma - start) 0 is.comma.within ∙ ap₂ (λ t x. t ++ x ∷ []) (sym same) is.comma.comma
+
+-- a part may go on behind a window
+pub looked_to : (json : List ℕ) (at end stop place : ℕ) (mode next : Mode) (depth behind : ℕ) → end ≤ stop → stop ≤ length json → place ≡ stop → next ≡ mode_after mode (window end stop json) → behind ≡ bracket_depth mode depth (window end stop json)
+    → bracket_depth mode depth (window end stop json) ≤ depth + length (window end stop json)
+    → ((bytes : List ℕ) (at : ℕ) → IsMemberCutFrom (mode_after mode (window end stop json)) (bracket_depth mode depth (window end stop json)) bytes at → IsMemberCutFrom mode depth (window end stop json ++ bytes) (length (window end stop json) + at))
+    → IsReadTo json at end (read_to at end json) mode depth → IsReadTo json at place (read_to at place json) next behind
+looked_to json at end stop place mode next depth behind ahead within same modes depths few goes before =
+    let first = before.ahead in
+    subst (λ n. IsReadTo json at n (read_to at n json) next behind) (sym same)
+    (read_on json (read_to at end json) (read_to at stop json) at end stop mode next (mode_after mode (window end stop json)) depth behind ahead within (sym (read_more at end stop json first ahead)) modes depths few goes before)

@@ -1,11 +1,12 @@
 -- How far the reading of children JSON is; for private clauses.
-use Rattle.std.specs.Prelude.{◌≡◌, ℕ, ◌<◌, ◌≤◌, ⊤, List, length, take, Some}
+use Rattle.std.specs.Prelude.{◌≡◌, ℕ, ◌<◌, ◌≤◌, ⊤, List, length, take, Some, Err}
 use Rattle.std.specs.Str.{IsUtf8}
 use Rattle.json.specs.Lex.{tokens}
 use Rattle.json.specs.Json as json
 use Rattle.json_stack.specs.Machine.{whole_value}
 use Rattle.serde_json.specs.Data.{object, Members, no_members}
 use Rattle.serde_json.specs.Read.{of_members, max_depth}
+use Rattle.dir_codec.specs.Children.{making}
 use Rattle.dir_codec.specs.Collected.{object_behind, with_before}
 use Rattle.dir_codec.specs.Kept.{AreOutcomes}
 use Rattle.dir_codec.specs.Metadata.{json_of}
@@ -24,12 +25,14 @@ pub record IsCollecting (text : List ℕ) (g : Collecting) : Type 0 where
   pub outcomes : AreOutcomes g.outcomes.entries members
   pub reading : IsReadingAt text g.at g.reading
 
--- and so they were, or all were
+-- and so they were, or all were, or the text has a fault
 abbrev pub IsCollectedOn : List ℕ → Collected → Type 0
 IsCollectedOn text (Collected.More g) = IsCollecting text g
 IsCollectedOn text (Collected.All outcomes) = (ms : Members) × (json_of text ≡ Some (object ms)) × AreOutcomes outcomes.entries ms
+IsCollectedOn text (Collected.Refused fault outcomes) = making text ≡ Err fault
 
--- more of the text was read
+-- more of the text was read, or looked through
 abbrev pub IsFurther : Collecting → Collected → Type 0
 IsFurther g (Collected.More next) = place_reached g.at g.reading < place_reached next.at next.reading
 IsFurther g (Collected.All outcomes) = ⊤
+IsFurther g (Collected.Refused fault outcomes) = ⊤

@@ -1,5 +1,5 @@
 -- What the reading of children JSON keeps of it; for private clauses.
-use Rattle.std.specs.Prelude.{◌≡◌, ℕ, List, [], ⊤, codes, true, Option, Some, None, Result, Ok, Err, String, string_bytes}
+use Rattle.std.specs.Prelude.{◌≡◌, ℕ, List, [], ⊤, codes, true, Option, Some, None, Result, Ok, Err, String, string_bytes, Box}
 use Rattle.std.specs.declared.alloc.Global.{Global}
 use Rattle.json.specs.Token.{Token}
 use Rattle.serde_json.specs.Data.{Data, null, string, object, Members}
@@ -45,13 +45,17 @@ abbrev pub IsChildNode : Option Fields → Data → Type 0
 IsChildNode None d = fields_of d ≡ None
 IsChildNode (Some fields) d = (ms : Members) × (fields_of d ≡ Some (object ms)) × AreChildFields fields ms
 
--- the key of a member, and what was made of it
+-- what was made of a member: its name and child, or a fault
+abbrev pub MemberOutcome : Type 0
+MemberOutcome = Result (Box (String Global × Child) Global) DirFault
+
+-- the key of a member, and that
 abbrev pub Outcome : Type 0
-Outcome = String Global × Result (String Global × Child) DirFault
+Outcome = String Global × MemberOutcome
 
 -- what was made of a member
-abbrev pub IsOutcome : List ℕ → Data → Result (String Global × Child) DirFault → Type 0
-IsOutcome key d (Ok named) = (entry_made key d ≡ Ok (entry_of_child named)) × IsEntry (entry_of_child named)
+abbrev pub IsOutcome : List ℕ → Data → MemberOutcome → Type 0
+IsOutcome key d (Ok named) = (entry_made key d ≡ Ok (entry_of_child named.value)) × IsEntry (entry_of_child named.value)
 IsOutcome key d (Err fault) = entry_made key d ≡ Err fault
 
 abbrev pub AreOutcomes : List Outcome → Members → Type 0

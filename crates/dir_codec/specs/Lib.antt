@@ -22,6 +22,7 @@ pub mod TextMakers
 pub mod Speller
 pub mod TokenPieces
 pub mod Judge
+pub mod CommaSearch
 pub mod Judging
 pub mod MemberReader
 pub mod Piecewise

@@ -5,12 +5,14 @@ use Rattle.json.specs.Token.{Token}
 use Rattle.json.specs.Lex.{Mode, between, tokens}
 use Rattle.json_members.specs.MemberCuts.{IsMemberCutFrom, IsMemberCut}
 use Rattle.json_seams.specs.Modes.{mode_after, is_outside}
+use Rattle.dir_codec.specs.CommaSearch.{IsSearched}
 use Rattle.dir_codec.specs.Collected.{object_behind, IsPartUpTo, IsPart, AreMembersRead}
 use Rattle.dir_codec.specs.MemberReader.{IsReading}
 use Rattle.dir_codec.specs.Spelled.{data_of}
 use Rattle.dir_codec.specs.TokenPieces.{tokens_behind}
 use Rattle.dir_codec.specs.declared.cutting.Behind.{Behind}
 use Rattle.dir_codec.specs.declared.cutting.Looked.{Looked}
+use Rattle.dir_codec.specs.declared.cutting.NextPiece.{NextPiece}
 use Rattle.dir_codec.specs.declared.cutting.Part.{Part}
 use Rattle.dir_codec.specs.declared.cutting.Piece.{Piece}
 use Rattle.dir_codec.specs.declared.fault.DirFault.{DirFault}
@@ -36,8 +38,11 @@ pub record IsReadTo (json : List ℕ) (at : ℕ) (end : ℕ) (text : List ℕ) (
   pub same : text ≡ read_to at end json
   pub finds : FindsBehind text mode depth
 
-abbrev pub IsLooked : List ℕ → Looked → Type 0
-IsLooked json looked = IsReadTo json looked.at looked.end (read_to looked.at looked.end json) looked.scanner.mode looked.scanner.depth
+-- up to its end there are pieces, and behind that the next comma is sought
+pub record IsLooked (json : List ℕ) (looked : Looked) : Type 0 where
+  pub begun : looked.at ≤ looked.end
+  pub searched : IsSearched json looked.end looked.search
+  pub read : IsReadTo json looked.at looked.search.reached (read_to looked.at looked.search.reached json) looked.scanner.mode looked.scanner.depth
 
 -- ---- the next piece
 
@@ -45,6 +50,7 @@ IsLooked json looked = IsReadTo json looked.at looked.end (read_to looked.at loo
 pub record IsToComma (json : List ℕ) (looked : Looked) (text : List ℕ) (next : Looked) : Type 0 where
   pub same : next.at ≡ looked.at
   pub ahead : looked.end < next.end
+  pub further : looked.search.reached < next.search.reached
   pub bytes : take (next.end - looked.end) (drop looked.end json) ≡ text ++ 44 ∷ []
   pub outside : is_outside (mode_after between text) ≡ true
   pub looked_on : IsLooked json next
@@ -52,10 +58,15 @@ pub record IsToComma (json : List ℕ) (looked : Looked) (text : List ℕ) (next
 -- or with it a part ends
 abbrev pub IsPieceTo : List ℕ → Looked → List ℕ → Behind → Type 0
 IsPieceTo json looked text (Behind.Comma next) = IsToComma json looked text next
-IsPieceTo json looked text (Behind.End next) = IsPartUpTo json looked.at (read_to looked.at looked.end json ++ text) next × IfSome next (λ n. looked.end < n)
+IsPieceTo json looked text (Behind.End next) = IsPartUpTo json looked.at (read_to looked.at looked.end json ++ text) next × IfSome next (λ n. looked.search.reached < n)
 
 abbrev pub IsPieceBehind : List ℕ → Looked → Piece → Type 0
 IsPieceBehind json looked piece = IsPieceTo json looked piece.text.items piece.behind
+
+-- or more was looked through for its end
+abbrev pub IsPieceSought : List ℕ → Looked → NextPiece → Type 0
+IsPieceSought json looked (NextPiece.Sought next) = IsLooked json next × (next.at ≡ looked.at) × (next.end ≡ looked.end) × (looked.search.reached < next.search.reached)
+IsPieceSought json looked (NextPiece.Found piece) = IsPieceBehind json looked piece
 
 abbrev pub is_inner_comma : Behind → Bool
 is_inner_comma (Behind.Comma next) = true
@@ -76,9 +87,9 @@ pub record IsReadSoFar (json : List ℕ) (at : ℕ) (reading : Reading) : Type 0
 
 -- the reading goes on, or the members of a part were read
 abbrev pub IsReadOn : List ℕ → ℕ → ℕ → ReadOn → Type 0
-IsReadOn json at end (ReadOn.More next) = IsReadSoFar json at next × (end < next.looked.end)
-IsReadOn json at end (ReadOn.All found next) =
-    (text : List ℕ) × IsPartUpTo json at text next × IsUtf8 text × AreMembersRead found.items (tokens text) × IfSome next (λ n. end < n)
+IsReadOn json at reached (ReadOn.More next) = IsReadSoFar json at next × (reached < next.looked.search.reached)
+IsReadOn json at reached (ReadOn.All found next) =
+    (text : List ℕ) × IsPartUpTo json at text next × IsUtf8 text × AreMembersRead found.items (tokens text) × IfSome next (λ n. reached < n)
 
 -- why what stands there makes no object
 abbrev pub IsRefusedBehind : List ℕ → ℕ → DirFault → Type 0
@@ -86,7 +97,7 @@ IsRefusedBehind json at fault = (fault ≡ NotJson) × (IsUtf8 json → data_of 
 
 -- what is read of a part, or why nothing is, wherever it stands
 abbrev pub IsPartRead : Part → ReadOn → Type 0
-IsPartRead part on = (json : List ℕ) (at end : ℕ) → IsPart json at part → IfSome part.next (λ next. end < next) → IsReadOn json at end on
+IsPartRead part on = (json : List ℕ) (at reached : ℕ) → IsPart json at part → IfSome part.next (λ next. reached < next) → IsReadOn json at reached on
 
 abbrev pub IsPartRefused : Part → DirFault → Type 0
 IsPartRefused part fault = (json : List ℕ) (at : ℕ) → at ≤ length json → IsUtf8 (take at json) → IsPart json at part → IsRefusedBehind json at fault
@@ -96,7 +107,7 @@ abbrev pub IsReadingAt : List ℕ → ℕ → Option Reading → Type 0
 IsReadingAt json at None = ⊤
 IsReadingAt json at (Some reading) = IsReadSoFar json at reading
 
--- the place up to which was read
+-- the place up to which was read, or looked through
 abbrev pub place_reached : ℕ → Option Reading → ℕ
 place_reached at None = at
-place_reached at (Some reading) = reading.looked.end
+place_reached at (Some reading) = reading.looked.search.reached

@@ -41,7 +41,7 @@ abbrev pub metadata_of_entry : Option (EntryTexts × List ℕ) → List ℕ
 metadata_of_entry (Some found) = found.0.metadata
 metadata_of_entry None = []
 
--- how many bytes of a text a finder has read, with those of an entry's metadata that were judged
+-- how many bytes of a text a finder has read, with those of an entry's metadata that were looked through
 abbrev pub bytes_read : Finder → ℕ
 bytes_read finder = finder.at + judged_bytes finder.judging
 

@@ -1,5 +1,5 @@
 -- The text of the directory that children JSON names, as far as it is made.
-use Rattle.std.specs.Prelude.{◌≡◌, ◌<◌, ◌++◌, ⊤, length, List, [], ℕ, option_map, Ok, Option}
+use Rattle.std.specs.Prelude.{◌≡◌, ◌+◌, ◌<◌, ◌++◌, ⊤, length, List, [], ℕ, option_map, Ok, Option, None}
 use Rattle.serde_json.specs.Data.{Members}
 use Rattle.dir_codec.specs.Children.{making, made, making_after}
 use Rattle.dir_codec.specs.DirectoryText.{directory_text}
@@ -19,6 +19,7 @@ IsMakerStage json MakerStage.Unopened = ⊤
 IsMakerStage json (MakerStage.Collecting collecting) = IsCollecting json collecting
 IsMakerStage json (MakerStage.Naming left children) = (ms : Members) × (making json ≡ making_after [] ms) × AreBefore children.entries left.entries ms
 IsMakerStage json (MakerStage.Writing left text) = (entries : List Entry) × (making json ≡ Ok entries) × (text.items ++ directory_text (entries_of left.entries) ≡ directory_text entries)
+IsMakerStage json (MakerStage.Refused outcomes children) = made json ≡ None
 
 -- a maker stands in the JSON
 abbrev pub IsTextMaker : List ℕ → TextMaker → Type 0
@@ -44,9 +45,13 @@ IsLaterStage (MakerStage.Collecting collecting) (MakerStage.Collecting next) = I
 IsLaterStage (MakerStage.Collecting collecting) next = ⊤
 IsLaterStage (MakerStage.Naming left children) (MakerStage.Naming fewer named) = length fewer.entries < length left.entries
 IsLaterStage (MakerStage.Naming left children) (MakerStage.Writing named text) = ⊤
+IsLaterStage (MakerStage.Naming left children) (MakerStage.Refused outcomes named) = ⊤
 IsLaterStage (MakerStage.Naming left children) next = ⊥
 IsLaterStage (MakerStage.Writing left text) (MakerStage.Writing fewer longer) = length fewer.entries < length left.entries
+IsLaterStage (MakerStage.Writing left text) (MakerStage.Refused outcomes named) = ⊤
 IsLaterStage (MakerStage.Writing left text) next = ⊥
+IsLaterStage (MakerStage.Refused left children) (MakerStage.Refused fewer named) = length fewer.entries + length named.entries < length left.entries + length children.entries
+IsLaterStage (MakerStage.Refused left children) next = ⊥
 
 -- a maker that goes on has less to do than one at that stage
 abbrev pub IsLaterMaker : MakerStage → TextMaking → Type 0

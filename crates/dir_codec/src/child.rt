@@ -28,6 +28,10 @@ pub(crate) struct Child {
     pub(crate) metadata: Text,
 }
 
+/// What is made of a member of children JSON: its name and child, or why there is none. They stand in a box, so that a
+/// fault takes few bytes: a stranger's JSON may have millions of members that are at fault.
+pub(crate) type MemberOutcome = Result<Box<(String, Child)>, DirFault>;
+
 /// The child of a member of children JSON, and its name. `node` are the fields of the member's value.
 pub(crate) fn read_child(
     alloc: Global,

@@ -8,7 +8,7 @@ ghost use Rattle.dir_codec.specs.Metadata.{json_of};
 ghost use Rattle.dir_codec.specs.Named.{entries_of};
 ghost use Rattle.dir_codec.specs.declared.fault.DirFault.TheVariants.{NoMemory};
 
-use crate::child::Child;
+use crate::child::{Child, MemberOutcome};
 use crate::collecting::{Collected, Collecting};
 use crate::cutting::behind_brace;
 use crate::directory::Directory;
@@ -48,7 +48,7 @@ fn collect(
     alloc: Global,
     json: &[u8],
     start: usize,
-) -> Result<BTreeMap<String, Result<(String, Child), DirFault>>, DirFault>
+) -> Result<BTreeMap<String, MemberOutcome>, DirFault>
     requires { IsBehindBrace json.now start }
     ensures ok { IfOk result (λ outcomes. (ms : Members) × (json_of json.now ≡ Some (object ms))
         × AreOutcomes outcomes.entries ms) }
@@ -59,6 +59,7 @@ fn collect(
         match collecting.step(alloc, json)? {
             Collected::More(next) => collecting = next,
             Collected::All(outcomes) => return Ok(outcomes),
+            Collected::Refused(fault, _) => return Err(fault),
         }
     }
 }

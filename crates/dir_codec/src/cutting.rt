@@ -5,14 +5,11 @@ ghost use Rattle.json.specs.Lex.{tokens};
 ghost use Rattle.json.specs.Word.{is_space};
 ghost use Rattle.json_members.specs.MemberCuts.{first_token};
 ghost use Rattle.dir_codec.specs.Collected.{IsBehindBrace, IsPart};
-ghost use Rattle.dir_codec.specs.Piecewise.{IsLooked, IsPieceBehind};
+ghost use Rattle.dir_codec.specs.Piecewise.{IsLooked, IsPieceSought};
 
+use crate::comma_search::{CommaSearch, STEP_BYTES};
 use json_members::MemberScanner;
-use json_seams::Scanner;
 use std::alloc::{AllocError, Global};
-
-/// How many bytes of a text one step reads, or looks through for a cut at a time.
-pub(crate) const STEP_BYTES: usize = 65_536;
 
 /// The place behind the brace that opens the object which a text begins with. None where it begins with no object.
 pub(crate) fn behind_brace(json: &[u8]) -> Option<usize>
@@ -52,9 +49,11 @@ pub(crate) struct Part {
 pub(crate) struct Looked {
     /// The place behind the opening brace or the comma between members that it begins at.
     pub(crate) at: usize,
-    /// The place that it ends at: that one, or one behind a comma outside strings.
+    /// The place up to which its pieces go: that one, or one behind a comma outside strings.
     pub(crate) end: usize,
-    /// What is open there.
+    /// The search for the next comma behind it.
+    pub(crate) search: CommaSearch,
+    /// What is open where the search is.
     scanner: MemberScanner,
 }
 
@@ -63,6 +62,7 @@ impl Looked {
     pub(crate) fn new(at: usize) -> Looked
         ensures at { result.at ≡ at }
         ensures end { result.end ≡ at }
+        ensures reached { result.search.reached ≡ at }
         ensures looked { (json : List ℕ) → at ≤ length json → IsLooked json result }
     {
         json_members::laws::member_cuts_are_found_in_parts();
@@ -71,6 +71,7 @@ impl Looked {
         Looked {
             at,
             end: at,
+            search: CommaSearch::new(at),
             scanner,
         }
     }
@@ -81,11 +82,11 @@ impl Looked {
 pub(crate) fn next_part(alloc: Global, json: &[u8], looked: &Looked) -> Result<Part, AllocError>
     requires { IsLooked json.now looked.now }
     ensures part { IfOk result (λ part. IsPart json.now looked.now.at part) }
-    ensures ahead { IfOk result (λ part. IfSome part.next (λ next. looked.now.end < next)) }
+    ensures ahead { IfOk result (λ part. IfSome part.next (λ next. looked.now.search.reached < next)) }
 {
     json_members::laws::member_cuts_are_found_in_parts();
     let at = looked.at;
-    let mut end = looked.end;
+    let mut end = looked.search.reached;
     let mut scanner = looked.scanner;
     let mut text = Vec::new(alloc);
     text.push(b'{')?;
@@ -126,51 +127,67 @@ pub(crate) enum Behind {
     End(Option<usize>),
 }
 
-/// The piece that stands behind what was looked through: up to the last comma between members in the next 65,536 bytes, or
-/// else to their last comma outside strings, or to those of the first bytes behind them that have some, or the rest.
-pub(crate) fn next_piece(alloc: Global, json: &[u8], looked: &Looked) -> Result<Piece, AllocError>
+/// How the search for a piece goes on.
+#[derive(Drop)]
+pub(crate) enum NextPiece {
+    /// It has not ended in what was looked through.
+    Sought(Looked),
+    /// It is found.
+    Found(Piece),
+}
+
+/// The piece that stands behind those before it, where it ends in the next 65,536 bytes: up to the last comma between
+/// members in them, or else to the last comma outside strings, or the rest.
+pub(crate) fn next_piece(
+    alloc: Global,
+    json: &[u8],
+    looked: &Looked,
+) -> Result<NextPiece, AllocError>
     requires { IsLooked json.now looked.now }
-    ensures { IfOk result (λ piece. IsPieceBehind json.now looked.now piece) }
+    ensures { IfOk result (λ next. IsPieceSought json.now looked.now next) }
 {
     json_members::laws::member_cuts_are_found_in_parts();
-    json_seams::laws::cuts_are_found_in_parts();
     let at = looked.at;
-    let mut end = looked.end;
+    let end = looked.end;
+    let mut search = looked.search;
     let mut scanner = looked.scanner;
-    let mut commas = Scanner::new();
-    let mut text = Vec::new(alloc);
-    'windows: while end < json.len() {
-        let start = end;
-        end = json.len().min(start.saturating_add(STEP_BYTES));
-        let window = &json[start..end];
-        let mut before = scanner;
-        let last = scanner.last_cut(window);
-        if let Some(last) = last {
-            text.extend_from_slice(&window[..last])?;
-            text.push(b'}')?;
-            return Ok(Piece {
-                text,
-                behind: Behind::End(Some(start + last + 1)),
-            });
-        }
-        let comma = commas.last_cut(window);
-        if let Some(comma) = comma {
-            before.last_cut(&window[..comma + 1]);
-            text.extend_from_slice(&window[..comma])?;
-            let next = Looked {
-                at,
-                end: start + comma + 1,
-                scanner: before,
-            };
-            return Ok(Piece {
-                text,
-                behind: Behind::Comma(next),
-            });
-        }
-        text.extend_from_slice(window)?;
+    let mut before = looked.scanner;
+    let start = search.reached;
+    let comma = search.step(json);
+    let last = scanner.last_cut(&json[start..search.reached]);
+    if let Some(last) = last {
+        let mut text = Vec::from_slice(alloc, &json[end..start + last])?;
+        text.push(b'}')?;
+        return Ok(NextPiece::Found(Piece {
+            text,
+            behind: Behind::End(Some(start + last + 1)),
+        }));
     }
-    Ok(Piece {
+    if let Some(comma) = comma {
+        before.last_cut(&json[start..comma + 1]);
+        let text = Vec::from_slice(alloc, &json[end..comma])?;
+        let next = Looked {
+            at,
+            end: comma + 1,
+            search: CommaSearch::new(comma + 1),
+            scanner: before,
+        };
+        return Ok(NextPiece::Found(Piece {
+            text,
+            behind: Behind::Comma(next),
+        }));
+    }
+    if search.reached < json.len() {
+        return Ok(NextPiece::Sought(Looked {
+            at,
+            end,
+            search,
+            scanner,
+        }));
+    }
+    let text = Vec::from_slice(alloc, &json[end..])?;
+    Ok(NextPiece::Found(Piece {
         text,
         behind: Behind::End(None),
-    })
+    }))
 }

@@ -2,7 +2,7 @@
 ghost use Rattle.std.specs.Prelude.{◌≡◌, ℕ, List, IfOk};
 ghost use Rattle.dir_codec.specs.Sought.{sought_of, sought_in, IsFinding, IsFoundOn, IsAhead};
 
-use crate::cutting::STEP_BYTES;
+use crate::comma_search::STEP_BYTES;
 use crate::decoder::{Named, read_named};
 use crate::fault::is_memory;
 use crate::judging::{Judged, Judging, judge};
@@ -34,7 +34,7 @@ pub struct Finder {
     at: usize,
     /// The cap of the first entry of that name among those that were read.
     found: Option<Cap>,
-    /// The metadata of the next entry, where they are long and some of their bytes were judged.
+    /// The metadata of the next entry, where they are long and some of their bytes were looked through.
     judging: Option<Judging>,
 }
 
@@ -64,8 +64,9 @@ impl Finder {
         })
     }
 
-    /// With the next entries read, some 65,536 bytes of them: whole entries, until they take that many bytes or the text
-    /// ends; or with some 65,536 bytes judged of one longer entry's metadata. The text has to be the same at each step.
+    /// With the next entries read, some 65,536 bytes of them: whole entries, until they take that many bytes or the
+    /// text ends; or with 65,536 bytes looked through of longer metadata, and judged up to the last comma outside
+    /// strings in them, if there is one. The text has to be the same at each step.
     ///
     /// # Errors
     /// `AllocError` where memory is refused, and never for what the text says.

@@ -1,16 +1,14 @@
 //! Judging long metadata, some of their text at a time.
-ghost use Rattle.std.specs.Prelude.{◌≡◌, ◌-◌, ◌≤◌, ℕ, List, drop, length, IfOk, IfSome, is_some};
-ghost use Rattle.json_seams.specs.Cuts.{IsCutComma};
+ghost use Rattle.std.specs.Prelude.{◌≡◌, ℕ, List, IfOk, is_some};
 ghost use Rattle.dir_codec.specs.Metadata.{spelling_of};
 ghost use Rattle.dir_codec.specs.Judging.{IsJudging, IsJudgedOn, IsJudgedBehind, IsJudgedSoFar, judged_bytes};
 
-use crate::cutting::STEP_BYTES;
+use crate::comma_search::{CommaSearch, STEP_BYTES};
 use crate::fault::is_memory;
 use crate::judge::Judge;
 use crate::metadata::read_metadata;
 use crate::spelling::Stop;
 use crate::token_pieces::push_tokens;
-use json_seams::Scanner;
 use std::alloc::{AllocError, Global};
 
 /// Metadata that are judged, some of their text at a time.
@@ -18,6 +16,8 @@ use std::alloc::{AllocError, Global};
 pub(crate) struct Judging {
     /// How many bytes of the text were read: none, or those up to a value and a comma.
     at: usize,
+    /// The search for the comma that the next part ends at.
+    search: CommaSearch,
     /// What is known of what was read.
     judge: Judge,
 }
@@ -31,7 +31,8 @@ pub(crate) enum Judged {
     Done(bool),
 }
 
-/// With more of a text judged: long ones by some 65,536 bytes, short ones whole. The text has to be the same each time.
+/// With more of a text judged, or looked through: long ones by some 65,536 bytes, short ones whole. The text has to be
+/// the same each time.
 pub(crate) fn judge(
     alloc: Global,
     judging: Option<Judging>,
@@ -59,28 +60,41 @@ impl Judging {
     {
         Judging {
             at: 0,
+            search: CommaSearch::new(0),
             judge: Judge::new(alloc),
         }
     }
 
-    /// With one part more read: up to the last comma outside strings in the next 65,536 bytes that have one, or the rest.
+    /// With one part more read, where it ends in the next 65,536 bytes: up to the last comma outside strings in them,
+    /// or the rest. Else with those looked through.
     fn step(self, alloc: Global, text: &[u8]) -> Result<Judged, AllocError>
         ensures judged { IfOk result (λ judged. IsJudging text.now self → IsJudgedOn text.now judged) }
-        ensures behind { IfOk result (λ judged. IsJudgedBehind text.now self.at judged) }
+        ensures behind { IfOk result (λ judged. IsJudgedBehind text.now self.search.reached judged) }
     {
         json_seams::laws::a_cut_text_is_joined();
-        let Judging { at, mut judge } = self;
-        if at > text.len() {
+        let Judging {
+            at,
+            mut search,
+            mut judge,
+        } = self;
+        if at > search.reached || search.reached > text.len() {
             return Ok(Judged::Done(false));
         }
-        let cut = next_cut(text, at);
+        let cut = search.step(text);
+        if cut.is_none() && search.reached < text.len() {
+            return Ok(Judged::More(Judging { at, search, judge }));
+        }
         let end = cut.unwrap_or(text.len());
         let Ok(part) = str::from_utf8(&text[at..end]) else {
             return Ok(Judged::Done(false));
         };
         match push_tokens(alloc, &mut judge, part, at > 0, cut.is_some()) {
             Ok(()) => match cut {
-                Some(cut) => Ok(Judged::More(Judging { at: cut + 1, judge })),
+                Some(cut) => Ok(Judged::More(Judging {
+                    at: cut + 1,
+                    search: CommaSearch::new(cut + 1),
+                    judge,
+                })),
                 None => Ok(Judged::Done(judge.finish())),
             },
             // A judge wants no order of keys: NotRising never comes.
@@ -104,23 +118,4 @@ fn are_metadata(alloc: Global, text: &[u8]) -> Result<bool, AllocError>
             }
         }
     }
-}
-
-/// The place of the comma that the part at a place ends at. None where the part is the rest.
-fn next_cut(text: &[u8], at: usize) -> Option<usize>
-    requires { at ≤ length text.now }
-    ensures { IfSome result (λ cut. (at ≤ cut) × IsCutComma (drop at text.now) (cut - at)) }
-{
-    json_seams::laws::cuts_are_found_in_parts();
-    let mut scanner = Scanner::new();
-    let mut end = at;
-    'windows: while end < text.len() {
-        let start = end;
-        end = text.len().min(start.saturating_add(STEP_BYTES));
-        let cut = scanner.last_cut(&text[start..end]);
-        if let Some(cut) = cut {
-            return Some(start + cut);
-        }
-    }
-    None
 }

@@ -30,6 +30,8 @@ mod member_reader;
 mod token_pieces;
 /// Where children JSON is cut.
 mod cutting;
+/// Finding a comma outside strings, some bytes of a text at a time.
+mod comma_search;
 /// The children of members, by their names.
 mod naming;
 /// What is made of a child in JSON.

@@ -12,7 +12,7 @@ ghost use Rattle.dir_codec.specs.Kept.{IsField, IsChildNode, Outcome};
 ghost use Rattle.dir_codec.specs.Speller.{items_with};
 ghost use Rattle.dir_codec.specs.MemberReader.{NoneAfter, opens, IsOpen, IsEndedField, IsStillOpen, IsOpenOrEnded, IsBegunValue, AreListed, FitsListed, IsStage, Fits, FitsFirst, ends_array, is_one_text, object_has_ended, IsOn, StandsAt, IsReading};
 
-use crate::child::Child;
+use crate::child::MemberOutcome;
 use crate::fault::DirFault;
 use crate::fields::{Field, Fields};
 use crate::members::{made_of, opens_array};
@@ -27,7 +27,7 @@ use std::mem;
 #[derive(Drop)]
 pub(crate) struct MemberReader {
     /// What is made of the members that have ended.
-    outcomes: Vec<(String, Result<(String, Child), DirFault>)>,
+    outcomes: Vec<(String, MemberOutcome)>,
     /// What is open.
     stage: Stage,
     /// The array or object that is under way there, and that is spelled or passed by.
@@ -143,7 +143,7 @@ impl MemberReader {
     }
 
     /// What is made of each member, in the order of the text. None where the object has not ended.
-    pub(crate) fn finish(self) -> Option<Vec<(String, Result<(String, Child), DirFault>)>>
+    pub(crate) fn finish(self) -> Option<Vec<(String, MemberOutcome)>>
         ensures { (ts : List JsonToken) → IsReading ts self → MatchOption result
             (whole_value max_depth ts ≡ None) (λ outcomes. AreMembersRead outcomes.items ts) }
     {
@@ -248,7 +248,7 @@ fn begin(alloc: Global, token: Token<'_>, levels: usize) -> Result<Begun, Stop>
 /// The stage behind a value that it awaited.
 fn stage_after(
     alloc: Global,
-    outcomes: &mut Vec<(String, Result<(String, Child), DirFault>)>,
+    outcomes: &mut Vec<(String, MemberOutcome)>,
     stage: Stage,
     field: Field,
 ) -> Result<Stage, Stop>
@@ -275,7 +275,7 @@ fn stage_after(
 /// With one token more, where no value is under way.
 fn go_outside(
     alloc: Global,
-    outcomes: &mut Vec<(String, Result<(String, Child), DirFault>)>,
+    outcomes: &mut Vec<(String, MemberOutcome)>,
     stage: Stage,
     token: Token<'_>,
 ) -> Result<(Stage, Option<UnderWay>), Stop>
@@ -307,7 +307,7 @@ fn go_outside(
 /// With a value's first token.
 fn begin_in(
     alloc: Global,
-    outcomes: &mut Vec<(String, Result<(String, Child), DirFault>)>,
+    outcomes: &mut Vec<(String, MemberOutcome)>,
     stage: Stage,
     token: Token<'_>,
     levels: usize,
@@ -348,7 +348,7 @@ fn go_in_members(alloc: Global, token: Token<'_>) -> Result<Stage, Stop>
 /// With one token more in a member's array.
 fn go_in_pair(
     alloc: Global,
-    outcomes: &mut Vec<(String, Result<(String, Child), DirFault>)>,
+    outcomes: &mut Vec<(String, MemberOutcome)>,
     key: String,
     listed: Listed,
     token: Token<'_>,

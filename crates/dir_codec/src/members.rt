@@ -15,7 +15,7 @@ ghost use Rattle.json.specs.Print.{IsPrintable};
 ghost use Rattle.dir_codec.specs.Spelled.{data_of, begins_text, begins_array};
 ghost use Rattle.dir_codec.specs.declared.fault.DirFault.TheVariants.{NoMemory, BadShape};
 
-use crate::child::{Child, read_child};
+use crate::child::{MemberOutcome, read_child};
 use crate::fault::DirFault;
 use crate::fields::{Field, Fields};
 use crate::spelling::{Keys, READ_LEVELS, Spelled, Stop, opens_object, spell_items, spell_token};
@@ -31,7 +31,7 @@ pub(crate) fn read_members(
     alloc: Global,
     text: &str,
     keys: Keys,
-) -> Result<Vec<(String, Result<(String, Child), DirFault>)>, DirFault>
+) -> Result<Vec<(String, MemberOutcome)>, DirFault>
     requires { first_token (tokens text.now) ≡ Some JsonToken.begin_object }
     ensures ok { IfOk result (λ outcomes. AreMembersRead outcomes.items (tokens text.now)) }
     ensures err { IfErr result (λ fault. fault ≢ NoMemory → IsNoObject fault (tokens text.now)) }
@@ -56,7 +56,7 @@ fn members_once(
     text: &str,
     scratch: &mut Scratch,
     keys: Keys,
-) -> Result<Vec<(String, Result<(String, Child), DirFault>)>, Stop>
+) -> Result<Vec<(String, MemberOutcome)>, Stop>
     requires { first_token (tokens text.now) ≡ Some JsonToken.begin_object }
     ensures ok { IfOk result (λ outcomes. AreMembersRead outcomes.items (tokens text.now)) }
     ensures err { result ≡ Err Stop.NotJson → data_of (tokens text.now) ≡ None }
@@ -119,7 +119,7 @@ fn gather_children(
     reader: &mut Reader<'_>,
     depth: usize,
     keys: Keys,
-) -> Result<Vec<(String, Result<(String, Child), DirFault>)>, Stop>
+) -> Result<Vec<(String, MemberOutcome)>, Stop>
     ensures ok { IfOk result (λ found. (before : Members) → (after : Members)
         × (converted (λ j. of_members j before)
         (members (value depth) (length reader.old) reader.old) ≡ Some (after, reader.new))
@@ -144,12 +144,13 @@ pub(crate) fn made_of(
     alloc: Global,
     key: &str,
     node: Option<Fields>,
-) -> Result<Result<(String, Child), DirFault>, AllocError>
+) -> Result<MemberOutcome, AllocError>
     ensures { IfOk result (λ outcome. (d : Data) → IsChildNode node d → IsOutcome key.now d outcome) }
 {
     match read_child(alloc, key, node) {
+        Ok(named) => Ok(Ok(Box::new(alloc, named)?)),
         Err(DirFault::NoMemory) => Err(AllocError),
-        outcome => Ok(outcome),
+        Err(fault) => Ok(Err(fault)),
     }
 }
 

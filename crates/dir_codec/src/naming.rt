@@ -7,7 +7,7 @@ ghost use Rattle.dir_codec.specs.Kept.{AreOutcomes, AreBefore};
 ghost use Rattle.dir_codec.specs.Named.{entries_of};
 ghost use Rattle.dir_codec.specs.declared.fault.DirFault.TheVariants.{NoMemory};
 
-use crate::child::Child;
+use crate::child::{Child, MemberOutcome};
 use crate::fault::DirFault;
 use std::alloc::Global;
 use std::collections::BTreeMap;
@@ -15,7 +15,7 @@ use std::collections::BTreeMap;
 /// The children that were made of members, by their names.
 pub(crate) fn named_children(
     alloc: Global,
-    outcomes: BTreeMap<String, Result<(String, Child), DirFault>>,
+    outcomes: BTreeMap<String, MemberOutcome>,
 ) -> Result<BTreeMap<String, Child>, DirFault>
     ensures ok { IfOk result (λ children. (ms : Members) → AreOutcomes outcomes.entries ms
         → making_after [] ms ≡ Ok (entries_of children.entries)) }
@@ -34,7 +34,7 @@ pub(crate) fn named_children(
 /// Names the children of the next members, in the order of their keys: so many, or those that are left.
 pub(crate) fn name_some(
     children: &mut BTreeMap<String, Child>,
-    left: &mut BTreeMap<String, Result<(String, Child), DirFault>>,
+    left: &mut BTreeMap<String, MemberOutcome>,
     most: usize,
 ) -> Result<(), DirFault>
     ensures ok { OnOk result ((ms : Members) → AreBefore children.old.entries left.old.entries ms
@@ -47,7 +47,8 @@ pub(crate) fn name_some(
         let Some((_key, outcome)) = left.pop_first() else {
             return Ok(());
         };
-        let (name, child) = outcome?;
+        let named = outcome?;
+        let (name, child) = Box::into_inner(named);
         let old = children.insert(name, child)?;
         if old.is_some() {
             return Err(DirFault::SameName);

@@ -5,8 +5,8 @@ ghost use Rattle.dir_codec.specs.Collected.{IsPart};
 ghost use Rattle.dir_codec.specs.Piecewise.{IsPieceTo, is_inner_comma, IsReadSoFar, IsReadOn, IsRefusedBehind, IsPartRead, IsPartRefused, IsReadingAt, place_reached};
 ghost use Rattle.dir_codec.specs.declared.fault.DirFault.TheVariants.{NoMemory};
 
-use crate::child::Child;
-use crate::cutting::{Behind, Looked, Part, Piece, next_part, next_piece};
+use crate::child::MemberOutcome;
+use crate::cutting::{Behind, Looked, NextPiece, Part, Piece, next_part, next_piece};
 use crate::fault::DirFault;
 use crate::member_reader::MemberReader;
 use crate::members::read_members;
@@ -30,7 +30,7 @@ pub(crate) enum ReadOn {
     More(Reading),
     /// What is made of each, in the order of the text, and the place behind the comma between members that they end at, None
     /// where they are the rest.
-    All(Vec<(String, Result<(String, Child), DirFault>)>, Option<usize>),
+    All(Vec<(String, MemberOutcome)>, Option<usize>),
 }
 
 impl Reading {
@@ -38,7 +38,7 @@ impl Reading {
     pub(crate) fn at(alloc: Global, at: usize, reading: Option<Reading>) -> Reading
         ensures read { (json : List ℕ) → at ≤ length json → IsUtf8 (take at json)
             → IsReadingAt json at reading → IsReadSoFar json at result }
-        ensures bytes { result.looked.end ≡ place_reached at reading }
+        ensures bytes { result.looked.search.reached ≡ place_reached at reading }
     {
         match reading {
             Some(reading) => reading,
@@ -49,18 +49,26 @@ impl Reading {
         }
     }
 
-    /// With one piece more. Where a key isn't above the one before it in an object that is spelled, the members are read at
+    /// With one piece more, or with more looked through for its end. Where a key isn't above the one before it in an object that is spelled, the members are read at
     /// once, up to the next comma between members; and so they are where the first piece ends at one.
     ///
     /// # Errors
     /// NotJson where no JSON goes on so.
     pub(crate) fn go_on(self, alloc: Global, json: &[u8]) -> Result<ReadOn, DirFault>
         requires { IsReadSoFar json.now self.looked.at self }
-        ensures ok { IfOk result (IsReadOn json.now self.looked.at self.looked.end) }
+        ensures ok { IfOk result (IsReadOn json.now self.looked.at self.looked.search.reached) }
         ensures err { IfErr result (λ fault. fault ≢ NoMemory
             → IsRefusedBehind json.now self.looked.at fault) }
     {
-        let Piece { text, behind } = next_piece(alloc, json, &self.looked)?;
+        let Piece { text, behind } = match next_piece(alloc, json, &self.looked)? {
+            NextPiece::Found(piece) => piece,
+            NextPiece::Sought(looked) => {
+                return Ok(ReadOn::More(Reading {
+                    looked,
+                    reader: self.reader,
+                }));
+            }
+        };
         match behind {
             Behind::Comma(next) => self.push_on(alloc, json, text, Behind::Comma(next)),
             Behind::End(next) => {
@@ -87,7 +95,7 @@ impl Reading {
     ) -> Result<ReadOn, DirFault>
         requires read { IsReadSoFar json.now self.looked.at self }
         requires piece { IsPieceTo json.now self.looked text.items behind }
-        ensures ok { IfOk result (IsReadOn json.now self.looked.at self.looked.end) }
+        ensures ok { IfOk result (IsReadOn json.now self.looked.at self.looked.search.reached) }
         ensures err { IfErr result (λ fault. fault ≢ NoMemory
             → IsRefusedBehind json.now self.looked.at fault) }
     {

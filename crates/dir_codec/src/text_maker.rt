@@ -1,16 +1,15 @@
 //! The text of the directory of the children that JSON names, made some members at a time.
-ghost use Rattle.std.specs.Prelude.{◌≡◌, ◌≢◌, ◌+◌, ◌<◌, ◌≤◌, ◌++◌, ℕ, List, None, length, option_map, OnOk, IfOk, IfErr};
-ghost use Rattle.dir_codec.specs.Children.{made};
+ghost use Rattle.std.specs.Prelude.{◌≡◌, ◌+◌, ◌-◌, ◌<◌, ◌≤◌, ◌++◌, ℕ, List, None, length, option_map, OnOk, IfOk};
 ghost use Rattle.dir_codec.specs.DirectoryText.{directory_text};
 ghost use Rattle.dir_codec.specs.Named.{entries_of};
 ghost use Rattle.dir_codec.specs.TextMakers.{IsMakerStage, IsTextMaker, IsTextMadeOn, IsLaterMaker, text_made};
-ghost use Rattle.dir_codec.specs.declared.text_maker.TextMaking.TheVariants.{Going};
-ghost use Rattle.dir_codec.specs.declared.fault.DirFault.TheVariants.{NoMemory};
+ghost use Rattle.dir_codec.specs.declared.text_maker.TextMaking.TheVariants.{Going, Done};
 
-use crate::child::Child;
+use crate::child::{Child, MemberOutcome};
 use crate::children::from_children_json;
 use crate::collecting::{Collected, Collecting};
-use crate::cutting::{STEP_BYTES, behind_brace};
+use crate::comma_search::STEP_BYTES;
+use crate::cutting::behind_brace;
 use crate::encoder::{encode, push_entry};
 use crate::entry::Entry;
 use crate::fault::{DirFault, is_memory};
@@ -19,7 +18,7 @@ use octets::Text;
 use std::alloc::{AllocError, Global};
 use std::collections::BTreeMap;
 
-/// How many children are named, or written, in a step, at most.
+/// How many children are named, or written, or let go of, in a step, at most.
 const STEP_CHILDREN: usize = 1_024;
 
 /// The text of the directory of the children that JSON names, as far as it is made.
@@ -36,9 +35,11 @@ pub(crate) enum MakerStage {
     /// Members are read.
     Collecting(Collecting),
     /// Their children are named.
-    Naming(BTreeMap<String, Result<(String, Child), DirFault>>, BTreeMap<String, Child>),
+    Naming(BTreeMap<String, MemberOutcome>, BTreeMap<String, Child>),
     /// The children are written.
     Writing(BTreeMap<String, Child>, Vec<u8>),
+    /// The JSON names no directory: what was made of its members is let go of.
+    Refused(BTreeMap<String, MemberOutcome>, BTreeMap<String, Child>),
 }
 
 /// How a maker goes on.
@@ -60,10 +61,12 @@ impl TextMaker {
         }
     }
 
-    /// With some 65,536 bytes of members read, or with 1,024 children named, or with as many written or with 65,536 bytes of
-    /// them. A longer member is read in pieces of about so many bytes, and at once where an object in it has keys that don't
-    /// rise; a string or white space of so many bytes is read at once too. The JSON has to be the same at each step. What it
-    /// is that the JSON names is said at [`from_children_json`](crate::from_children_json).
+    /// With 65,536 bytes of members looked through, or with 1,024 children named, or with as many written or with
+    /// 65,536 bytes of them. Where the JSON names no directory, what was made of its members is let go of so too: of
+    /// 1,024 members and 1,024 children in a step. The members that end in the bytes looked through are read, and of a
+    /// longer one what stands up to the last comma outside strings, if there is one. So a long string is read at once,
+    /// and so is a long member where an object in it has keys that don't rise. The JSON has to be the same at each
+    /// step. What it is that the JSON names is said at [`from_children_json`](crate::from_children_json).
     ///
     /// # Errors
     /// `AllocError` where memory is refused, and never for what the JSON says.
@@ -73,32 +76,13 @@ impl TextMaker {
         ensures later { IfOk result (λ making. IsLaterMaker self.stage making) }
     {
         let TextMaker { stage } = self;
-        match next(alloc, stage, json) {
-            Ok(making) => Ok(making),
-            Err(fault) if is_memory(&fault) => Err(AllocError),
-            Err(_) => Ok(TextMaking::Done(None)),
+        match stage {
+            MakerStage::Unopened => Ok(opened(alloc, json)),
+            MakerStage::Collecting(collecting) => collect_next(alloc, json, collecting),
+            MakerStage::Naming(outcomes, children) => name_next(alloc, json, outcomes, children),
+            MakerStage::Writing(children, text) => write_next(alloc, json, children, text),
+            MakerStage::Refused(outcomes, children) => Ok(drop_next(json, outcomes, children)),
         }
-    }
-}
-
-/// The next step. A fault is one of the JSON.
-fn next(alloc: Global, stage: MakerStage, json: &[u8]) -> Result<TextMaking, DirFault>
-    requires { IsMakerStage json.now stage }
-    ensures ok { IfOk result (λ making. IsTextMadeOn json.now making) }
-    ensures later { IfOk result (λ making. IsLaterMaker stage making) }
-    ensures err { IfErr result (λ fault. fault ≢ NoMemory → made json.now ≡ None) }
-{
-    match stage {
-        MakerStage::Unopened => Ok(opened(alloc, json)),
-        MakerStage::Collecting(collecting) => match collecting.step(alloc, json)? {
-            Collected::More(next) => Ok(going(MakerStage::Collecting(next))),
-            Collected::All(outcomes) => Ok(going(MakerStage::Naming(
-                outcomes,
-                BTreeMap::new(alloc),
-            ))),
-        },
-        MakerStage::Naming(outcomes, children) => name_next(alloc, json, outcomes, children),
-        MakerStage::Writing(children, text) => Ok(write_next(alloc, json, children, text)?),
     }
 }
 
@@ -120,25 +104,45 @@ fn opened(alloc: Global, json: &[u8]) -> TextMaking
     }
 }
 
-/// With the next children named.
+/// With the next members read. Where memory is refused, all is let go of at once.
+fn collect_next(
+    alloc: Global,
+    json: &[u8],
+    collecting: Collecting,
+) -> Result<TextMaking, AllocError>
+    requires { IsMakerStage json.now (MakerStage.Collecting collecting) }
+    ensures made { IfOk result (λ making. IsTextMadeOn json.now making) }
+    ensures later { IfOk result (IsLaterMaker (MakerStage.Collecting collecting)) }
+{
+    match collecting.step(alloc, json)? {
+        Collected::More(next) => Ok(going(MakerStage::Collecting(next))),
+        Collected::All(outcomes) => Ok(going(MakerStage::Naming(outcomes, BTreeMap::new(alloc)))),
+        Collected::Refused(_, outcomes) => Ok(going(MakerStage::Refused(
+            outcomes,
+            BTreeMap::new(alloc),
+        ))),
+    }
+}
+
+/// With the next children named. Where memory is refused, all is let go of at once.
 fn name_next(
     alloc: Global,
     json: &[u8],
-    outcomes: BTreeMap<String, Result<(String, Child), DirFault>>,
+    outcomes: BTreeMap<String, MemberOutcome>,
     children: BTreeMap<String, Child>,
-) -> Result<TextMaking, DirFault>
+) -> Result<TextMaking, AllocError>
     requires { IsMakerStage json.now (MakerStage.Naming outcomes children) }
-    ensures ok { IfOk result (λ making. IsTextMadeOn json.now making) }
+    ensures made { IfOk result (λ making. IsTextMadeOn json.now making) }
     ensures later { IfOk result (IsLaterMaker (MakerStage.Naming outcomes children)) }
-    ensures err { IfErr result (λ fault. fault ≢ NoMemory → made json.now ≡ None) }
 {
     let mut left = outcomes;
     let mut named = children;
-    name_some(&mut named, &mut left, STEP_CHILDREN)?;
-    if left.is_empty() {
-        return Ok(going(MakerStage::Writing(named, Vec::new(alloc))));
+    match name_some(&mut named, &mut left, STEP_CHILDREN) {
+        Ok(()) if left.is_empty() => Ok(going(MakerStage::Writing(named, Vec::new(alloc)))),
+        Ok(()) => Ok(going(MakerStage::Naming(left, named))),
+        Err(fault) if is_memory(&fault) => Err(AllocError),
+        Err(_) => Ok(going(MakerStage::Refused(left, named))),
     }
-    Ok(going(MakerStage::Naming(left, named)))
 }
 
 /// With the next children written.
@@ -192,6 +196,39 @@ fn write_some(
         }
     }
     Ok(())
+}
+
+/// With more let go of that was made of refused JSON. It is done once nothing is left.
+fn drop_next(
+    json: &[u8],
+    outcomes: BTreeMap<String, MemberOutcome>,
+    children: BTreeMap<String, Child>,
+) -> TextMaking
+    requires { IsMakerStage json.now (MakerStage.Refused outcomes children) }
+    ensures made { IsTextMadeOn json.now result }
+    ensures later { IsLaterMaker (MakerStage.Refused outcomes children) result }
+    ensures few { result ≡ Done None
+        → (length outcomes.entries ≤ 1024) × (length children.entries ≤ 1024) }
+{
+    let mut outcomes_left = outcomes;
+    let mut children_left = children;
+    drop_some(&mut outcomes_left, STEP_CHILDREN);
+    drop_some(&mut children_left, STEP_CHILDREN);
+    if outcomes_left.is_empty() && children_left.is_empty() {
+        return TextMaking::Done(None);
+    }
+    going(MakerStage::Refused(outcomes_left, children_left))
+}
+
+/// Lets go of the first values of a map: so many, or those that are left.
+fn drop_some<V: Drop>(left: &mut BTreeMap<String, V>, most: usize)
+    ensures { length left.new.entries ≡ length left.old.entries - most }
+{
+    for i in 0..most {
+        if left.pop_first().is_none() {
+            return;
+        }
+    }
 }
 
 /// The text of the directory of the children that JSON names, made at once. None where it names no directory.

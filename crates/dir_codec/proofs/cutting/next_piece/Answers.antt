@@ -1,90 +1,82 @@
-use Rattle.std.proofs.Common.{◌≡◌, ◌+◌, ◌≤◌, [], ◌∷◌, ◌++◌, length, take, refl, sym, ap, ◌∙◌, arith}
+use Rattle.std.proofs.Common.{◌+◌, ◌≤◌, ◌∷◌, [], ◌++◌, length, refl, ap, ◌∙◌, arith}
 use Rattle.json.specs.Lex.{between}
 use Rattle.json_seams.specs.Modes.{mode_after, is_outside}
-use Rattle.json_members.specs.Brackets.{bracket_depth}
-use Rattle.dir_codec.specs.Piecewise.{read_to}
-use Rattle.dir_codec.proofs.Windows.{FrontLaws, read_on, read_more, window, window_more, window_front, window_size, piece_cut, piece_last, piece_to_comma}
+use Rattle.dir_codec.proofs.Windows.{FrontLaws, window, piece_cut, piece_last, piece_to_comma, looked_to}
 use Rattle.dir_codec.proofs.cutting.next_piece.Goals as goal
 
 pub returns-in-Some : goal.returns-in-Some
 returns-in-Some c =
-    let l = c.windows in
-    let i = l.invariant in
     let looked = c.args.looked.now in
+    let before = c.requires in
+    let search = before.searched in
+    let first = search.ahead in
     let parts = c.member_cuts_are_found_in_parts.ensures in
     let laws : FrontLaws = record { in_front = λ front back at before is. (parts.in_front _ _ front back at before).0 is; same = parts.front_same } in
-    let text = c.in_ok-push.ensures.items ∙ ap (λ t. t ++ 125 ∷ []) c.in_ok-extend_from_slice.ensures.items in
-    let before = i.ahead in (
-      piece_cut c.args.json.now l.text.items looked.at looked.end l.end l.scanner.mode l.scanner.depth i.read c.requires.ahead i.ahead i.piece laws c.push.new.self.items c.min-end.result c.in-Some.last
-          (omega (arith, c.min-end.ensures, c.saturating_add.ensures)) (omega (arith, c.min-end.ensures)) c.in-Some.ensures.cut.0 text,
-      omega (arith, before),
+    let text = c.in_ok-push.ensures.items ∙ ap (λ t. t ++ 125 ∷ []) c.in_ok-text.ensures.items in (
+      piece_cut c.args.json.now c.push.new.self.items looked.at looked.end looked.search.reached looked.scanner.mode looked.scanner.depth before.read before.begun first laws c.step-comma.new.self.reached c.in-Some.last
+          c.step-comma.ensures.behind c.step-comma.ensures.within c.in-Some.ensures.cut.0 text,
+      omega arith,
     )
 
 pub returns-in-Some-comma : goal.returns-in-Some-comma
 returns-in-Some-comma c =
-    let l = c.windows in
-    let i = l.invariant in
     let json = c.args.json.now in
     let looked = c.args.looked.now in
+    let before = c.requires in
     let comma = c.in-Some-comma.comma in
-    let stop = c.min-end.result in
+    let found = c.in-Some-comma.ensures.cut in
+    let cut = found.2 looked.end before.searched in
     let parts = c.member_cuts_are_found_in_parts.ensures in
-    let cuts = c.cuts_are_found_in_parts.ensures in
-    let before = i.ahead in
-    let found = c.in-Some-comma.ensures.cut.0 in
-    let inside = found.within in
-    let first = i.read.ahead in
-    let on : l.end ≤ stop = omega (arith, c.min-end.ensures, c.saturating_add.ensures) in
-    let within : stop ≤ length json = omega (arith, c.min-end.ensures) in
+    let place = comma + 1 in
+    let near = window looked.search.reached place json in
     let next = c.last_cut.new.self in
-    let place = l.end + comma + 1 in
-    let seen = window l.end stop json in
-    let ends : l.end + (comma + 1) ≡ place = omega arith in
-    let front : take (comma + 1) seen ≡ window l.end place json = window_front l.end stop (comma + 1) json (omega (arith, inside)) on within ∙ ap (λ n. window l.end n json) ends in
-    let near = window l.end place json in
-    let more = c.in_ok-extend_from_slice-2.ensures.items in
-    let limit : place ≤ stop = omega (arith, inside, window_size l.end stop json on within) in
-    let near_on : l.end ≤ place = omega arith in
+    let reached = c.new.ensures.reached in
+    let stop = c.step-comma.ensures.within in
+    let within : place ≤ length json = omega (arith, found.1, stop) in
+    let begun = before.begun in
+    let first = before.searched.ahead in
+    let same = c.in_ok-text-2.ensures.items in
     record {
       same = refl;
-      ahead = omega (arith, before);
-      bytes = piece_to_comma json l.text.items _ looked.end l.end stop comma before on within i.piece inside found.comma more;
-      outside =
-          ap (λ t. is_outside (mode_after between t)) more ∙ ap is_outside (cuts.modes between l.text.items (take comma seen) ∙ ap (λ m. mode_after m (take comma seen)) (sym i.mode)) ∙ found.outside;
-      looked_on =
-          read_on json (read_to looked.at l.end json) (read_to looked.at place json) looked.at l.end place l.scanner.mode next.mode (mode_after l.scanner.mode near) l.scanner.depth next.depth near_on (omega (arith, limit, within))
-          (sym (read_more looked.at l.end place json first near_on)) (c.last_cut.ensures.mode ∙ ap (mode_after l.scanner.mode) front) (c.last_cut.ensures.depth ∙ ap (bracket_depth l.scanner.mode l.scanner.depth) front)
-          (parts.bounded l.scanner.mode l.scanner.depth near) (λ bytes at. (parts.places l.scanner.mode l.scanner.depth near bytes at).0) i.read;
+      ahead = omega (arith, found.0, first);
+      further = omega (arith, found.0, reached);
+      bytes = piece_to_comma json _ looked.end comma cut same;
+      outside = ap (λ t. is_outside (mode_after between t)) same ∙ cut.comma.outside;
+      looked_on = record {
+        begun = omega (arith, found.0, first, begun);
+        searched = c.new.ensures.searched json within;
+        read =
+            looked_to json looked.at looked.search.reached place c.new.result.reached looked.scanner.mode next.mode looked.scanner.depth next.depth (omega (arith, found.0)) within reached c.last_cut.ensures.mode c.last_cut.ensures.depth
+            (parts.bounded looked.scanner.mode looked.scanner.depth near) (λ bytes at. (parts.places looked.scanner.mode looked.scanner.depth near bytes at).0) before.read;
+      };
     }
 
-pub windows-preserved : goal.windows-preserved
-windows-preserved c =
-    let l = c.windows in
-    let i = l.invariant in
+pub returns-then-search-json : goal.returns-then-search-json
+returns-then-search-json c =
     let json = c.args.json.now in
     let looked = c.args.looked.now in
-    let stop = c.min-end.result in
+    let before = c.requires in
     let parts = c.member_cuts_are_found_in_parts.ensures in
+    let search = c.step-comma.new.self in
     let next = c.last_cut-last.new.self in
-    let seen = window l.end stop json in
-    let before = i.ahead in
-    let first = i.read.ahead in
-    let on : l.end ≤ stop = omega (arith, c.min-end.ensures, c.saturating_add.ensures) in
-    let within : stop ≤ length json = omega (arith, c.min-end.ensures) in
-    let more = c.in_ok-extend_from_slice-3.ensures.items in
-    record {
-      read =
-          read_on json _ _ looked.at l.end stop l.scanner.mode next.mode _ l.scanner.depth next.depth on within (sym (read_more looked.at l.end stop json first on)) c.in_default.ensures.mode c.in_default.ensures.depth
-          (parts.bounded l.scanner.mode l.scanner.depth seen) (λ bytes place. (parts.places l.scanner.mode l.scanner.depth seen bytes place).0) i.read;
-      ahead = omega (arith, before);
-      piece = more ∙ ap (λ t. t ++ seen) i.piece ∙ window_more looked.end l.end stop json before on;
-      mode = c.in_default-comma.ensures.mode ∙ ap (λ m. mode_after m seen) i.mode ∙ sym (c.cuts_are_found_in_parts.ensures.modes between l.text.items seen) ∙ ap (mode_after between) (sym more);
-    }
+    let near = window looked.search.reached search.reached json in (
+      record {
+        begun = before.begun;
+        searched = c.step-comma.ensures.searched looked.end before.searched;
+        read =
+            looked_to json looked.at looked.search.reached search.reached search.reached looked.scanner.mode next.mode looked.scanner.depth next.depth c.step-comma.ensures.behind c.step-comma.ensures.within refl c.in_default.ensures.mode c.in_default.ensures.depth
+            (parts.bounded looked.scanner.mode looked.scanner.depth near) (λ bytes at. (parts.places looked.scanner.mode looked.scanner.depth near bytes at).0) before.read;
+      },
+      refl,
+      refl,
+      omega arith,
+    )
 
 pub returns : goal.returns
 returns c =
-    let l = c.windows in
-    let i = l.invariant in
+    let json = c.args.json.now in
     let looked = c.args.looked.now in
-    let all : length c.args.json.now ≤ l.end = omega arith in
-    (piece_last c.args.json.now l.text.items looked.at looked.end l.end l.scanner.mode l.scanner.depth i.read c.requires.ahead i.ahead i.piece all, tt)
+    let before = c.requires in
+    let first = before.searched.ahead in
+    let last = before.searched.within in
+    (piece_last json _ looked.at looked.end before.begun (omega (arith, first, last)) c.in_ok-text-3.ensures.items, tt)

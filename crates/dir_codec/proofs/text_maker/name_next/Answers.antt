@@ -1,26 +1,23 @@
-use Rattle.std.proofs.Common.{◌++◌, sym, ap, subst, ◌∙◌}
-use Rattle.std.proofs.lemmas.Result.{err_from_is_err_and}
+use Rattle.std.proofs.Common.{◌≢◌, ◌++◌, sym, ap, subst, ◌∙◌}
+use Rattle.std.proofs.lemmas.Bool.{false≢true}
 use Rattle.dir_codec.specs.DirectoryText.{directory_text}
 use Rattle.dir_codec.specs.Named.{entries_of}
 use Rattle.dir_codec.specs.TextMakers.{IsTextMadeOn}
+use Rattle.dir_codec.specs.declared.fault.DirFault.TheVariants.{NoMemory}
 use Rattle.dir_codec.proofs.Stages.{all_named, fault_named}
 use Rattle.dir_codec.proofs.text_maker.name_next.Goals as goal
 
-pub returns-in_err-name_some-clause-err : goal.returns-in_err-name_some-clause-err
-returns-in_err-name_some-clause-err c =
-    let so = c.requires in
-    let p = err_from_is_err_and c.from_residual.result c.from_residual.ensures.1 in
-    rw (p.1, p.2) (λ other. fault_named c.args.json.now c.in_err-name_some.field-0.0 (so.1 ∙ c.in_err-name_some.ensures.err other so.0 so.2))
-
-pub returns-then-is_empty-clause-ok : goal.returns-then-is_empty-clause-ok
-returns-then-is_empty-clause-ok c =
+pub returns-in-Ok-clause-made : goal.returns-in-Ok-clause-made
+returns-in-Ok-clause-made c =
     let so = c.requires in
     let children = c.name_some.new.children.entries in
     let left = c.name_some.new.left.entries in
     subst (IsTextMadeOn c.args.json.now) (sym c.going.ensures)
-    (entries_of children, so.1 ∙ all_named children left so.0 (c.is_empty.ensures.0 c.if-is_empty.true) (c.in_ok-name_some.ensures.ok so.0 so.2), ap (λ t. t ++ directory_text (entries_of children)) c.new.ensures.items)
+    (entries_of children, so.1 ∙ all_named children left so.0 (c.is_empty.ensures.0 c.if-is_empty.true) (c.in-Ok.ensures.ok so.0 so.2), ap (λ t. t ++ directory_text (entries_of children)) c.new.ensures.items)
 
-pub returns-clause-ok : goal.returns-clause-ok
-returns-clause-ok c =
+pub returns-in-Err-2-clause-made : goal.returns-in-Err-2-clause-made
+returns-in-Err-2-clause-made c =
     let so = c.requires in
-    subst (IsTextMadeOn c.args.json.now) (sym c.going-2.ensures) (so.0, so.1, c.in_ok-name_some.ensures.ok so.0 so.2)
+    let fault = c.in-Err.fault in
+    let other : fault ≢ NoMemory = λ none. false≢true (sym c.if-is_memory.false ∙ c.is_memory.ensures.1 none) in
+    subst (IsTextMadeOn c.args.json.now) (sym c.going-in-Err-2.ensures) (fault_named c.args.json.now fault (so.1 ∙ c.in-Err.ensures.err other so.0 so.2))

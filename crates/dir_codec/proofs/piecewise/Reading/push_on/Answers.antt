@@ -31,7 +31,7 @@ returns-in-Comma-clause-ok c =
     let to = subst (IsPieceTo json self.looked text) c.in-Comma.is piece in
     let comma = c.is_inner_comma-comma.ensures ∙ ap is_inner_comma c.in-Comma.is in
     let pushed = subst (λ b. IsPiecePushed IsReading (nat_lt self.looked.at self.looked.end) b text self.reader c.push_tokens.new.taker) comma c.in-Ok-push_tokens.ensures.ok in
-    (piece_read c.a_cut_text_is_joined.ensures json text self.looked.at self next c.requires.read to c.push_tokens.new.taker utf8 pushed, to.ahead)
+    (piece_read c.a_cut_text_is_joined.ensures json text self.looked.at self next c.requires.read to c.push_tokens.new.taker utf8 pushed, to.further)
 
 pub returns-in-Some-clause-ok : goal.returns-in-Some-clause-ok
 returns-in-Some-clause-ok c =
@@ -81,7 +81,7 @@ returns-clause-ok c =
     let json = c.args.json.now in
     let looked = c.args.self.looked in
     let found = c.in_ok-next_part-in-Err-NotRising.ensures in
-    IfOk-weaker c.read_part.result _ (IsReadOn json looked.at looked.end) (λ on read. read json looked.at looked.end found.part found.ahead) c.read_part.ensures.ok
+    IfOk-weaker c.read_part.result _ (IsReadOn json looked.at looked.search.reached) (λ on read. read json looked.at looked.search.reached found.part found.ahead) c.read_part.ensures.ok
 
 pub returns-clause-err : goal.returns-clause-err
 returns-clause-err c =
