@@ -1,26 +1,20 @@
 -- What is gathered, number by number, is what stands in the row.
 use Rattle.std.proofs.Common.{◌≡◌, ◌≢◌, ℕ, ◌<◌, ◌≤◌, List, [], ◌∷◌, ◌++◌, length, map, get_or, Bool, true, false, cond, Option, refl, sym, ap, ◌∙◌, arith}
 use Rattle.std.proofs.Math.ListN.{set, length-set}
-use Rattle.std.specs.Prelude.{◌==◌, not, option_and_then, filter, flat_map}
-use Rattle.std.specs.Option.{option_map}
+use Rattle.std.specs.Prelude.{◌==◌, not, filter, flat_map}
 use Rattle.std.specs.List.{range_with_len, filter_map}
-use Rattle.std.specs.FinMap.{get}
 use Rattle.std.proofs.lemmas.Bool.{eqb-true, eq-eqb, ne_eqb}
-use Rattle.std.proofs.lemmas.Option.{slice_get_past}
 use Rattle.std.proofs.lemmas.List.{append-nil, map-append, ext_get_or, get_or-set_same, get_or-set_other}
 use Rattle.std.proofs.lemmas.List.Elements.{filter-append}
 use Rattle.std.proofs.lemmas.Simd.{map-map}
 use Rattle.std.proofs.lemmas.List.FromFn.{length-map-range_with_len, get_or-map-range_with_len}
-use Rattle.share_store.specs.Shares.{Shares}
-use Rattle.grid.specs.Found.{found_below, found_place}
-use Rattle.grid.specs.FoundLaws.{FoundLaws}
-use Rattle.grid.specs.Standing.{standing}
+use Rattle.grid.specs.Found.{found_place}
 use Rattle.share_codec.specs.Params.{ParamsValue}
 use Rattle.share_codec.specs.GoodShare.{GoodShare}
-use Rattle.chk_file.specs.Row.{ShareTable, table_of, most_servers, ServerShare, places, first_good, good_at}
+use Rattle.chk_file.specs.Row.{ShareTable, ServerShare, places, first_good, good_at}
 use Rattle.chk_file.specs.Check.{is_some_place, standing_numbers, standing_places, standing_in, bad_places, good_places}
 use Rattle.chk_file.specs.Gathered.{Found, of_number, by_number, good_below, bad_below, places_below, servers_of, servers_by_number, places_at, some_below, standing_below}
-use Rattle.chk_file.proofs.Tools.{true_or_false, mapped_alike, kept_alike, flat_alike, filter_alike, none_past, begun}
+use Rattle.chk_file.proofs.Tools.{true_or_false, mapped_alike, kept_alike, flat_alike, filter_alike, begun}
 
 -- ---- one thing more, in the row of its number
 
@@ -147,17 +141,6 @@ servers_there number (f ∷ fs) = by_case (f.1 == number) (servers_there number 
 some_server : (shares : List ServerShare) → not (length (map server_in shares) == 0) ≡ is_some_place shares
 some_server [] = refl
 some_server (share ∷ shares) = ap not (ne_eqb (length (map server_in (share ∷ shares))) 0 (λ none. omega arith))
-
--- ---- all stores
-
--- what is found of a number is what stands of it
-pub of_standing : FoundLaws → (number : ℕ) (maps : List Shares) (index : List ℕ) → length maps ≤ 256
-    → of_number number (found_below maps index (length maps)) ≡ places (table_of (standing maps) index) number
-unfolding most_servers
-of_standing laws number maps index few =
-    laws.of_number maps index (length maps) number
-    ∙ sym (none_past (λ server. option_map (λ s. (server, s)) (standing maps server (index, number))) (length maps) 256 few
-    (λ server past. ap (λ (o : Option Shares). option_map (λ s. (server, s)) (option_and_then (λ shares. get shares (index, number)) o)) (slice_get_past maps server past)))
 
 -- ---- what is made of the rows is made of the row of which they are
 

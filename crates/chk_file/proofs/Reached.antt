@@ -10,10 +10,10 @@ use Rattle.share_store.specs.Shares.{Shares}
 use Rattle.share_store.specs.NumberedShares.{AllBut}
 use Rattle.grid.specs.Found.{found_below}
 use Rattle.grid.specs.FoundLaws.{FoundLaws}
-use Rattle.grid.specs.GridState.{GridState, maps_of, failures_at}
+use Rattle.grid.specs.GridState.{GridState, failures_at}
 use Rattle.grid.specs.Standing.{standing}
 use Rattle.chk_file.specs.Row.{ShareTable, most_servers, ServerShare, places}
-use Rattle.chk_file.specs.Reached.{IsReached}
+use Rattle.chk_file.specs.Reached.{IsReachedIn}
 use Rattle.chk_file.specs.Gathered.{Found, of_number}
 use Rattle.chk_file.proofs.Tools.{none_past}
 
@@ -109,33 +109,33 @@ module _ (Miss : ℕ → Type 0) where
 abbrev Failed : GridState → GridState → ℕ → Type 0
 Failed old new server = failures_at old server < failures_at new server
 
-abbrev stands_at : GridState → List ℕ → ℕ → ℕ → Option (List ℕ)
-stands_at old index number server = standing (maps_of old) server (index, number)
+abbrev stands_at : List Shares → List ℕ → ℕ → ℕ → Option (List ℕ)
+stands_at maps index number server = standing maps server (index, number)
 
--- all that stands of a number
-abbrev all_at : GridState → List ℕ → ℕ → List ServerShare
-all_at old index number = filter_map (placed_at (stands_at old index number)) (range_with_len 0 (length old.stores))
+-- all that stands of a number at so many servers
+abbrev all_at : List Shares → ℕ → List ℕ → ℕ → List ServerShare
+all_at maps servers index number = filter_map (placed_at (stands_at maps index number)) (range_with_len 0 servers)
 
--- a row that was reached, in which this stands of each number
-record IsListed (old new : GridState) (index : List ℕ) (lists : ℕ → List ServerShare) : Type 0 where
+-- a row that was reached of what stands in these maps, in which this stands of each number
+record IsListed (maps : List Shares) (old new : GridState) (index : List ℕ) (lists : ℕ → List ServerShare) : Type 0 where
   pub row : ShareTable
-  pub reached : IsReached old new index row
+  pub reached : IsReachedIn (standing maps) old new index row
   pub is : (number : ℕ) → lists number ≡ places row number
 
-module _ (old new : GridState) (index : List ℕ) (few : length old.stores ≤ 256) (long : length (maps_of old) ≡ length old.stores) (lists : ℕ → List ServerShare)
-    (all : (number : ℕ) → AllBut (λ (place : ServerShare). Failed old new place.0) (all_at old index number) (lists number)) where
-  of_each : (number : ℕ) → Picked (Failed old new) (stands_at old index number) 0 (length old.stores) (lists number)
-  of_each number = picked (Failed old new) (stands_at old index number) 0 (length old.stores) (lists number) (all number)
+module _ (maps : List Shares) (old new : GridState) (index : List ℕ) (few : length old.stores ≤ 256) (long : length maps ≡ length old.stores) (lists : ℕ → List ServerShare)
+    (all : (number : ℕ) → AllBut (λ (place : ServerShare). Failed old new place.0) (all_at maps (length old.stores) index number) (lists number)) where
+  of_each : (number : ℕ) → Picked (Failed old new) (stands_at maps index number) 0 (length old.stores) (lists number)
+  of_each number = picked (Failed old new) (stands_at maps index number) 0 (length old.stores) (lists number) (all number)
 
   -- past the last server nothing stands
   none_there : (number server : ℕ) → length old.stores ≤ server → (of_each number).has server ≡ None
   none_there number server past = by_case ((of_each number).each server)
     where
-      by_case : ((of_each number).has server ≡ stands_at old index number server) ⊎ (Failed old new server × ((of_each number).has server ≡ None)) → (of_each number).has server ≡ None
-      by_case (inl same) = same ∙ ap (λ (o : Option Shares). option_and_then (λ shares. get shares (index, number)) o) (slice_get_past (maps_of old) server (omega arith))
+      by_case : ((of_each number).has server ≡ stands_at maps index number server) ⊎ (Failed old new server × ((of_each number).has server ≡ None)) → (of_each number).has server ≡ None
+      by_case (inl same) = same ∙ ap (λ (o : Option Shares). option_and_then (λ shares. get shares (index, number)) o) (slice_get_past maps server (omega arith))
       by_case (inr (failed, none)) = none
 
-  lists_are_reached : IsListed old new index lists
+  lists_are_reached : IsListed maps old new index lists
   unfolding most_servers
   lists_are_reached = record {
     row = λ server number. (of_each number).has server;
@@ -146,28 +146,28 @@ module _ (old new : GridState) (index : List ℕ) (few : length old.stores ≤ 2
   }
 
 -- a row that was reached, and what was gathered is what stands in it
-pub record IsGathered (old new : GridState) (index : List ℕ) (found : List Found) : Type 0 where
+pub record IsGathered (maps : List Shares) (old new : GridState) (index : List ℕ) (found : List Found) : Type 0 where
   pub row : ShareTable
-  pub reached : IsReached old new index row
+  pub reached : IsReachedIn (standing maps) old new index row
   pub is : (number : ℕ) → of_number number found ≡ places row number
 
-module _ (laws : FoundLaws) (old new : GridState) (index : List ℕ) (found : List Found) where
+module _ (laws : FoundLaws) (maps : List Shares) (old new : GridState) (index : List ℕ) (found : List Found) where
   -- of a number of which all are among these
   of_list : (among : List Found) → AllBut (λ (f : Found). Failed old new f.0) among found → (number : ℕ)
-      → filter (λ (f : Found). f.1 == number) among ≡ filter (λ (f : Found). f.1 == number) (found_below (maps_of old) index (length old.stores))
-      → AllBut (λ (place : ServerShare). Failed old new place.0) (all_at old index number) (of_number number found)
+      → filter (λ (f : Found). f.1 == number) among ≡ filter (λ (f : Found). f.1 == number) (found_below maps index (length old.stores))
+      → AllBut (λ (place : ServerShare). Failed old new place.0) (all_at maps (length old.stores) index number) (of_number number found)
   of_list among all number same =
       subst (λ (ps : List ServerShare). AllBut (λ (place : ServerShare). Failed old new place.0) ps (of_number number found))
-      (ap (map {B = ServerShare} (λ (f : Found). (f.0, f.2))) same ∙ laws.of_number (maps_of old) index (length old.stores) number)
+      (ap (map {B = ServerShare} (λ (f : Found). (f.0, f.2))) same ∙ laws.of_number maps index (length old.stores) number)
       (AllBut-map (λ (f : Found). Failed old new f.0) (λ (place : ServerShare). Failed old new place.0) (λ f. (f.0, f.2)) (λ f failed. failed)
       (filter (λ (f : Found). f.1 == number) among) (filter (λ (f : Found). f.1 == number) found)
       (AllBut-filter (λ (f : Found). Failed old new f.0) (λ (f : Found). f.1 == number) among found all))
 
-  pub gathered_is_reached : length old.stores ≤ 256 → length (maps_of old) ≡ length old.stores
-      → AllBut (λ (f : Found). failures_at old f.0 < failures_at new f.0) (found_below (maps_of old) index (length old.stores)) found → IsGathered old new index found
+  pub gathered_is_reached : length old.stores ≤ 256 → length maps ≡ length old.stores
+      → AllBut (λ (f : Found). failures_at old f.0 < failures_at new f.0) (found_below maps index (length old.stores)) found → IsGathered maps old new index found
   gathered_is_reached few long all =
-      let it : IsListed old new index (λ number. of_number number found) =
-      lists_are_reached old new index few long (λ number. of_number number found) (λ number. of_list (found_below (maps_of old) index (length old.stores)) all number refl) in
+      let it : IsListed maps old new index (λ number. of_number number found) =
+      lists_are_reached maps old new index few long (λ number. of_number number found) (λ number. of_list (found_below maps index (length old.stores)) all number refl) in
       record { row = it.row; reached = it.reached; is = it.is }
 
 -- ---- a row of which low numbers alone were gathered
@@ -201,41 +201,41 @@ high_dropped number limit high (f ∷ fs) = by_case (nat_lt f.1 limit) refl (hig
     by_case false is more = more
 
 -- a row that was reached, and what was gathered is what stands in it of the numbers below a limit
-pub record IsGatheredBelow (limit : ℕ) (old new : GridState) (index : List ℕ) (found : List Found) : Type 0 where
+pub record IsGatheredBelow (limit : ℕ) (maps : List Shares) (old new : GridState) (index : List ℕ) (found : List Found) : Type 0 where
   pub row : ShareTable
-  pub reached : IsReached old new index row
+  pub reached : IsReachedIn (standing maps) old new index row
   pub is : (number : ℕ) → number < limit → of_number number found ≡ places row number
   pub past : (number : ℕ) → limit ≤ number → of_number number found ≡ []
 
-module _ (laws : FoundLaws) (limit : ℕ) (old new : GridState) (index : List ℕ) (found : List Found) (few : length old.stores ≤ 256) (long : length (maps_of old) ≡ length old.stores)
-    (all : AllBut (λ (f : Found). failures_at old f.0 < failures_at new f.0) (filter (λ (f : Found). nat_lt f.1 limit) (found_below (maps_of old) index (length old.stores))) found) where
+module _ (laws : FoundLaws) (limit : ℕ) (maps : List Shares) (old new : GridState) (index : List ℕ) (found : List Found) (few : length old.stores ≤ 256) (long : length maps ≡ length old.stores)
+    (all : AllBut (λ (f : Found). failures_at old f.0 < failures_at new f.0) (filter (λ (f : Found). nat_lt f.1 limit) (found_below maps index (length old.stores))) found) where
   abbrev low_found : List Found
-  low_found = filter (λ (f : Found). nat_lt f.1 limit) (found_below (maps_of old) index (length old.stores))
+  low_found = filter (λ (f : Found). nat_lt f.1 limit) (found_below maps index (length old.stores))
 
   -- what was gathered of a low number, and all that stands of any other
   abbrev low_or_all : ℕ → List ServerShare
-  low_or_all number = cond (nat_lt number limit) (of_number number found) (all_at old index number)
+  low_or_all number = cond (nat_lt number limit) (of_number number found) (all_at maps (length old.stores) index number)
 
-  all_but_low : (number : ℕ) → AllBut (λ (place : ServerShare). Failed old new place.0) (all_at old index number) (low_or_all number)
+  all_but_low : (number : ℕ) → AllBut (λ (place : ServerShare). Failed old new place.0) (all_at maps (length old.stores) index number) (low_or_all number)
   all_but_low number = by_case (nat_lt number limit) refl
     where
-      by_case : (b : Bool) → nat_lt number limit ≡ b → AllBut (λ (place : ServerShare). Failed old new place.0) (all_at old index number) (cond b (of_number number found) (all_at old index number))
-      by_case true is = of_list laws old new index found low_found all number (low_kept number limit is (found_below (maps_of old) index (length old.stores)))
-      by_case false is = AllBut-all (λ (place : ServerShare). Failed old new place.0) (all_at old index number)
+      by_case : (b : Bool) → nat_lt number limit ≡ b → AllBut (λ (place : ServerShare). Failed old new place.0) (all_at maps (length old.stores) index number) (cond b (of_number number found) (all_at maps (length old.stores) index number))
+      by_case true is = of_list laws maps old new index found low_found all number (low_kept number limit is (found_below maps index (length old.stores)))
+      by_case false is = AllBut-all (λ (place : ServerShare). Failed old new place.0) (all_at maps (length old.stores) index number)
 
   none_high : (number : ℕ) → limit ≤ number → of_number number found ≡ []
   none_high number past =
       ap (map {B = ServerShare} (λ (f : Found). (f.0, f.2)))
       (subst (λ (fs : List Found). AllBut (λ (f : Found). Failed old new f.0) fs (filter (λ (f : Found). f.1 == number) found))
-      (high_dropped number limit (le-ltb number limit past) (found_below (maps_of old) index (length old.stores)))
+      (high_dropped number limit (le-ltb number limit past) (found_below maps index (length old.stores)))
       (AllBut-filter (λ (f : Found). Failed old new f.0) (λ (f : Found). f.1 == number) low_found found all))
 
-  pub low_is_reached : IsGatheredBelow limit old new index found
+  pub low_is_reached : IsGatheredBelow limit maps old new index found
   low_is_reached =
-      let it : IsListed old new index low_or_all = lists_are_reached old new index few long low_or_all all_but_low in
+      let it : IsListed maps old new index low_or_all = lists_are_reached maps old new index few long low_or_all all_but_low in
       record {
         row = it.row;
         reached = it.reached;
-        is = λ number low. sym (ap (λ b. cond b (of_number number found) (all_at old index number)) (lt-ltb number limit low)) ∙ it.is number;
+        is = λ number low. sym (ap (λ b. cond b (of_number number found) (all_at maps (length old.stores) index number)) (lt-ltb number limit low)) ∙ it.is number;
         past = none_high;
       }

@@ -1,17 +1,17 @@
 //! Preparing long files, before they are read.
 ghost use Rattle.std.specs.Prelude.{◌≡◌, IfSome, Some};
-ghost use Rattle.grid.specs.GridState.{stood, IsHonest, NoneFailed};
+ghost use Rattle.grid.specs.GridState.{IsHonest};
 ghost use Rattle.grid.specs.Leaves.{Leaves, IsUnchanged};
+ghost use Rattle.grid.specs.Views.{AllTell, StandStill, TellOn};
 ghost use Rattle.caps.specs.StorageIndex.{index_of};
-ghost use Rattle.chk_file.specs.Row.{table_of};
 ghost use Rattle.chk_file.specs.Fit.{fit};
 ghost use Rattle.chk_file.specs.Cached.{IsCacheCurrent};
+ghost use Rattle.chk_file.specs.Amid.{AreKeptSeen, SeesReached};
 ghost use Rattle.chk_file.specs.Seen.{given_by};
 
 use crate::cache::{Cache, MOST_KEPT};
 use crate::judging::has_each;
 use crate::kept_strings::Gathered;
-use crate::laws::reached_rows;
 use crate::read_ahead::ReadAhead;
 use caps::{ReadFields, storage_index};
 use grid::Grid;
@@ -40,7 +40,10 @@ impl Cache {
     ) -> bool
         ensures leaves { Leaves grid.old grid.new }
         ensures unchanged { IsHonest grid.old → IsUnchanged grid.old grid.new }
+        ensures stand_still { StandStill grid.old grid.new }
+        ensures told { TellOn grid.old grid.new }
         ensures fresh { IsCacheCurrent self.old grid.old → IsCacheCurrent self.new grid.new }
+        ensures kept_seen { AllTell grid.old → AreKeptSeen self.old self.new grid.old grid.new }
     {
         if !self.can_read_ahead(grid, fields) {
             return false;
@@ -61,7 +64,10 @@ fn begin_ahead<S: Store>(
 ) -> bool
     ensures leaves { Leaves grid.old grid.new }
     ensures unchanged { IsHonest grid.old → IsUnchanged grid.old grid.new }
+    ensures stand_still { StandStill grid.old grid.new }
+    ensures told { TellOn grid.old grid.new }
     ensures fresh { IsCacheCurrent cache.old grid.old → IsCacheCurrent cache.new grid.new }
+    ensures kept_seen { AllTell grid.old → AreKeptSeen cache.old cache.new grid.old grid.new }
 {
     if is_gathered(grid, cache, fields) {
         return cache.judge_gathered(alloc);
@@ -106,7 +112,10 @@ fn begin_gathered<S: Store>(
 ) -> bool
     ensures leaves { Leaves grid.old grid.new }
     ensures unchanged { IsHonest grid.old → IsUnchanged grid.old grid.new }
+    ensures stand_still { StandStill grid.old grid.new }
+    ensures told { TellOn grid.old grid.new }
     ensures fresh { IsCacheCurrent cache.old grid.old → IsCacheCurrent cache.new grid.new }
+    ensures kept_seen { AllTell grid.old → AreKeptSeen cache.old cache.new grid.old grid.new }
 {
     if !gather(grid, cache, fields) {
         return false;
@@ -119,7 +128,10 @@ fn begin_gathered<S: Store>(
 fn gather<S: Store>(grid: &mut Grid<S>, cache: &mut Cache, fields: &ReadFields) -> bool
     ensures leaves { Leaves grid.old grid.new }
     ensures unchanged { IsHonest grid.old → IsUnchanged grid.old grid.new }
+    ensures stand_still { StandStill grid.old grid.new }
+    ensures told { TellOn grid.old grid.new }
     ensures fresh { IsCacheCurrent cache.old grid.old → IsCacheCurrent cache.new grid.new }
+    ensures kept_seen { AllTell grid.old → AreKeptSeen cache.old cache.new grid.old grid.new }
 {
     let Some(stamp) = grid.stamp(&storage_index(&fields.key)) else {
         return false;
@@ -140,14 +152,15 @@ fn gathered_at<S: Store>(grid: &mut Grid<S>, fields: &ReadFields, stamp: u64) ->
     ensures leaves { Leaves grid.old grid.new }
     ensures stamps { grid.new.stamps ≡ grid.old.stamps }
     ensures unchanged { IsHonest grid.old → IsUnchanged grid.old grid.new }
+    ensures stand_still { StandStill grid.old grid.new }
+    ensures told { TellOn grid.old grid.new }
     ensures fields { IfSome result (λ gathered. gathered.fields ≡ fields.now) }
     ensures stamp { IfSome result (λ gathered. gathered.stamp ≡ stamp) }
-    ensures fit { IsHonest grid.old → NoneFailed grid.old grid.new → IfSome result (λ gathered.
-        IfSome (given_by gathered) (λ bytes.
-        fit (table_of (stood grid.old) (index_of fields.now.key)) fields.now ≡ Some bytes)) }
+    ensures seen { AllTell grid.old → IfSome result (λ gathered. IfSome (given_by gathered) (λ bytes.
+        SeesReached grid.old grid.new (index_of fields.now.key) (λ row.
+        fit row fields.now ≡ Some bytes))) }
 {
     found_laws();
-    reached_rows();
     // There are at most 256 servers: a row has no more.
     let _ = grid.servers();
     let Ok(found) = grid.gather_below(storage_index(&fields.key), fields.k) else {

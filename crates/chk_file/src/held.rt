@@ -2,8 +2,10 @@
 ghost use Rattle.std.specs.Prelude.{◌≡◌, Contains, IfOk, IfSome};
 ghost use Rattle.grid.specs.GridState.{IsHonest};
 ghost use Rattle.grid.specs.Leaves.{Leaves, IsUnchanged};
+ghost use Rattle.grid.specs.Views.{AllTell, StandStill, TellOn};
 ghost use Rattle.chk_file.specs.Bound.{Bound};
 ghost use Rattle.chk_file.specs.Cached.{IsCacheCurrent, IsWithin};
+ghost use Rattle.chk_file.specs.Amid.{AreKeptSeen};
 
 use crate::cache::{Cache, MOST_KEPT};
 use crate::download::Download;
@@ -23,7 +25,10 @@ pub(crate) fn read_step<S: Store>(
 ) -> Result<bool, ReadFault>
     ensures leaves { Leaves grid.old grid.new }
     ensures unchanged { IsHonest grid.old → IsUnchanged grid.old grid.new }
+    ensures stand_still { StandStill grid.old grid.new }
+    ensures told { TellOn grid.old grid.new }
     ensures fresh { IsCacheCurrent cache.old grid.old → IsCacheCurrent cache.new grid.new }
+    ensures kept_seen { AllTell grid.old → AreKeptSeen cache.old cache.new grid.old grid.new }
 {
     if cache.read_ahead(alloc, grid, fields) {
         return Ok(false);

@@ -1,13 +1,15 @@
 //! Preparing the listing of directories, and reading them to be listed.
 ghost use Rattle.std.specs.Prelude.{◌≡◌, Contains, IfOk, IfSome, IsErrOf, Some, None};
-ghost use Rattle.grid.specs.GridState.{stood, IsHonest, NoneFailed};
+ghost use Rattle.grid.specs.GridState.{stood, raised_at, IsHonest, NoneFailed};
 ghost use Rattle.grid.specs.Leaves.{Leaves, IsUnchanged};
+ghost use Rattle.grid.specs.Views.{AllTell, StandStill, TellOn};
 ghost use Rattle.caps.specs.StorageIndex.{index_of};
 ghost use Rattle.chk_file.specs.Row.{table_of};
 ghost use Rattle.chk_file.specs.Reached.{OfReached};
 ghost use Rattle.chk_file.specs.Fit.{fit};
 ghost use Rattle.chk_file.specs.Bound.{Bound};
 ghost use Rattle.chk_file.specs.Cached.{IsCacheCurrent, IsWithin, IsWithinOr};
+ghost use Rattle.chk_file.specs.Amid.{AreKeptSeen, IsKeptOrSeen, SeesReached};
 
 use crate::cache::Cache;
 use crate::fault::ReadFault;
@@ -40,6 +42,8 @@ pub fn read_counted<S: Store>(
 ) -> Result<Counted, ReadFault>
     ensures leaves { Leaves grid.old grid.new }
     ensures unchanged { IsHonest grid.old → IsUnchanged grid.old grid.new }
+    ensures stand_still { StandStill grid.old grid.new }
+    ensures told { TellOn grid.old grid.new }
     ensures fresh { IsCacheCurrent cache.old grid.old → IsCacheCurrent cache.new grid.new }
     ensures bound { IfOk result (λ counted. Bound fields.now counted) }
     ensures fit { IsCacheCurrent cache.old grid.old → IsHonest grid.old → NoneFailed grid.old grid.new →
@@ -53,6 +57,11 @@ pub fn read_counted<S: Store>(
         (index_of fields.now.key) (λ row. fit row fields.now ≡ Some counted)) }
     ensures missing_reached { IsHonest grid.old → IsErrOf result ReadFault.NotEnoughShares →
         OfReached grid.old grid.new (index_of fields.now.key) (λ row. fit row fields.now ≡ None) }
+    ensures seen { AllTell grid.old → IfOk result (λ counted.
+        IsKeptOrSeen cache.old grid.old grid.new fields.now counted) }
+    ensures seen_missing { AllTell grid.old → IsErrOf result ReadFault.NotEnoughShares →
+        SeesReached grid.old grid.new (index_of fields.now.key) (λ row. fit row fields.now ≡ None) }
+    ensures kept_seen { AllTell grid.old → AreKeptSeen cache.old cache.new grid.old grid.new }
 {
     if let Some(counted) = counted_now(grid, cache, fields) {
         return Ok(counted);
@@ -65,7 +74,9 @@ pub fn read_counted<S: Store>(
 
 /// What is prepared, where it is of the present stamp. It is taken out.
 fn counted_now<S: Store>(grid: &Grid<S>, cache: &mut Cache, fields: &ReadFields) -> Option<Counted>
-    ensures fresh { IsCacheCurrent cache.old grid.now → IsCacheCurrent cache.new grid.now }
+    ensures within { IsWithin cache.old cache.new }
+    ensures kept { IfSome result (λ counted. Contains cache.old
+        (fields.now, (raised_at grid.now (index_of fields.now.key), counted))) }
     ensures bound { IfSome result (λ counted. Bound fields.now counted) }
     ensures fit { IsCacheCurrent cache.old grid.now → IsHonest grid.now → IfSome result (λ counted.
         fit (table_of (stood grid.now) (index_of fields.now.key)) fields.now ≡ Some counted) }
@@ -111,7 +122,10 @@ impl Cache {
     ) -> bool
         ensures leaves { Leaves grid.old grid.new }
         ensures unchanged { IsHonest grid.old → IsUnchanged grid.old grid.new }
+        ensures stand_still { StandStill grid.old grid.new }
+        ensures told { TellOn grid.old grid.new }
         ensures fresh { IsCacheCurrent self.old grid.old → IsCacheCurrent self.new grid.new }
+        ensures kept_seen { AllTell grid.old → AreKeptSeen self.old self.new grid.old grid.new }
     {
         if !self.can_list_ahead(grid, fields) {
             return false;
@@ -167,7 +181,10 @@ fn list_first<S: Store>(
 ) -> bool
     ensures leaves { Leaves grid.old grid.new }
     ensures unchanged { IsHonest grid.old → IsUnchanged grid.old grid.new }
+    ensures stand_still { StandStill grid.old grid.new }
+    ensures told { TellOn grid.old grid.new }
     ensures fresh { IsCacheCurrent cache.old grid.old → IsCacheCurrent cache.new grid.new }
+    ensures kept_seen { AllTell grid.old → AreKeptSeen cache.old cache.new grid.old grid.new }
 {
     match read_step(alloc, grid, cache, fields) {
         Ok(true) => begin_listing(alloc, grid, cache, fields),

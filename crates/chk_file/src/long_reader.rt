@@ -1,7 +1,8 @@
 //! Reading long files: k good shares of the one that was begun last are kept.
 ghost use Rattle.std.specs.Prelude.{◌≡◌, ◌<◌, Contains, IfOk, IfSome, IsErrOf, MatchOption, Some, None};
-ghost use Rattle.grid.specs.GridState.{stood, IsHonest, NoneFailed};
+ghost use Rattle.grid.specs.GridState.{stood, raised_at, IsHonest, NoneFailed};
 ghost use Rattle.grid.specs.Leaves.{Leaves, IsUnchanged};
+ghost use Rattle.grid.specs.Views.{AllTell, StandStill, TellOn};
 ghost use Rattle.caps.specs.StorageIndex.{index_of};
 ghost use Rattle.chk_file.specs.Seen.{HasSegmentsOf};
 ghost use Rattle.chk_file.specs.Row.{table_of};
@@ -9,13 +10,13 @@ ghost use Rattle.chk_file.specs.Reached.{OfReached};
 ghost use Rattle.chk_file.specs.Fit.{fit};
 ghost use Rattle.chk_file.specs.Bound.{Bound};
 ghost use Rattle.chk_file.specs.Cached.{IsCacheCurrent, IsWithin, IsWithinOr};
+ghost use Rattle.chk_file.specs.Amid.{AreKeptSeen, IsKeptOrSeen, SeesReached};
 ghost use Rattle.chk_file.specs.Taken.{AreTaken};
 ghost use Rattle.chk_file.specs.Ahead.{file_params, plain_from};
 
 use crate::cache::Cache;
 use crate::download::Download;
 use crate::fault::ReadFault;
-use crate::laws::reached_rows;
 use crate::picked::file_params;
 use crate::ready::Ready;
 use crate::share_reader::ShareReader;
@@ -37,6 +38,8 @@ pub(crate) fn begin_long<S: Store>(
 ) -> Result<Download, ReadFault>
     ensures leaves { Leaves grid.old grid.new }
     ensures unchanged { IsHonest grid.old → IsUnchanged grid.old grid.new }
+    ensures stand_still { StandStill grid.old grid.new }
+    ensures told { TellOn grid.old grid.new }
     ensures fresh { IsCacheCurrent cache.old grid.old → IsCacheCurrent cache.new grid.new }
     ensures bound { IfOk result (λ download. Bound fields.now download.left) }
     ensures fit { IsCacheCurrent cache.old grid.old → IsHonest grid.old → NoneFailed grid.old grid.new →
@@ -52,6 +55,11 @@ pub(crate) fn begin_long<S: Store>(
         (index_of fields.now.key) (λ row. fit row fields.now ≡ Some download.left)) }
     ensures missing_reached { IsHonest grid.old → IsErrOf result ReadFault.NotEnoughShares →
         OfReached grid.old grid.new (index_of fields.now.key) (λ row. fit row fields.now ≡ None) }
+    ensures seen { AllTell grid.old → IfOk result (λ download.
+        IsKeptOrSeen cache.old grid.old grid.new fields.now download.left) }
+    ensures seen_missing { AllTell grid.old → IsErrOf result ReadFault.NotEnoughShares →
+        SeesReached grid.old grid.new (index_of fields.now.key) (λ row. fit row fields.now ≡ None) }
+    ensures kept_seen { AllTell grid.old → AreKeptSeen cache.old cache.new grid.old grid.new }
 {
     match look_up(alloc, grid, cache, fields)? {
         Some(shares) => Ok(Download::pinned(alloc, shares)),
@@ -66,7 +74,9 @@ fn look_up<S: Store>(
     cache: &mut Cache,
     fields: &ReadFields,
 ) -> Result<Option<ShareReader>, AllocError>
-    ensures fresh { IsCacheCurrent cache.old grid.now → IsCacheCurrent cache.new grid.now }
+    ensures within { IsWithin cache.old cache.new }
+    ensures kept { IfOk result (λ found. IfSome found (λ shares. Contains cache.old
+        (fields.now, (raised_at grid.now (index_of fields.now.key), shares.left)))) }
     ensures bound { IfOk result (λ found. IfSome found (λ shares.
         Bound fields.now shares.left)) }
     ensures fit { IsCacheCurrent cache.old grid.now → IsHonest grid.now →
@@ -148,19 +158,17 @@ fn begin_anew<S: Store>(
 ) -> Result<Download, ReadFault>
     ensures leaves { Leaves grid.old grid.new }
     ensures unchanged { IsHonest grid.old → IsUnchanged grid.old grid.new }
+    ensures stand_still { StandStill grid.old grid.new }
+    ensures told { TellOn grid.old grid.new }
     ensures fresh { IsCacheCurrent cache.old grid.old → IsCacheCurrent cache.new grid.new }
     ensures bound { IfOk result (λ download. Bound fields.now download.left) }
-    ensures fit { IsHonest grid.old → NoneFailed grid.old grid.new → IfOk result (λ download.
-        fit (table_of (stood grid.old) (index_of fields.now.key)) fields.now ≡ Some download.left) }
     ensures segments { IfOk result (λ download. HasSegmentsOf fields.now download) }
-    ensures missing { IsHonest grid.old → NoneFailed grid.old grid.new →
-        IsErrOf result ReadFault.NotEnoughShares →
-        fit (table_of (stood grid.old) (index_of fields.now.key)) fields.now ≡ None }
-    ensures fit_reached { IsHonest grid.old → IfOk result (λ download.
-        OfReached grid.old grid.new
-        (index_of fields.now.key) (λ row. fit row fields.now ≡ Some download.left)) }
-    ensures missing_reached { IsHonest grid.old → IsErrOf result ReadFault.NotEnoughShares →
-        OfReached grid.old grid.new (index_of fields.now.key) (λ row. fit row fields.now ≡ None) }
+    ensures seen { AllTell grid.old → IfOk result (λ download.
+        SeesReached grid.old grid.new (index_of fields.now.key) (λ row.
+        fit row fields.now ≡ Some download.left)) }
+    ensures seen_missing { AllTell grid.old → IsErrOf result ReadFault.NotEnoughShares →
+        SeesReached grid.old grid.new (index_of fields.now.key) (λ row. fit row fields.now ≡ None) }
+    ensures kept_seen { AllTell grid.old → AreKeptSeen cache.old cache.new grid.old grid.new }
 {
     let stamp = grid.stamp(&storage_index(&fields.key));
     let failures = grid.failures();
@@ -203,18 +211,15 @@ fn find_shares<S: Store>(
     ensures leaves { Leaves grid.old grid.new }
     ensures stamps { grid.new.stamps ≡ grid.old.stamps }
     ensures unchanged { IsHonest grid.old → IsUnchanged grid.old grid.new }
+    ensures stand_still { StandStill grid.old grid.new }
+    ensures told { TellOn grid.old grid.new }
     ensures bound { IfOk result (λ shares. Bound fields.now shares.left) }
-    ensures fit { IsHonest grid.old → NoneFailed grid.old grid.new → IfOk result (λ shares.
-        fit (table_of (stood grid.old) (index_of fields.now.key)) fields.now ≡ Some shares.left) }
     ensures segments { IfOk result (λ shares. HasSegmentsOf fields.now shares) }
-    ensures missing { IsHonest grid.old → NoneFailed grid.old grid.new →
-        IsErrOf result ReadFault.NotEnoughShares →
-        fit (table_of (stood grid.old) (index_of fields.now.key)) fields.now ≡ None }
-    ensures fit_reached { IsHonest grid.old → IfOk result (λ shares.
-        OfReached grid.old grid.new
-        (index_of fields.now.key) (λ row. fit row fields.now ≡ Some shares.left)) }
-    ensures missing_reached { IsHonest grid.old → IsErrOf result ReadFault.NotEnoughShares →
-        OfReached grid.old grid.new (index_of fields.now.key) (λ row. fit row fields.now ≡ None) }
+    ensures seen { AllTell grid.old → IfOk result (λ shares.
+        SeesReached grid.old grid.new (index_of fields.now.key) (λ row.
+        fit row fields.now ≡ Some shares.left)) }
+    ensures seen_missing { AllTell grid.old → IsErrOf result ReadFault.NotEnoughShares →
+        SeesReached grid.old grid.new (index_of fields.now.key) (λ row. fit row fields.now ≡ None) }
 {
     match good_shares(alloc, grid, ready, fields) {
         Ok(shares) => Ok(ShareReader::new(alloc, file_params(fields), fields.key, shares)?),
@@ -234,21 +239,16 @@ fn good_shares<S: Store>(
     ensures leaves { Leaves grid.old grid.new }
     ensures stamps { grid.new.stamps ≡ grid.old.stamps }
     ensures unchanged { IsHonest grid.old → IsUnchanged grid.old grid.new }
+    ensures stand_still { StandStill grid.old grid.new }
+    ensures told { TellOn grid.old grid.new }
     ensures taken { IfOk result (λ shares. AreTaken (file_params fields.now) shares.items) }
     ensures bound { IfOk result (λ shares. Bound fields.now (plain_from fields.now shares.items)) }
-    ensures fit { IsHonest grid.old → NoneFailed grid.old grid.new → IfOk result (λ shares.
-        fit (table_of (stood grid.old) (index_of fields.now.key)) fields.now
-        ≡ Some (plain_from fields.now shares.items)) }
-    ensures missing { IsHonest grid.old → NoneFailed grid.old grid.new →
-        IsErrOf result ReadFault.NotEnoughShares →
-        fit (table_of (stood grid.old) (index_of fields.now.key)) fields.now ≡ None }
-    ensures fit_reached { IsHonest grid.old → IfOk result (λ shares.
-        OfReached grid.old grid.new (index_of fields.now.key) (λ row.
+    ensures seen { AllTell grid.old → IfOk result (λ shares.
+        SeesReached grid.old grid.new (index_of fields.now.key) (λ row.
         fit row fields.now ≡ Some (plain_from fields.now shares.items))) }
-    ensures missing_reached { IsHonest grid.old → IsErrOf result ReadFault.NotEnoughShares →
-        OfReached grid.old grid.new (index_of fields.now.key) (λ row. fit row fields.now ≡ None) }
+    ensures seen_missing { AllTell grid.old → IsErrOf result ReadFault.NotEnoughShares →
+        SeesReached grid.old grid.new (index_of fields.now.key) (λ row. fit row fields.now ≡ None) }
 {
-    reached_rows();
     let Some(ready) = ready else {
         return verified(alloc, grid, fields);
     };
@@ -270,10 +270,12 @@ fn verify_ready<S: Store>(
     ensures leaves { Leaves grid.old grid.new }
     ensures stamps { grid.new.stamps ≡ grid.old.stamps }
     ensures unchanged { IsHonest grid.old → IsUnchanged grid.old grid.new }
+    ensures stand_still { StandStill grid.old grid.new }
+    ensures told { TellOn grid.old grid.new }
     ensures taken { IfOk result (λ shares. AreTaken (file_params fields.now) shares.items) }
     ensures bound { IfOk result (λ shares. Bound fields.now (plain_from fields.now shares.items)) }
-    ensures fit_reached { IsHonest grid.old → IfOk result (λ shares.
-        OfReached grid.old grid.new (index_of fields.now.key) (λ row.
+    ensures seen { AllTell grid.old → IfOk result (λ shares.
+        SeesReached grid.old grid.new (index_of fields.now.key) (λ row.
         fit row fields.now ≡ Some (plain_from fields.now shares.items))) }
 {
     found_laws();
@@ -295,19 +297,15 @@ fn verified<S: Store>(
     ensures leaves { Leaves grid.old grid.new }
     ensures stamps { grid.new.stamps ≡ grid.old.stamps }
     ensures unchanged { IsHonest grid.old → IsUnchanged grid.old grid.new }
+    ensures stand_still { StandStill grid.old grid.new }
+    ensures told { TellOn grid.old grid.new }
     ensures taken { IfOk result (λ shares. AreTaken (file_params fields.now) shares.items) }
     ensures bound { IfOk result (λ shares. Bound fields.now (plain_from fields.now shares.items)) }
-    ensures fit { IsHonest grid.old → NoneFailed grid.old grid.new → IfOk result (λ shares.
-        fit (table_of (stood grid.old) (index_of fields.now.key)) fields.now
-        ≡ Some (plain_from fields.now shares.items)) }
-    ensures missing { IsHonest grid.old → NoneFailed grid.old grid.new →
-        IsErrOf result ReadFault.NotEnoughShares →
-        fit (table_of (stood grid.old) (index_of fields.now.key)) fields.now ≡ None }
-    ensures fit_reached { IsHonest grid.old → IfOk result (λ shares.
-        OfReached grid.old grid.new (index_of fields.now.key) (λ row.
+    ensures seen { AllTell grid.old → IfOk result (λ shares.
+        SeesReached grid.old grid.new (index_of fields.now.key) (λ row.
         fit row fields.now ≡ Some (plain_from fields.now shares.items))) }
-    ensures missing_reached { IsHonest grid.old → IsErrOf result ReadFault.NotEnoughShares →
-        OfReached grid.old grid.new (index_of fields.now.key) (λ row. fit row fields.now ≡ None) }
+    ensures seen_missing { AllTell grid.old → IsErrOf result ReadFault.NotEnoughShares →
+        SeesReached grid.old grid.new (index_of fields.now.key) (λ row. fit row fields.now ≡ None) }
 {
     match verify(alloc, grid, fields) {
         Ok((shares, _)) => Ok(shares),

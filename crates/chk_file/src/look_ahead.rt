@@ -2,8 +2,10 @@
 ghost use Rattle.std.specs.Prelude.{◌≡◌, Contains, IfOk, IfSome};
 ghost use Rattle.grid.specs.GridState.{IsHonest};
 ghost use Rattle.grid.specs.Leaves.{Leaves, IsUnchanged};
+ghost use Rattle.grid.specs.Views.{AllTell, StandStill, TellOn};
 ghost use Rattle.chk_file.specs.Bound.{Bound};
 ghost use Rattle.chk_file.specs.Cached.{IsCacheCurrent, IsWithin, IsWithinOr};
+ghost use Rattle.chk_file.specs.Amid.{AreKeptSeen};
 ghost use Rattle.chk_file.specs.Seen.{step_entry};
 ghost use Rattle.chk_file.specs.Steps.{IsSought};
 ghost use Rattle.chk_file.specs.Told.{told_in};
@@ -62,7 +64,10 @@ impl Cache {
     ) -> bool
         ensures leaves { Leaves grid.old grid.new }
         ensures unchanged { IsHonest grid.old → IsUnchanged grid.old grid.new }
+        ensures stand_still { StandStill grid.old grid.new }
+        ensures told { TellOn grid.old grid.new }
         ensures fresh { IsCacheCurrent self.old grid.old → IsCacheCurrent self.new grid.new }
+        ensures kept_seen { AllTell grid.old → AreKeptSeen self.old self.new grid.old grid.new }
     {
         let Some(stamp) = grid.stamp(&storage_index(&fields.key)) else {
             return false;
@@ -91,7 +96,10 @@ impl Cache {
     )
         ensures leaves { Leaves grid.old grid.new }
         ensures unchanged { IsHonest grid.old → IsUnchanged grid.old grid.new }
+        ensures stand_still { StandStill grid.old grid.new }
+        ensures told { TellOn grid.old grid.new }
         ensures fresh { IsCacheCurrent self.old grid.old → IsCacheCurrent self.new grid.new }
+        ensures kept_seen { AllTell grid.old → AreKeptSeen self.old self.new grid.old grid.new }
     {
         if begin(alloc, grid, self, fields).is_ok() {
             keep_found(alloc, grid, self, fields, name, is_its_turn);
@@ -177,7 +185,10 @@ fn read_first<S: Store>(
 ) -> bool
     ensures leaves { Leaves grid.old grid.new }
     ensures unchanged { IsHonest grid.old → IsUnchanged grid.old grid.new }
+    ensures stand_still { StandStill grid.old grid.new }
+    ensures told { TellOn grid.old grid.new }
     ensures fresh { IsCacheCurrent cache.old grid.old → IsCacheCurrent cache.new grid.new }
+    ensures kept_seen { AllTell grid.old → AreKeptSeen cache.old cache.new grid.old grid.new }
 {
     match read_step(alloc, grid, cache, fields) {
         Ok(true) => look_first(alloc, grid, cache, fields, name),

@@ -1,8 +1,9 @@
 //! Reading files.
-ghost use Rattle.std.specs.Prelude.{◌≡◌, ◌<◌, IfOk, IfSome, IsErrOf, MatchOption, Some, None};
+ghost use Rattle.std.specs.Prelude.{◌≡◌, ◌<◌, Contains, IfOk, IfSome, IsErrOf, MatchOption, Some, None};
 ghost use Rattle.std.specs.Rc.{rc_slice_items};
-ghost use Rattle.grid.specs.GridState.{stood, IsHonest, NoneFailed};
+ghost use Rattle.grid.specs.GridState.{stood, raised_at, IsHonest, NoneFailed};
 ghost use Rattle.grid.specs.Leaves.{Leaves, IsUnchanged};
+ghost use Rattle.grid.specs.Views.{AllTell, StandStill, TellOn};
 ghost use Rattle.caps.specs.StorageIndex.{index_of};
 ghost use Rattle.share_codec.specs.Segments.{segment_size};
 ghost use Rattle.chk_file.specs.Numbers.{params_of};
@@ -10,7 +11,8 @@ ghost use Rattle.chk_file.specs.Row.{table_of};
 ghost use Rattle.chk_file.specs.Reached.{OfReached};
 ghost use Rattle.chk_file.specs.Fit.{fit};
 ghost use Rattle.chk_file.specs.Bound.{Bound};
-ghost use Rattle.chk_file.specs.Cached.{IsCacheCurrent, IsWithinOr};
+ghost use Rattle.chk_file.specs.Cached.{IsCacheCurrent, IsWithin, IsWithinOr};
+ghost use Rattle.chk_file.specs.Amid.{AreKeptSeen, IsKeptOrSeen, SeesReached};
 
 use crate::cache::{Cache, MOST_KEPT};
 use crate::cipher::apply_keystream;
@@ -33,7 +35,8 @@ use std::rc::RcSlice;
 /// `NotEnoughShares` is answered exactly when that has none. A store that is down is passed over: where some honest
 /// stores fail the answer is that of a row with all that stands at the others. Where the cache has the bytes of the
 /// present stamp no store is asked; what is read otherwise is kept, if no store failed. Of a file of more than 1,048,576
-/// bytes k good shares are kept in their place, of the one that was read last.
+/// bytes k good shares are kept in their place, of the one that was read last. Over stores that others change too the same
+/// holds of what this call saw, each place at some moment of it; what the cache has is what an earlier call saw.
 pub fn read<S: Store>(
     alloc: Global,
     grid: &mut Grid<S>,
@@ -42,6 +45,8 @@ pub fn read<S: Store>(
 ) -> Result<Vec<u8>, ReadFault>
     ensures leaves { Leaves grid.old grid.new }
     ensures unchanged { IsHonest grid.old → IsUnchanged grid.old grid.new }
+    ensures stand_still { StandStill grid.old grid.new }
+    ensures told { TellOn grid.old grid.new }
     ensures fresh { IsCacheCurrent cache.old grid.old → IsCacheCurrent cache.new grid.new }
     ensures bound { IfOk result (λ bytes. Bound fields.now bytes.items) }
     ensures fit { IsCacheCurrent cache.old grid.old → IsHonest grid.old → NoneFailed grid.old grid.new →
@@ -55,6 +60,11 @@ pub fn read<S: Store>(
         (index_of fields.now.key) (λ row. fit row fields.now ≡ Some bytes.items)) }
     ensures missing_reached { IsHonest grid.old → IsErrOf result ReadFault.NotEnoughShares →
         OfReached grid.old grid.new (index_of fields.now.key) (λ row. fit row fields.now ≡ None) }
+    ensures seen { AllTell grid.old → IfOk result (λ bytes.
+        IsKeptOrSeen cache.old grid.old grid.new fields.now bytes.items) }
+    ensures seen_missing { AllTell grid.old → IsErrOf result ReadFault.NotEnoughShares →
+        SeesReached grid.old grid.new (index_of fields.now.key) (λ row. fit row fields.now ≡ None) }
+    ensures kept_seen { AllTell grid.old → AreKeptSeen cache.old cache.new grid.old grid.new }
 {
     if fields.size > MOST_KEPT {
         return read_long(alloc, grid, cache, fields);
@@ -74,6 +84,8 @@ fn read_long<S: Store>(
 ) -> Result<Vec<u8>, ReadFault>
     ensures leaves { Leaves grid.old grid.new }
     ensures unchanged { IsHonest grid.old → IsUnchanged grid.old grid.new }
+    ensures stand_still { StandStill grid.old grid.new }
+    ensures told { TellOn grid.old grid.new }
     ensures fresh { IsCacheCurrent cache.old grid.old → IsCacheCurrent cache.new grid.new }
     ensures bound { IfOk result (λ bytes. Bound fields.now bytes.items) }
     ensures fit { IsCacheCurrent cache.old grid.old → IsHonest grid.old → NoneFailed grid.old grid.new →
@@ -87,6 +99,11 @@ fn read_long<S: Store>(
         (index_of fields.now.key) (λ row. fit row fields.now ≡ Some bytes.items)) }
     ensures missing_reached { IsHonest grid.old → IsErrOf result ReadFault.NotEnoughShares →
         OfReached grid.old grid.new (index_of fields.now.key) (λ row. fit row fields.now ≡ None) }
+    ensures seen { AllTell grid.old → IfOk result (λ bytes.
+        IsKeptOrSeen cache.old grid.old grid.new fields.now bytes.items) }
+    ensures seen_missing { AllTell grid.old → IsErrOf result ReadFault.NotEnoughShares →
+        SeesReached grid.old grid.new (index_of fields.now.key) (λ row. fit row fields.now ≡ None) }
+    ensures kept_seen { AllTell grid.old → AreKeptSeen cache.old cache.new grid.old grid.new }
 {
     match begin_long(alloc, grid, cache, fields) {
         Ok(download) => Ok(gathered(alloc, download, fields.size as usize)?),
@@ -123,6 +140,8 @@ pub fn begin<S: Store>(
 ) -> Result<Download, ReadFault>
     ensures leaves { Leaves grid.old grid.new }
     ensures unchanged { IsHonest grid.old → IsUnchanged grid.old grid.new }
+    ensures stand_still { StandStill grid.old grid.new }
+    ensures told { TellOn grid.old grid.new }
     ensures fresh { IsCacheCurrent cache.old grid.old → IsCacheCurrent cache.new grid.new }
     ensures bound { IfOk result (λ download. Bound fields.now download.left) }
     ensures fit { IsCacheCurrent cache.old grid.old → IsHonest grid.old → NoneFailed grid.old grid.new →
@@ -139,6 +158,11 @@ pub fn begin<S: Store>(
         (index_of fields.now.key) (λ row. fit row fields.now ≡ Some download.left)) }
     ensures missing_reached { IsHonest grid.old → IsErrOf result ReadFault.NotEnoughShares →
         OfReached grid.old grid.new (index_of fields.now.key) (λ row. fit row fields.now ≡ None) }
+    ensures seen { AllTell grid.old → IfOk result (λ download.
+        IsKeptOrSeen cache.old grid.old grid.new fields.now download.left) }
+    ensures seen_missing { AllTell grid.old → IsErrOf result ReadFault.NotEnoughShares →
+        SeesReached grid.old grid.new (index_of fields.now.key) (λ row. fit row fields.now ≡ None) }
+    ensures kept_seen { AllTell grid.old → AreKeptSeen cache.old cache.new grid.old grid.new }
 {
     if fields.size > MOST_KEPT {
         return begin_long(alloc, grid, cache, fields);
@@ -168,6 +192,8 @@ fn fetch<S: Store>(
 ) -> Result<RcSlice<u8>, ReadFault>
     ensures leaves { Leaves grid.old grid.new }
     ensures unchanged { IsHonest grid.old → IsUnchanged grid.old grid.new }
+    ensures stand_still { StandStill grid.old grid.new }
+    ensures told { TellOn grid.old grid.new }
     ensures fresh { IsCacheCurrent cache.old grid.old → IsCacheCurrent cache.new grid.new }
     ensures bound { IfOk result (λ bytes. Bound fields.now (rc_slice_items bytes)) }
     ensures fit { IsCacheCurrent cache.old grid.old → IsHonest grid.old → NoneFailed grid.old grid.new →
@@ -181,6 +207,11 @@ fn fetch<S: Store>(
         (index_of fields.now.key) (λ row. fit row fields.now ≡ Some (rc_slice_items bytes))) }
     ensures missing_reached { IsHonest grid.old → IsErrOf result ReadFault.NotEnoughShares →
         OfReached grid.old grid.new (index_of fields.now.key) (λ row. fit row fields.now ≡ None) }
+    ensures seen { AllTell grid.old → IfOk result (λ bytes.
+        IsKeptOrSeen cache.old grid.old grid.new fields.now (rc_slice_items bytes)) }
+    ensures seen_missing { AllTell grid.old → IsErrOf result ReadFault.NotEnoughShares →
+        SeesReached grid.old grid.new (index_of fields.now.key) (λ row. fit row fields.now ≡ None) }
+    ensures kept_seen { AllTell grid.old → AreKeptSeen cache.old cache.new grid.old grid.new }
 {
     match look_up(grid, cache, fields)? {
         Some(bytes) => Ok(bytes),
@@ -194,7 +225,9 @@ fn look_up<S: Store>(
     cache: &mut Cache,
     fields: &ReadFields,
 ) -> Result<Option<RcSlice<u8>>, AllocError>
-    ensures fresh { IsCacheCurrent cache.old grid.now → IsCacheCurrent cache.new grid.now }
+    ensures within { IsWithin cache.old cache.new }
+    ensures kept { IfOk result (λ found. IfSome found (λ bytes. Contains cache.old
+        (fields.now, (raised_at grid.now (index_of fields.now.key), rc_slice_items bytes)))) }
     ensures bound { IfOk result (λ found. IfSome found (λ bytes.
         Bound fields.now (rc_slice_items bytes))) }
     ensures fit { IsCacheCurrent cache.old grid.now → IsHonest grid.now →
@@ -217,19 +250,16 @@ fn read_anew<S: Store>(
 ) -> Result<RcSlice<u8>, ReadFault>
     ensures leaves { Leaves grid.old grid.new }
     ensures unchanged { IsHonest grid.old → IsUnchanged grid.old grid.new }
+    ensures stand_still { StandStill grid.old grid.new }
+    ensures told { TellOn grid.old grid.new }
     ensures fresh { IsCacheCurrent cache.old grid.old → IsCacheCurrent cache.new grid.new }
     ensures bound { IfOk result (λ bytes. Bound fields.now (rc_slice_items bytes)) }
-    ensures fit { IsHonest grid.old → NoneFailed grid.old grid.new →
-        IfOk result (λ bytes. fit (table_of (stood grid.old) (index_of fields.now.key)) fields.now
-        ≡ Some (rc_slice_items bytes)) }
-    ensures missing { IsHonest grid.old → NoneFailed grid.old grid.new →
-        IsErrOf result ReadFault.NotEnoughShares →
-        fit (table_of (stood grid.old) (index_of fields.now.key)) fields.now ≡ None }
-    ensures fit_reached { IsHonest grid.old → IfOk result (λ bytes.
-        OfReached grid.old grid.new
-        (index_of fields.now.key) (λ row. fit row fields.now ≡ Some (rc_slice_items bytes))) }
-    ensures missing_reached { IsHonest grid.old → IsErrOf result ReadFault.NotEnoughShares →
-        OfReached grid.old grid.new (index_of fields.now.key) (λ row. fit row fields.now ≡ None) }
+    ensures seen { AllTell grid.old → IfOk result (λ bytes.
+        SeesReached grid.old grid.new (index_of fields.now.key) (λ row.
+        fit row fields.now ≡ Some (rc_slice_items bytes))) }
+    ensures seen_missing { AllTell grid.old → IsErrOf result ReadFault.NotEnoughShares →
+        SeesReached grid.old grid.new (index_of fields.now.key) (λ row. fit row fields.now ≡ None) }
+    ensures kept_seen { AllTell grid.old → AreKeptSeen cache.old cache.new grid.old grid.new }
 {
     let stamp = grid.stamp(&storage_index(&fields.key));
     let failures = grid.failures();
@@ -268,18 +298,14 @@ fn read_shared<S: Store>(
     ensures leaves { Leaves grid.old grid.new }
     ensures stamps { grid.new.stamps ≡ grid.old.stamps }
     ensures unchanged { IsHonest grid.old → IsUnchanged grid.old grid.new }
+    ensures stand_still { StandStill grid.old grid.new }
+    ensures told { TellOn grid.old grid.new }
     ensures bound { IfOk result (λ bytes. Bound fields.now (rc_slice_items bytes)) }
-    ensures fit { IsHonest grid.old → NoneFailed grid.old grid.new → IfOk result (λ bytes.
-        fit (table_of (stood grid.old) (index_of fields.now.key)) fields.now
-        ≡ Some (rc_slice_items bytes)) }
-    ensures missing { IsHonest grid.old → NoneFailed grid.old grid.new →
-        IsErrOf result ReadFault.NotEnoughShares →
-        fit (table_of (stood grid.old) (index_of fields.now.key)) fields.now ≡ None }
-    ensures fit_reached { IsHonest grid.old → IfOk result (λ bytes.
-        OfReached grid.old grid.new
-        (index_of fields.now.key) (λ row. fit row fields.now ≡ Some (rc_slice_items bytes))) }
-    ensures missing_reached { IsHonest grid.old → IsErrOf result ReadFault.NotEnoughShares →
-        OfReached grid.old grid.new (index_of fields.now.key) (λ row. fit row fields.now ≡ None) }
+    ensures seen { AllTell grid.old → IfOk result (λ bytes.
+        SeesReached grid.old grid.new (index_of fields.now.key) (λ row.
+        fit row fields.now ≡ Some (rc_slice_items bytes))) }
+    ensures seen_missing { AllTell grid.old → IsErrOf result ReadFault.NotEnoughShares →
+        SeesReached grid.old grid.new (index_of fields.now.key) (λ row. fit row fields.now ≡ None) }
 {
     match read_stores(alloc, grid, fields) {
         Ok(bytes) => Ok(RcSlice::from_vec(bytes)?),
@@ -296,17 +322,14 @@ fn read_stores<S: Store>(
     ensures leaves { Leaves grid.old grid.new }
     ensures stamps { grid.new.stamps ≡ grid.old.stamps }
     ensures unchanged { IsHonest grid.old → IsUnchanged grid.old grid.new }
+    ensures stand_still { StandStill grid.old grid.new }
+    ensures told { TellOn grid.old grid.new }
     ensures bound { IfOk result (λ bytes. Bound fields.now bytes.items) }
-    ensures fit { IsHonest grid.old → NoneFailed grid.old grid.new → IfOk result (λ bytes.
-        fit (table_of (stood grid.old) (index_of fields.now.key)) fields.now ≡ Some bytes.items) }
-    ensures missing { IsHonest grid.old → NoneFailed grid.old grid.new →
-        IsErrOf result ReadFault.NotEnoughShares →
-        fit (table_of (stood grid.old) (index_of fields.now.key)) fields.now ≡ None }
-    ensures fit_reached { IsHonest grid.old → IfOk result (λ bytes.
-        OfReached grid.old grid.new
-        (index_of fields.now.key) (λ row. fit row fields.now ≡ Some bytes.items)) }
-    ensures missing_reached { IsHonest grid.old → IsErrOf result ReadFault.NotEnoughShares →
-        OfReached grid.old grid.new (index_of fields.now.key) (λ row. fit row fields.now ≡ None) }
+    ensures seen { AllTell grid.old → IfOk result (λ bytes.
+        SeesReached grid.old grid.new (index_of fields.now.key) (λ row.
+        fit row fields.now ≡ Some bytes.items)) }
+    ensures seen_missing { AllTell grid.old → IsErrOf result ReadFault.NotEnoughShares →
+        SeesReached grid.old grid.new (index_of fields.now.key) (λ row. fit row fields.now ≡ None) }
 {
     match verify(alloc, grid, fields) {
         Ok((_, bytes)) => Ok(apply_keystream(fields.key, bytes)),

@@ -2,12 +2,12 @@
 ghost use Rattle.std.specs.Prelude.{◌≡◌, map, IfOk, IsErrOf, Some, None};
 ghost use Rattle.std.specs.Rc.{rc_slice_items};
 ghost use Rattle.aes_ctr.specs.Crypt.{crypt};
-ghost use Rattle.grid.specs.GridState.{stood, IsHonest, NoneFailed};
+ghost use Rattle.grid.specs.GridState.{IsHonest};
 ghost use Rattle.grid.specs.Leaves.{Leaves, IsUnchanged};
 ghost use Rattle.grid.specs.Found.{found_bytes};
+ghost use Rattle.grid.specs.Views.{AllTell, StandStill, TellOn};
 ghost use Rattle.caps.specs.StorageIndex.{index_of};
-ghost use Rattle.chk_file.specs.Row.{table_of};
-ghost use Rattle.chk_file.specs.Reached.{OfReached};
+ghost use Rattle.chk_file.specs.Amid.{SeesReached};
 ghost use Rattle.chk_file.specs.Gathered.{fit_of};
 ghost use Rattle.chk_file.specs.Numbers.{params_of};
 ghost use Rattle.chk_file.specs.Taken.{AreTaken};
@@ -18,7 +18,6 @@ ghost use Rattle.chk_file.specs.Ahead.{AreChosen, file_params};
 use crate::chosen::chosen;
 use crate::crypttext::crypttext;
 use crate::fault::ReadFault;
-use crate::laws::reached_rows;
 use crate::picked::file_params;
 use crate::readings::Readings;
 use crate::rows::Rows;
@@ -32,7 +31,8 @@ use std::alloc::Global;
 use std::rc::RcSlice;
 
 /// The k good shares of a file that are read of those that the stores have, and the crypttext that they are of. Where
-/// those of the numbers below k are good, no store is asked for the bytes of another.
+/// those of the numbers below k are good, no store is asked for the bytes of another. What is said of the answer is said of
+/// what the call saw, whether the stores are honest or changed by others too.
 pub(crate) fn verify<S: Store>(
     alloc: Global,
     grid: &mut Grid<S>,
@@ -41,26 +41,20 @@ pub(crate) fn verify<S: Store>(
     ensures leaves { Leaves grid.old grid.new }
     ensures stamps { grid.new.stamps ≡ grid.old.stamps }
     ensures unchanged { IsHonest grid.old → IsUnchanged grid.old grid.new }
+    ensures stand_still { StandStill grid.old grid.new }
+    ensures told { TellOn grid.old grid.new }
     ensures taken { IfOk result (λ read.
         AreTaken (params_of fields.now.k fields.now.n fields.now.size) read.0.items) }
     ensures crypttext { IfOk result (λ read. read.1.items
         ≡ crypttext_from (params_of fields.now.k fields.now.n fields.now.size) read.0.items) }
     ensures bound { IfOk result (λ read.
         Bound fields.now (crypt fields.now.key read.1.items)) }
-    ensures fit { IsHonest grid.old → NoneFailed grid.old grid.new → IfOk result (λ read.
-        fit (table_of (stood grid.old) (index_of fields.now.key)) fields.now
-        ≡ Some (crypt fields.now.key read.1.items)) }
-    ensures missing { IsHonest grid.old → NoneFailed grid.old grid.new →
-        IsErrOf result ReadFault.NotEnoughShares →
-        fit (table_of (stood grid.old) (index_of fields.now.key)) fields.now ≡ None }
-    ensures fit_reached { IsHonest grid.old → IfOk result (λ read.
-        OfReached grid.old grid.new (index_of fields.now.key) (λ row.
+    ensures seen { AllTell grid.old → IfOk result (λ read.
+        SeesReached grid.old grid.new (index_of fields.now.key) (λ row.
         fit row fields.now ≡ Some (crypt fields.now.key read.1.items))) }
-    ensures missing_reached { IsHonest grid.old → IsErrOf result ReadFault.NotEnoughShares →
-        OfReached grid.old grid.new (index_of fields.now.key) (λ row.
-        fit row fields.now ≡ None) }
+    ensures seen_missing { AllTell grid.old → IsErrOf result ReadFault.NotEnoughShares →
+        SeesReached grid.old grid.new (index_of fields.now.key) (λ row. fit row fields.now ≡ None) }
 {
-    reached_rows();
     match verify_low(alloc, grid, fields) {
         Ok(read) => Ok(read),
         Err(ReadFault::NotEnoughShares) => verify_all(alloc, grid, fields),
@@ -77,14 +71,16 @@ fn verify_low<S: Store>(
     ensures leaves { Leaves grid.old grid.new }
     ensures stamps { grid.new.stamps ≡ grid.old.stamps }
     ensures unchanged { IsHonest grid.old → IsUnchanged grid.old grid.new }
+    ensures stand_still { StandStill grid.old grid.new }
+    ensures told { TellOn grid.old grid.new }
     ensures taken { IfOk result (λ read.
         AreTaken (params_of fields.now.k fields.now.n fields.now.size) read.0.items) }
     ensures crypttext { IfOk result (λ read. read.1.items
         ≡ crypttext_from (params_of fields.now.k fields.now.n fields.now.size) read.0.items) }
     ensures bound { IfOk result (λ read.
         Bound fields.now (crypt fields.now.key read.1.items)) }
-    ensures fit_reached { IsHonest grid.old → IfOk result (λ read.
-        OfReached grid.old grid.new (index_of fields.now.key) (λ row.
+    ensures seen { AllTell grid.old → IfOk result (λ read.
+        SeesReached grid.old grid.new (index_of fields.now.key) (λ row.
         fit row fields.now ≡ Some (crypt fields.now.key read.1.items))) }
 {
     found_laws();
@@ -106,24 +102,19 @@ fn verify_all<S: Store>(
     ensures leaves { Leaves grid.old grid.new }
     ensures stamps { grid.new.stamps ≡ grid.old.stamps }
     ensures unchanged { IsHonest grid.old → IsUnchanged grid.old grid.new }
+    ensures stand_still { StandStill grid.old grid.new }
+    ensures told { TellOn grid.old grid.new }
     ensures taken { IfOk result (λ read.
         AreTaken (params_of fields.now.k fields.now.n fields.now.size) read.0.items) }
     ensures crypttext { IfOk result (λ read. read.1.items
         ≡ crypttext_from (params_of fields.now.k fields.now.n fields.now.size) read.0.items) }
     ensures bound { IfOk result (λ read.
         Bound fields.now (crypt fields.now.key read.1.items)) }
-    ensures fit { IsHonest grid.old → NoneFailed grid.old grid.new → IfOk result (λ read.
-        fit (table_of (stood grid.old) (index_of fields.now.key)) fields.now
-        ≡ Some (crypt fields.now.key read.1.items)) }
-    ensures missing { IsHonest grid.old → NoneFailed grid.old grid.new →
-        IsErrOf result ReadFault.NotEnoughShares →
-        fit (table_of (stood grid.old) (index_of fields.now.key)) fields.now ≡ None }
-    ensures fit_reached { IsHonest grid.old → IfOk result (λ read.
-        OfReached grid.old grid.new (index_of fields.now.key) (λ row.
+    ensures seen { AllTell grid.old → IfOk result (λ read.
+        SeesReached grid.old grid.new (index_of fields.now.key) (λ row.
         fit row fields.now ≡ Some (crypt fields.now.key read.1.items))) }
-    ensures missing_reached { IsHonest grid.old → IsErrOf result ReadFault.NotEnoughShares →
-        OfReached grid.old grid.new (index_of fields.now.key) (λ row.
-        fit row fields.now ≡ None) }
+    ensures seen_missing { AllTell grid.old → IsErrOf result ReadFault.NotEnoughShares →
+        SeesReached grid.old grid.new (index_of fields.now.key) (λ row. fit row fields.now ≡ None) }
 {
     found_laws();
     // There are at most 256 servers: a row has no more.

@@ -1,10 +1,7 @@
 use Rattle.std.proofs.Common.{◌≡◌, ◌⊎◌, inl, inr, ◌<◌, ◌≤◌, ℕ, List, Option, None, ◌∙◌, arith}
+use Rattle.grid.specs.GridState.{stood}
+use Rattle.chk_file.proofs.Amid.{all_reached}
 use Rattle.chk_file.proofs.laws.reached_rows.Goals as goal
-
--- where it didn't fail it stands
-not_failed : (o stands : Option (List ℕ)) (before after : ℕ) → after ≡ before → (o ≡ stands) ⊎ ((before < after) × (o ≡ None)) → o ≡ stands
-not_failed o stands before after calm (inl same) = same
-not_failed o stands before after calm (inr (failed, none)) = absurd (omega arith)
 
 -- where it failed in between it failed in all that time
 failed_too : (o stands stood : Option (List ℕ)) (first before after last : ℕ) → stands ≡ stood → first ≤ before → after ≤ last
@@ -14,9 +11,7 @@ failed_too o stands stood first before after last same low high (inr (failed, no
 
 pub returns : goal.returns
 returns c = record {
-  all = λ old new index row calm reached.
-      let point : (server number : ℕ) → row server number ≡ _ = λ server number. not_failed (row server number) _ _ _ (calm server) (reached.each server number) in
-      λ i server number. point server number i;
+  all = λ old new index row calm reached. all_reached (stood old) old new index row calm reached;
   together = λ first old new last index row same low high reached. record {
     each = λ server number. failed_too (row server number) _ _ _ _ _ _ (λ i. same i server number) (low server) (high server) (reached.each server number);
   };

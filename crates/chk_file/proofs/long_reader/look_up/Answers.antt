@@ -1,4 +1,4 @@
-use Rattle.std.proofs.Common.{◌≡◌, List, ℕ, Some, sym, ap, ◌∙◌, Contains}
+use Rattle.std.proofs.Common.{◌≡◌, List, ℕ, Some, sym, ap, subst, ◌∙◌, Contains}
 use Rattle.grid.specs.Stamps.{stamp_of}
 use Rattle.grid.specs.GridState.{stood, raised_at}
 use Rattle.caps.specs.Fields.{ReadValue}
@@ -6,11 +6,18 @@ use Rattle.caps.specs.StorageIndex.{index_of}
 use Rattle.chk_file.specs.Row.{table_of}
 use Rattle.chk_file.specs.Fit.{fit}
 use Rattle.chk_file.specs.Downloads.{DownloadValue}
-use Rattle.chk_file.proofs.Freshness.{fresh_within, found_fits, found_all}
+use Rattle.chk_file.proofs.Freshness.{stamp_tells, found_fits, found_all}
 use Rattle.chk_file.proofs.long_reader.look_up.Goals as goal
 
-pub returns-in-Some-clause-fresh : goal.returns-in-Some-clause-fresh
-returns-in-Some-clause-fresh g c = fresh_within _ _ c.args.grid.now c.held_at.ensures.within
+pub returns-in-Some-clause-kept : goal.returns-in-Some-clause-kept
+returns-in-Some-clause-kept g c =
+    let f : ReadValue = c.args.fields.now in
+    let same : c.storage_index.result ≡ index_of f.key = c.storage_index.ensures ∙ ap (λ (v : ReadValue). index_of v.key) c.fields.view_is in
+    let is : Some c.in-Some.stamp ≡ stamp_of (raised_at c.args.grid.now (index_of f.key)) = sym c.in-Some.is ∙ c.stamp.ensures ∙ ap (λ si. stamp_of (raised_at c.args.grid.now si)) same in
+    let told = stamp_tells (raised_at c.args.grid.now (index_of f.key)) c.in-Some.stamp is in
+    let P : List ℕ → Type 0 = λ bytes. Contains c.args.cache.now (f, (c.in-Some.stamp, bytes)) in
+    let Q : List ℕ → Type 0 = λ bytes. Contains c.args.cache.now (f, (raised_at c.args.grid.now (index_of f.key), bytes)) in
+    found_all (λ (shares : DownloadValue). shares.left) P Q c.held_at.result (λ bytes there. subst (λ (n : ℕ). Contains c.args.cache.now (f, (n, bytes))) (sym told.0) there) c.held_at.ensures.there
 
 pub returns-in-Some-clause-fit : goal.returns-in-Some-clause-fit
 returns-in-Some-clause-fit g c fresh all =

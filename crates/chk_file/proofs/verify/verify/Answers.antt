@@ -1,26 +1,13 @@
-use Rattle.std.proofs.Common.{◌≡◌, List, None, Some, IfOk, subst}
+use Rattle.std.proofs.Common.{◌≡◌, None, Some}
 use Rattle.aes_ctr.specs.Crypt.{crypt}
-use Rattle.share_store.specs.Shares.{Shares}
-use Rattle.grid.specs.GridState.{stood}
-use Rattle.grid.specs.Standing.{standing}
-use Rattle.grid.proofs.Turns.{leaves_both, unchanged_both, calm_second}
+use Rattle.grid.proofs.Turns.{leaves_both, unchanged_both}
+use Rattle.grid.proofs.Views.{tell_on_both, still_both}
 use Rattle.caps.specs.StorageIndex.{index_of}
-use Rattle.chk_file.specs.Row.{ShareTable, table_of}
 use Rattle.chk_file.specs.Fit.{fit}
-use Rattle.chk_file.proofs.Calls.{both_reached, found_in_both}
+use Rattle.chk_file.proofs.Amid.{seen_second, found_second}
 use Rattle.chk_file.proofs.verify.verify.Goals as goal
 
--- the first call found it
-
-pub returns-in-Ok-clause-fit : goal.returns-in-Ok-clause-fit
-returns-in-Ok-clause-fit g c all calm =
-    let f = c.args.fields.now in
-    let low = c.in-Ok.ensures.fit_reached all in
-    let is : low.row ≡ table_of (stood c.args.grid.now) (index_of f.key) =
-    c.reached_rows.ensures.all c.args.grid.now c.verify_low.new.grid (index_of f.key) low.row calm low.reached in
-    subst (λ (row : ShareTable). fit row f ≡ Some (crypt f.key c.in-Ok.read.1.items)) is low.says
-
--- the second was made
+-- the second call was made
 
 pub returns-in-Err-NotEnoughShares-clause-leaves : goal.returns-in-Err-NotEnoughShares-clause-leaves
 returns-in-Err-NotEnoughShares-clause-leaves g c = leaves_both c.args.grid.now c.verify_low.new.grid c.verify_all.new.grid c.verify_low.ensures.leaves c.verify_all.ensures.leaves
@@ -30,33 +17,22 @@ returns-in-Err-NotEnoughShares-clause-unchanged g c all =
     let low = c.verify_low.ensures in
     unchanged_both c.args.grid.now c.verify_low.new.grid c.verify_all.new.grid (low.unchanged all) (c.verify_all.ensures.unchanged (low.leaves.honest all))
 
-pub returns-in-Err-NotEnoughShares-clause-fit : goal.returns-in-Err-NotEnoughShares-clause-fit
-returns-in-Err-NotEnoughShares-clause-fit g c all calm =
-    let f = c.args.fields.now in
-    let low = c.verify_low.ensures in
-    let second = c.verify_all.ensures in
-    let still = calm_second c.args.grid.now c.verify_low.new.grid c.verify_all.new.grid low.leaves second.leaves calm in
-    subst (λ (maps : List Shares). IfOk c.verify_all.result (λ read. fit (table_of (standing maps) (index_of f.key)) f ≡ Some (crypt f.key read.1.items)))
-    (low.unchanged all).maps (second.fit (low.leaves.honest all) still)
+pub returns-in-Err-NotEnoughShares-clause-told : goal.returns-in-Err-NotEnoughShares-clause-told
+returns-in-Err-NotEnoughShares-clause-told g c = tell_on_both c.args.grid.now c.verify_low.new.grid c.verify_all.new.grid c.verify_low.ensures.told c.verify_all.ensures.told
 
-pub returns-in-Err-NotEnoughShares-clause-missing : goal.returns-in-Err-NotEnoughShares-clause-missing
-returns-in-Err-NotEnoughShares-clause-missing g c all calm none =
-    let f = c.args.fields.now in
-    let low = c.verify_low.ensures in
-    let second = c.verify_all.ensures in
-    let still = calm_second c.args.grid.now c.verify_low.new.grid c.verify_all.new.grid low.leaves second.leaves calm in
-    subst (λ (maps : List Shares). fit (table_of (standing maps) (index_of f.key)) f ≡ None) (low.unchanged all).maps (second.missing (low.leaves.honest all) still none)
+pub returns-in-Err-NotEnoughShares-clause-stand_still : goal.returns-in-Err-NotEnoughShares-clause-stand_still
+returns-in-Err-NotEnoughShares-clause-stand_still g c = still_both c.args.grid.now c.verify_low.new.grid c.verify_all.new.grid c.verify_low.ensures.stand_still c.verify_all.ensures.stand_still
 
-pub returns-in-Err-NotEnoughShares-clause-fit_reached : goal.returns-in-Err-NotEnoughShares-clause-fit_reached
-returns-in-Err-NotEnoughShares-clause-fit_reached g c all =
+pub returns-in-Err-NotEnoughShares-clause-seen : goal.returns-in-Err-NotEnoughShares-clause-seen
+returns-in-Err-NotEnoughShares-clause-seen g c all =
     let f = c.args.fields.now in
     let low = c.verify_low.ensures in
-    found_in_both c.reached_rows.ensures c.args.grid.now c.verify_low.new.grid c.verify_all.new.grid (index_of f.key) low.leaves (low.unchanged all)
-    (λ read row. fit row f ≡ Some (crypt f.key read.1.items)) c.verify_all.result (c.verify_all.ensures.fit_reached (low.leaves.honest all))
+    found_second c.args.grid.now c.verify_low.new.grid c.verify_all.new.grid (index_of f.key) (λ read row. fit row f ≡ Some (crypt f.key read.1.items)) c.verify_all.result
+    low.leaves low.told low.stand_still c.verify_all.ensures.told (c.verify_all.ensures.seen (low.told.all all))
 
-pub returns-in-Err-NotEnoughShares-clause-missing_reached : goal.returns-in-Err-NotEnoughShares-clause-missing_reached
-returns-in-Err-NotEnoughShares-clause-missing_reached g c all none =
+pub returns-in-Err-NotEnoughShares-clause-seen_missing : goal.returns-in-Err-NotEnoughShares-clause-seen_missing
+returns-in-Err-NotEnoughShares-clause-seen_missing g c all none =
     let f = c.args.fields.now in
     let low = c.verify_low.ensures in
-    both_reached c.reached_rows.ensures c.args.grid.now c.verify_low.new.grid c.verify_all.new.grid (index_of f.key) low.leaves (low.unchanged all)
-    (λ row. fit row f ≡ None) (c.verify_all.ensures.missing_reached (low.leaves.honest all) none)
+    seen_second c.args.grid.now c.verify_low.new.grid c.verify_all.new.grid (index_of f.key) (λ row. fit row f ≡ None)
+    low.leaves low.told low.stand_still c.verify_all.ensures.told (c.verify_all.ensures.seen_missing (low.told.all all) none)

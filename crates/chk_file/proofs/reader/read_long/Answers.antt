@@ -1,0 +1,7 @@
+use Rattle.std.proofs.Common.{List, ℕ, sym, subst}
+use Rattle.chk_file.specs.Amid.{IsKeptOrSeen}
+use Rattle.chk_file.proofs.reader.read_long.Goals as goal
+
+pub returns-in_ok-gathered-in-Ok-clause-seen : goal.returns-in_ok-gathered-in-Ok-clause-seen
+returns-in_ok-gathered-in-Ok-clause-seen g c all =
+    subst (λ (bytes : List ℕ). IsKeptOrSeen c.args.cache.now c.args.grid.now c.begin_long.new.grid c.args.fields.now bytes) (sym c.in_ok-gathered-in-Ok.ensures) (c.in-Ok.ensures.seen all)
