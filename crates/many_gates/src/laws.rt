@@ -3,9 +3,10 @@ ghost use Rattle.std.specs.Prelude.{◌≡◌, ◌++◌, ◌∷◌, ℕ, List, [
 ghost use Rattle.std.specs.List.{AllByRecursion};
 ghost use Rattle.gate_core.specs.declared.stage.Stage.TheVariants.{Open as OpenStage};
 ghost use Rattle.http_edge.specs.declared.item.Item.{Item};
-ghost use Rattle.share_store.specs.Shares.{ShareKey};
-ghost use Rattle.grid.specs.Standing.{Standing};
-ghost use Rattle.grid.specs.GridState.{NoneFailed};
+ghost use Rattle.share_store.specs.Shares.{Shares, ShareKey};
+ghost use Rattle.grid.specs.Standing.{Standing, standing};
+ghost use Rattle.grid.specs.GridState.{GridState, NoneFailed};
+ghost use Rattle.grid.specs.Views.{AllTell, AreViews};
 ghost use Rattle.chk_file.specs.Upload.{Upload};
 ghost use Rattle.chk_file.specs.Marks.{shown};
 ghost use Rattle.chk_file.specs.World.{World};
@@ -24,7 +25,16 @@ ghost use Rattle.gate_core.specs.Came.{Opening, Came, IsRoomy};
 ghost use Rattle.restarts.specs.Mended.{AreCutOff};
 ghost use Rattle.many_gates.specs.Changes.{Change, item_of_change, items_of_changes, all_changed};
 ghost use Rattle.many_gates.specs.Seen.{IsSeen, SeenOf, IsPut, AllStandIn};
+ghost use Rattle.many_gates.specs.Looks.{AreChangedBy};
 ghost use Rattle.many_gates.specs.Parts.{IsOneOfThem, GoesOnTogether};
+
+/// What a call sees of stores that gateways change is seen so, each place at a moment of its own.
+pub fn calls_see_what_changes_leave()
+    ensures { (settings : GatewaySettings) (changes : List Change) (before : Standing)
+        (old new : GridState) (views : List Shares) → AllTell old →
+        AreViews old.stores new.stores views → AreChangedBy settings changes before old new →
+        IsSeen settings changes before (standing views) }
+{}
 
 /// What is seen while others change a grid, each place at a moment of its own, is what stands where each of the items
 /// under way was cut off, done, or not begun.
