@@ -53,6 +53,10 @@ module _ {X : Type 0} (bytes : X → List ℕ) (lent : List X) (u : Upload) (is 
   pub few_shares : u.n ≤ 256 → length lent ≤ 256
   few_shares few = let a = length-map lent bytes in let b = ap length is in let d = length-map-range_with_len (share (params u) (crypttext_of u)) 0 u.n in omega arith
 
+  -- each number is that of one of them
+  pub there_too : (i : ℕ) → i < u.n → i < length lent
+  there_too i below = let a = length-map lent bytes in let b = ap length is in let d = length-map-range_with_len (share_of u) 0 u.n in omega arith
+
   -- the share at a place
   pub share_at : (i : ℕ) (x : X) → slice_get lent i ≡ Some x → bytes x ≡ share_of u i
   share_at i x e =
