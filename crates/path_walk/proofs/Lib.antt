@@ -1,3 +1,4 @@
 pub mod WalkLemmas
 pub mod WayLemmas
 pub mod SoughtSteps
+pub mod Amid

@@ -1,5 +1,5 @@
 -- Steps that were looked up before a walk.
-use Rattle.std.proofs.Common.{◌≡◌, ◌≢◌, inr, ℕ, List, Result, Ok, Err, IfOk, IfErr, sym, ap, ◌∙◌}
+use Rattle.std.proofs.Common.{◌≡◌, ◌≢◌, inl, inr, ℕ, List, Result, Ok, Err, IfOk, IfErr, sym, ap, subst, ◌∙◌}
 use Rattle.grid.specs.GridState.{GridState, stood, IsHonest}
 use Rattle.caps.specs.Fields.{ReadValue}
 use Rattle.caps.specs.declared.cap.Cap.{Cap}
@@ -13,7 +13,9 @@ use Rattle.path_walk.specs.Walk.{then_on, or_walk_fault, child_in, child_below}
 use Rattle.path_walk.specs.Way.{IsChild, IsStop}
 use Rattle.path_walk.specs.declared.fault.WalkFault.{WalkFault}
 use Rattle.path_walk.specs.declared.fault.WalkFault.TheVariants.{NotEnoughShares, NoMemory}
+use Rattle.path_walk.specs.Amid.{IsGivenAmid, IsStepBy}
 use Rattle.path_walk.proofs.WalkLemmas.{child_is_sought}
+use Rattle.path_walk.proofs.Amid.{step_read}
 
 module _ (cache : List CacheEntry) (grid : GridState) (f : ReadValue) (name : List ℕ) (sought : Sought) (known : IsSought cache grid f name sought) where
   step : child_in name known.bytes ≡ child_of_sought name sought
@@ -40,3 +42,10 @@ module _ (cache : List CacheEntry) (grid : GridState) (f : ReadValue) (name : Li
       → IfErr r (λ fault. fault ≢ NoMemory → child_below (look_in (stood grid)).gives (DirChk f) name ≡ Err fault)
   known_refused fresh all (Ok child) is = tt
   known_refused fresh all (Err fault) is = λ memory. below fresh all ∙ is memory
+
+  pub known_seen : (new : GridState) (r : Result Cap WalkFault) → IfOk r (λ child. child_of_sought name sought ≡ Ok child)
+      → IfErr r (λ fault. fault ≢ NoMemory → child_of_sought name sought ≡ Err fault) → r ≢ Err NoMemory → IsStepBy (IsGivenAmid cache grid new) (DirChk f) name r
+  known_seen new r found refused =
+      step_read cache grid new f name r known.bytes (inl known.kept)
+      (subst (λ (x : Result Cap WalkFault). IfOk r (λ child. x ≡ Ok child)) (sym step) found)
+      (subst (λ (x : Result Cap WalkFault). IfErr r (λ fault. fault ≢ NoMemory → x ≡ Err fault)) (sym step) refused)

@@ -1,6 +1,8 @@
 //! Walks that are prepared: names are looked up before the walk, a step at a time.
 ghost use Rattle.grid.specs.GridState.{IsHonest};
 ghost use Rattle.grid.specs.Leaves.{Leaves, IsUnchanged};
+ghost use Rattle.grid.specs.Views.{AllTell, StandStill, TellOn};
+ghost use Rattle.chk_file.specs.Amid.{AreKeptSeen};
 ghost use Rattle.chk_file.specs.Cached.{IsCacheCurrent};
 
 use caps::{Cap, ReadFields, copy_cap};
@@ -56,7 +58,10 @@ pub fn walk_ahead<S: Store>(
 ) -> Ahead
     ensures leaves { Leaves grid.old grid.new }
     ensures unchanged { IsHonest grid.old → IsUnchanged grid.old grid.new }
+    ensures stand_still { StandStill grid.old grid.new }
+    ensures told { TellOn grid.old grid.new }
     ensures fresh { IsCacheCurrent cache.old grid.old → IsCacheCurrent cache.new grid.new }
+    ensures kept_seen { AllTell grid.old → AreKeptSeen cache.old cache.new grid.old grid.new }
 {
     let Ok(mut here) = copy_cap(alloc, cap) else {
         return Ahead::Over;
@@ -87,7 +92,10 @@ fn next_ahead<S: Store>(
 ) -> Next
     ensures leaves { Leaves grid.old grid.new }
     ensures unchanged { IsHonest grid.old → IsUnchanged grid.old grid.new }
+    ensures stand_still { StandStill grid.old grid.new }
+    ensures told { TellOn grid.old grid.new }
     ensures fresh { IsCacheCurrent cache.old grid.old → IsCacheCurrent cache.new grid.new }
+    ensures kept_seen { AllTell grid.old → AreKeptSeen cache.old cache.new grid.old grid.new }
 {
     match cap {
         Cap::DirChk(fields) => match known_child(alloc, grid, cache, fields, name) {
@@ -137,7 +145,10 @@ fn look<S: Store>(
 ) -> Next
     ensures leaves { Leaves grid.old grid.new }
     ensures unchanged { IsHonest grid.old → IsUnchanged grid.old grid.new }
+    ensures stand_still { StandStill grid.old grid.new }
+    ensures told { TellOn grid.old grid.new }
     ensures fresh { IsCacheCurrent cache.old grid.old → IsCacheCurrent cache.new grid.new }
+    ensures kept_seen { AllTell grid.old → AreKeptSeen cache.old cache.new grid.old grid.new }
 {
     if fields.size.min(MOST_AT_ONCE) > left {
         return Next::Waits;

@@ -1,5 +1,5 @@
 //! What holds of walks.
-ghost use Rattle.std.specs.Prelude.{◌≡◌, ℕ, List, Ok, Err, IfSome, Contains};
+ghost use Rattle.std.specs.Prelude.{◌≡◌, ◌↔◌, ℕ, List, Result, Ok, Err, IfSome, Contains};
 ghost use Rattle.caps.specs.declared.cap.Cap.{Cap};
 ghost use Rattle.caps.specs.Fields.{ReadValue};
 ghost use Rattle.chk_file.specs.Bound.{Bound};
@@ -7,6 +7,7 @@ ghost use Rattle.path_walk.specs.Walk.{FileLookup, walked, met};
 ghost use Rattle.path_walk.specs.Way.{NamesLeadTo, WalkStops};
 ghost use Rattle.path_walk.specs.declared.fault.WalkFault.{WalkFault};
 ghost use Rattle.path_walk.specs.Agree.{GiveSameOn};
+ghost use Rattle.path_walk.specs.Amid.{WalksBy};
 
 /// Where two looks agree on the caps that a walk meets, it ends alike over both, and meets the same caps.
 pub fn walks_agree_where_looks_do()
@@ -34,4 +35,10 @@ pub fn bound_looks_lead()
     ensures stops { (gives : FileLookup) (cap : Cap) (names : List (List ℕ)) (fault : WalkFault) →
         ((f : ReadValue) → IfSome (gives f) (Bound f)) → walked gives cap names ≡ Err fault →
         WalkStops cap names fault }
+{}
+
+/// A walk of which each step has a look of its own that gives what one look gives is the walk by that look.
+pub fn like_looks_walk_as_one()
+    ensures { (gives : FileLookup) (cap : Cap) (names : List (List ℕ)) (result : Result Cap WalkFault) →
+        WalksBy (λ f found. found ≡ gives f) cap names result ↔ (result ≡ walked gives cap names) }
 {}
