@@ -14,7 +14,8 @@ use Rattle.grid.specs.Leaves.{Leaves, IsUnchanged}
 use Rattle.grid.specs.NewBytes.{HasRoom}
 use Rattle.grid.specs.declared.fault.GridFault.TheVariants.{Full, Down}
 use Rattle.grid.specs.Changed.{ArePut, PutStopsAt}
-use Rattle.chk_file.specs.AllStand.{AllStand}
+use Rattle.grid.specs.Views.{AllTell}
+use Rattle.chk_file.specs.AllStand.{AllStand, AllStoodAmid}
 use Rattle.chk_file.specs.Look.{Look}
 use Rattle.chk_file.specs.Marks.{shown}
 use Rattle.chk_file.specs.Upload.{Upload, index, shares_of, upload_cap}
@@ -29,7 +30,7 @@ use Rattle.dir_codec.specs.DirectoryText.{directory_text}
 use Rattle.web_request.specs.declared.request.Request.TheVariants.{Mkdir}
 use Rattle.web_ops.specs.Encoding.{Encoding, upload_of}
 use Rattle.web_ops.specs.Uploads.{if_long, as_directory, made_upload, upload_in}
-use Rattle.web_ops.specs.Replies.{cap_reply, bad_children, store_full, store_down}
+use Rattle.web_ops.specs.Replies.{cap_reply, store_full, store_down}
 use Rattle.web_ops.specs.Answers.{made_reply}
 use Rattle.web_ops.specs.Replied.{IsPutReply, IsMade}
 use Rattle.web_ops.specs.Changes.{TellsOfUpload, IsUploadBegun, IsBegunIn, TellsOf}
@@ -37,7 +38,6 @@ use Rattle.web_ops.specs.Calls.{IsFound, IsCarriedOut, IsRequestCall, IsPerforme
 use Rattle.grid.proofs.Histories.{tells_none}
 use Rattle.grid.proofs.Standing.{placed_none}
 use Rattle.grid.proofs.Turns.{leaves_none, unchanged_none}
-use Rattle.web_ops.proofs.Found.{unasked}
 
 -- ---- a call that stores nothing
 
@@ -87,9 +87,10 @@ cap_is_no_fault cap x is other = let ok : x.status ≡ status.Ok = ap (λ r. r.s
 fault_is_no_cap : (x : Reply) → x.status ≡ status.ServiceUnavailable → x.status ≡ status.Ok → ⊥
 fault_is_no_cap x is ok = cc
 
-cap_tells : (u : Upload) (cap : Cap) (x : Reply) (old new : GridState) → x ≡ cap_reply cap → (IsHonest old → AllStand u old new) → TellsOf u x old new
-cap_tells u cap x old new is all = record {
+cap_tells : (u : Upload) (cap : Cap) (x : Reply) (old new : GridState) → x ≡ cap_reply cap → (IsHonest old → AllStand u old new) → (AllTell old → AllStoodAmid u old new) → TellsOf u x old new
+cap_tells u cap x old new is all seen = record {
   all_stand = λ honest ok. all honest;
+  all_stood = λ tell ok. seen tell;
   full = λ e. absurd (cap_is_no_fault cap x is (ap (λ r. r.status) e));
   down = λ e. absurd (cap_is_no_fault cap x is (ap (λ r. r.status) e));
 }
@@ -97,6 +98,7 @@ cap_tells u cap x old new is all = record {
 pub full_tells : (u : Upload) (server : ℕ) (x : Reply) (old new : GridState) → x ≡ store_full → PutStopsAt (index u) (shares_of u) old new (Full server) → TellsOf u x old new
 full_tells u server x old new is stops = record {
   all_stand = λ honest ok. absurd (fault_is_no_cap x (ap (λ r. r.status) is) ok);
+  all_stood = λ tell ok. absurd (fault_is_no_cap x (ap (λ r. r.status) is) ok);
   full = λ e. (server, stops);
   down = λ e. absurd (full_is_not_down (sym is ∙ e));
 }
@@ -105,6 +107,7 @@ pub down_tells : (u : Upload) (server : ℕ) (x : Reply) (old new : GridState) �
     → failures_at old server < failures_at new server → TellsOf u x old new
 down_tells u server x old new is stops failed = record {
   all_stand = λ honest ok. absurd (fault_is_no_cap x (ap (λ r. r.status) is) ok);
+  all_stood = λ tell ok. absurd (fault_is_no_cap x (ap (λ r. r.status) is) ok);
   full = λ e. absurd (full_is_not_down (sym e ∙ is));
   down = λ e. (server, record { stops = stops; failed = failed });
 }
@@ -114,9 +117,10 @@ module _ (u : Upload) (cap : Cap) (r : Result Reply AllocError) (old new : GridS
       → (IsHonest old → TellsOfUpload u old new)
       → (55 < length u.bytes → IsHonest old → ArePut (index u) (shares_of u) old new)
       → (55 < length u.bytes → IsHonest old → AllStand u old new)
+      → (55 < length u.bytes → AllTell old → AllStoodAmid u old new)
       → (IsHonest old → (w : World) → stood old ≡ shown w.marks → stood new ≡ shown (after_upload (length old.stores) u w).marks)
       → IsCarriedOut ⊤ (cond b (Some u) None) (IsPutReply cap) (λ look. cap_reply cap) r old new
-  stored_by true many few is tells put all stand = record {
+  stored_by true many few is tells put all seen stand = record {
     leaves = leaves;
     fits = IfOk-weaker r _ _ (λ x e. inl e) is;
     bytes = IfOk-weaker r _ _ (λ x e. bytes) is;
@@ -126,12 +130,12 @@ module _ (u : Upload) (cap : Cap) (r : Result Reply AllocError) (old new : GridS
       put = subst (λ s. ArePut (index u) s old new) (sym (take_all (length (shares_of u)) (shares_of u) (no_more (length (shares_of u))))) (put (many refl) honest);
       history = tells honest;
     };
-    tells = IfOk-weaker r _ _ (λ x e. cap_tells u cap x old new e (all (many refl))) is;
+    tells = IfOk-weaker r _ _ (λ x e. cap_tells u cap x old new e (all (many refl)) (seen (many refl))) is;
     written = λ fresh honest room calm. is;
     stored = λ honest room calm. IfOk-weaker r _ _ (λ x e. put (many refl) honest) is;
     world = λ honest room calm. IfOk-weaker r _ _ (λ x e. stand honest) is;
   }
-  stored_by false many few is tells put all stand = record {
+  stored_by false many few is tells put all seen stand = record {
     leaves = leaves;
     fits = IfOk-weaker r _ _ (λ x e. inl e) is;
     bytes = IfOk-weaker r _ _ (λ x e. tt) is;
@@ -147,9 +151,10 @@ module _ (u : Upload) (cap : Cap) (r : Result Reply AllocError) (old new : GridS
       → (IsHonest old → TellsOfUpload u old new)
       → (55 < length u.bytes → IsHonest old → ArePut (index u) (shares_of u) old new)
       → (55 < length u.bytes → IsHonest old → AllStand u old new)
+      → (55 < length u.bytes → AllTell old → AllStoodAmid u old new)
       → (IsHonest old → (w : World) → stood old ≡ shown w.marks → stood new ≡ shown (after_upload (length old.stores) u w).marks)
       → IsCarriedOut ⊤ (if_long u) (IsPutReply cap) (λ look. cap_reply cap) r old new
-  stored is tells put all stand = stored_by (nat_lt 55 (length u.bytes)) (long (length u.bytes)) (short (length u.bytes)) is tells put all stand
+  stored is tells put all seen stand = stored_by (nat_lt 55 (length u.bytes)) (long (length u.bytes)) (short (length u.bytes)) is tells put all seen stand
 
   stopped_by : (b : Bool) → (b ≡ true → 55 < length u.bytes) → (b ≡ false → length u.bytes ≤ 55) → IfOk r (IsPutReply cap)
       → IfOk r (λ x. TellsOf u x old new)

@@ -1,4 +1,6 @@
 pub mod Looks
 pub mod Found
+pub mod Amid
+pub mod OneLook
 pub mod CarriedOut
 pub mod Parts

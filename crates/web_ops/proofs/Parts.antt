@@ -1,7 +1,7 @@
 -- Parts of files: what is given of them, segment by segment, and what is left.
 use Rattle.std.proofs.Common.{◌≡◌, ◌⊎◌, inl, inr, ◌≤◌, ◌<◌, ℕ, ◌+◌, ◌-◌, List, ◌++◌, length, take, drop, min, sym, ap, ◌∙◌, arith, length-drop, length-take, length-append}
 use Rattle.std.proofs.lemmas.List.{take_all, take-append-drop, append-nil, take-append-le, drop-append-le, take-take, drop-drop, drop-take}
-use Rattle.std.proofs.Math.Seq.{drop-append-add, take-append-add}
+use Rattle.std.proofs.Math.Seq.{take-append-add}
 
 -- ---- a segment, and what is left behind it
 

@@ -1,9 +1,12 @@
 -- What a call answers and leaves, in one record; for private clauses.
-use Rattle.std.specs.Prelude.{◌≡◌, ⊤, Option, Result, IfOk, OnOk, IfSome}
+use Rattle.std.specs.Prelude.{◌≡◌, ⊤, List, Option, Result, IfOk, OnOk, IfSome}
 use Rattle.std.specs.declared.alloc.AllocError.{AllocError}
 use Rattle.erasure.specs.Code.{AreBytes}
 use Rattle.grid.specs.GridState.{GridState, stood, IsHonest, NoneFailed}
 use Rattle.grid.specs.Leaves.{Leaves, IsUnchanged}
+use Rattle.grid.specs.Views.{AllTell, TellOn, StandStill}
+use Rattle.chk_file.specs.Cached.{CacheEntry}
+use Rattle.chk_file.specs.Amid.{AreKeptSeen}
 use Rattle.chk_file.specs.Look.{Look, look_in}
 use Rattle.chk_file.specs.Upload.{Upload}
 use Rattle.web_request.specs.declared.request.Request.{Request}
@@ -21,6 +24,14 @@ pub record IsFound (Fresh : Type 0) (Fits : Reply → Type 0) (says : Look → R
   pub unchanged : IsHonest old → IsUnchanged old new
   pub fits : IfOk result Fits
   pub written : Fresh → IsHonest old → NoneFailed old new → IfOk result (λ reply. reply ≡ says (look_in (stood old)))
+
+-- The same call over stores that are honest, or changed by others too: what it answers follows from what it saw, and so does what it adds to the
+-- cache; what is stored in the honest stores stays, and no store forgets what it told.
+pub record IsFoundAmid (Says : Reply → Type 0) (result : Result Reply AllocError) (cache kept : List CacheEntry) (old new : GridState) : Type 0 where
+  pub told : TellOn old new
+  pub stand_still : StandStill old new
+  pub kept_seen : AllTell old → AreKeptSeen cache kept old new
+  pub seen : AllTell old → IfOk result Says
 
 -- A call that stores an upload, or none.
 pub record IsCarriedOut (Fresh : Type 0) (upload : Option Upload) (Fits : Reply → Type 0) (says : Look → Reply) (result : Result Reply AllocError) (old new : GridState) : Type 0 where

@@ -7,7 +7,8 @@ use Rattle.grid.specs.NewBytes.{HasRoom}
 use Rattle.grid.specs.Changed.{ArePut, PutStopsAt}
 use Rattle.grid.specs.Histories.{TellsOfChange}
 use Rattle.grid.specs.Placement.{placed}
-use Rattle.chk_file.specs.AllStand.{AllStand}
+use Rattle.grid.specs.Views.{AllTell}
+use Rattle.chk_file.specs.AllStand.{AllStand, AllStoodAmid}
 use Rattle.chk_file.specs.Upload.{Upload, index, shares_of}
 use Rattle.chk_file.specs.Marks.{shown}
 use Rattle.chk_file.specs.World.{World}
@@ -52,9 +53,11 @@ pub record IsDownAt (u : Upload) (old new : GridState) (server : ℕ) : Type 0 w
   pub failed : failures_at old server < failures_at new server
 
 -- What the reply to an upload tells of the stores. 200: over honest ones, however full or failing, a share of each number
--- stands at its server. `store full`: a store had no room for a share of which none stood there. `store down`: one failed.
+-- stands at its server; over stores that others change too, one stood there at some moment of the call. `store full`: a
+-- store had no room for a share of which none stood there. `store down`: one failed.
 pub record TellsOf (u : Upload) (reply : Reply) (old new : GridState) : Type 0 where
   pub all_stand : IsHonest old → reply.status ≡ status.Ok → AllStand u old new
+  pub all_stood : AllTell old → reply.status ≡ status.Ok → AllStoodAmid u old new
   pub full : reply ≡ store_full → (server : ℕ) × PutStopsAt (index u) (shares_of u) old new (Full server)
   pub down : reply ≡ store_down → (server : ℕ) × IsDownAt u old new server
 

@@ -6,7 +6,9 @@ ghost use Rattle.caps.specs.Weakening.{weakened};
 ghost use Rattle.caps.specs.Kinds.{is_verify_cap};
 ghost use Rattle.web_ops.specs.Answers.{health_text, health_reply, check_reply};
 ghost use Rattle.web_ops.specs.Replied.{IsHealth, IsAnsweredFrom};
-ghost use Rattle.web_ops.specs.Calls.{IsFound};
+ghost use Rattle.path_walk.specs.Amid.{IsGivenAmid};
+ghost use Rattle.web_ops.specs.Amid.{IsHealthAmid, IsCheckBy};
+ghost use Rattle.web_ops.specs.Calls.{IsFound, IsFoundAmid};
 
 use crate::failed::{Failure, failure_reply};
 use crate::node::walk_refused;
@@ -35,6 +37,8 @@ pub fn check<S: Store>(
         (IsAnsweredFrom (is_verify_cap cap.now && not (length names.now == 0))
         (λ end. IsHealth mapped (weakened end)) cap.now names.now)
         (λ look. check_reply mapped look cap.now names.now verify) result grid.old grid.new }
+    ensures amid { IsFoundAmid (IsCheckBy (IsGivenAmid cache.old grid.old grid.new) grid.old grid.new mapped cap.now names.now verify)
+        result cache.old cache.new grid.old grid.new }
 {
     if leads_nowhere(cap, names) {
         return failure_reply(alloc, Failure::NotReadable);
@@ -66,6 +70,8 @@ fn health<S: Store>(
     ensures cached { cache.new ≡ cache.old }
     ensures found { IsFound ⊤ (IsHealth mapped (weakened cap.now))
         (λ look. health_reply mapped look verify cap.now) result grid.old grid.new }
+    ensures amid { IsFoundAmid (IsHealthAmid grid.old grid.new mapped verify (weakened cap.now))
+        result cache.old cache.new grid.old grid.new }
 {
     let Some(verify_cap) = weaken(cap) else {
         return Ok(json_reply(literal_check_json(alloc)?));

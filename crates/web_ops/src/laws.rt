@@ -1,11 +1,14 @@
 //! What holds of the answers.
-ghost use Rattle.std.specs.Prelude.{◌≡◌, ℕ, List, Bool, true, false, Option, None};
+ghost use Rattle.std.specs.Prelude.{◌≡◌, ◌↔◌, ℕ, List, Bool, true, false, Option, None};
 ghost use Rattle.caps.specs.declared.cap.Cap.{Cap};
 ghost use Rattle.chk_file.specs.Look.{Look};
+ghost use Rattle.path_walk.specs.Walk.{FileLookup};
 ghost use Rattle.web_request.specs.declared.request.Request.{Request};
 ghost use Rattle.web_request.specs.declared.request.Request.TheVariants.{Get};
 ghost use Rattle.web_ops.specs.Encoding.{Encoding};
-ghost use Rattle.web_ops.specs.Answers.{request_reply};
+ghost use Rattle.web_ops.specs.declared.reply.Reply.{Reply};
+ghost use Rattle.web_ops.specs.Answers.{get_reply, request_reply};
+ghost use Rattle.web_ops.specs.Amid.{IsGetBy};
 ghost use Rattle.web_ops.specs.Reach.{caps_met};
 ghost use Rattle.web_ops.specs.Agree.{AgreeOn};
 
@@ -27,4 +30,12 @@ pub fn heads_are_those_of_whole_replies()
         (range : Option (List ℕ)) →
         request_reply e look (Get cap names json true range)
         ≡ request_reply e look (Get cap names json false None) }
+{}
+
+/// A GET of which each read gives what one look gives is answered as that look says.
+pub fn like_looks_answer_as_one()
+    ensures { (gives : FileLookup) (cap : Cap) (names : List (List ℕ)) (json : Bool)
+        (range : Option (List ℕ)) (reply : Reply) →
+        IsGetBy (λ f found. found ≡ gives f) cap names json range reply
+        ↔ (reply ≡ get_reply gives cap names json range) }
 {}

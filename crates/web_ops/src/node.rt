@@ -1,12 +1,14 @@
 //! The bytes and the JSON of what a path leads to.
-ghost use Rattle.std.specs.Prelude.{◌≡◌, ◌≢◌, ◌↔◌, IfOk, IsTrue, Some};
+ghost use Rattle.std.specs.Prelude.{◌≡◌, ◌≢◌, ◌↔◌, IfOk, IsTrue, Some, true, false, ℕ, List, Option};
 ghost use Rattle.chk_file.specs.Cached.{IsCacheCurrent};
 ghost use Rattle.path_walk.specs.declared.fault.WalkFault.TheVariants.{NoMemory};
 ghost use Rattle.caps.specs.Kinds.{is_verify_cap};
 ghost use Rattle.caps.specs.Weakening.{verify_fields};
 ghost use Rattle.web_ops.specs.Answers.{walk_reply, content_reply, listing_reply, node_json_reply, node_reply, get_reply};
 ghost use Rattle.web_ops.specs.Replied.{IsContent, IsNodeJson, IsNode, IsAnsweredFrom};
-ghost use Rattle.web_ops.specs.Calls.{IsFound};
+ghost use Rattle.path_walk.specs.Amid.{IsGivenAmid};
+ghost use Rattle.web_ops.specs.Amid.{IsNodeBy, IsGetBy};
+ghost use Rattle.web_ops.specs.Calls.{IsFound, IsFoundAmid};
 
 use crate::failed::{Failure, failure_reply};
 use crate::replies::{bytes_reply, download_reply, json_reply, listing_reply};
@@ -36,6 +38,8 @@ pub fn get<S: Store>(
     ensures found { IsFound (IsCacheCurrent cache.old grid.old)
         (IsAnsweredFrom (is_verify_cap cap.now) (IsNode json range) cap.now names.now)
         (λ look. get_reply look.gives cap.now names.now json range) result grid.old grid.new }
+    ensures amid { IsFoundAmid (IsGetBy (IsGivenAmid cache.old grid.old grid.new) cap.now names.now json range)
+        result cache.old cache.new grid.old grid.new }
 {
     if is_verify_cap(cap) {
         return failure_reply(alloc, Failure::NotReadable);
@@ -71,6 +75,8 @@ fn node<S: Store>(
     ensures fresh { IsCacheCurrent cache.old grid.old → IsCacheCurrent cache.new grid.new }
     ensures found { IsFound (IsCacheCurrent cache.old grid.old) (IsNode json range cap)
         (λ look. node_reply look.gives json range cap) result grid.old grid.new }
+    ensures amid { IsFoundAmid (IsNodeBy (IsGivenAmid cache.old grid.old grid.new) json range cap)
+        result cache.old cache.new grid.old grid.new }
 {
     if json {
         node_json(alloc, grid, cache, &cap)
@@ -90,6 +96,8 @@ fn content<S: Store>(
     ensures fresh { IsCacheCurrent cache.old grid.old → IsCacheCurrent cache.new grid.new }
     ensures found { IsFound (IsCacheCurrent cache.old grid.old) (IsContent range cap)
         (λ look. content_reply look.gives range cap) result grid.old grid.new }
+    ensures amid { IsFoundAmid (IsNodeBy (IsGivenAmid cache.old grid.old grid.new) false range cap)
+        result cache.old cache.new grid.old grid.new }
 {
     chk_file::laws::bound_bytes_have_the_size();
     match cap {
@@ -128,6 +136,9 @@ fn node_json<S: Store>(
     ensures fresh { IsCacheCurrent cache.old grid.old → IsCacheCurrent cache.new grid.new }
     ensures found { IsFound (IsCacheCurrent cache.old grid.old) (IsNodeJson cap.now)
         (λ look. node_json_reply look.gives cap.now) result grid.old grid.new }
+    ensures amid { (range : Option (List ℕ)) →
+        IsFoundAmid (IsNodeBy (IsGivenAmid cache.old grid.old grid.new) true range cap.now)
+        result cache.old cache.new grid.old grid.new }
 {
     match cap {
         Cap::Chk(_) | Cap::Lit(_) => Ok(json_reply(file_json(alloc, cap)?)),

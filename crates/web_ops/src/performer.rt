@@ -4,12 +4,16 @@ ghost use Rattle.erasure.specs.Code.{AreBytes};
 ghost use Rattle.octets.specs.Sharing.{IsSharing};
 ghost use Rattle.grid.specs.GridState.{stood, IsHonest, NoneFailed};
 ghost use Rattle.grid.specs.Leaves.{Leaves};
+ghost use Rattle.grid.specs.Views.{AllTell, TellOn};
 ghost use Rattle.chk_file.specs.Cached.{IsCacheCurrent};
+ghost use Rattle.chk_file.specs.Amid.{AreKeptSeen};
 ghost use Rattle.chk_file.specs.Look.{look_in};
 ghost use Rattle.web_ops.specs.Encoding.{encoding_of, mapping};
 ghost use Rattle.web_ops.specs.Uploads.{upload_in};
 ghost use Rattle.web_ops.specs.Answers.{range_to_apply, request_reply};
 ghost use Rattle.web_ops.specs.Replied.{IsReply};
+ghost use Rattle.path_walk.specs.Amid.{IsGivenAmid};
+ghost use Rattle.web_ops.specs.Amid.{IsReplyBy};
 ghost use Rattle.web_ops.specs.Changes.{HasRoomFor, IsStoredIn, IsBegunIn, TellsOfIn, Follows};
 
 use crate::checking::check;
@@ -46,6 +50,13 @@ pub fn perform<S: Store>(
 
     // Of any stores: bytes of a stored file or directory are bound to the cap that the names lead to.
     ensures fits { IfOk result (λ reply. IsReply (encoding_of k n secret.now) request reply) }
+
+    // Of stores that are honest or changed by others too: a reply follows from what was seen, each read for itself.
+    ensures seen { AllTell grid.old → IfOk result (λ reply.
+        IsReplyBy (encoding_of k n secret.now) (IsGivenAmid cache.old grid.old grid.new)
+        grid.old grid.new request reply) }
+    ensures kept_seen { AllTell grid.old → AreKeptSeen cache.old cache.new grid.old grid.new }
+    ensures told { TellOn grid.old grid.new }
 
     // What is stored are bytes.
     ensures bytes { OnOk result (IfSome (upload_in (encoding_of k n secret.now) request)
@@ -96,6 +107,13 @@ pub fn perform_mapped<S: Store>(
 
     // Of any stores: bytes of a stored file or directory are bound to the cap that the names lead to.
     ensures fits { IfOk result (λ reply. IsReply (mapping mapped (encoding_of k n secret.now)) request reply) }
+
+    // Of stores that are honest or changed by others too: a reply follows from what was seen, each read for itself.
+    ensures seen { AllTell grid.old → IfOk result (λ reply.
+        IsReplyBy (mapping mapped (encoding_of k n secret.now)) (IsGivenAmid cache.old grid.old grid.new)
+        grid.old grid.new request reply) }
+    ensures kept_seen { AllTell grid.old → AreKeptSeen cache.old cache.new grid.old grid.new }
+    ensures told { TellOn grid.old grid.new }
 
     // What is stored are bytes.
     ensures bytes { OnOk result (IfSome (upload_in (mapping mapped (encoding_of k n secret.now)) request)

@@ -3,6 +3,7 @@ ghost use Rattle.std.specs.Prelude.{◌≡◌, ⊤, if◌then◌else◌};
 ghost use Rattle.octets.specs.Sharing.{IsSharing};
 ghost use Rattle.erasure.specs.Code.{AreBytes};
 ghost use Rattle.grid.specs.Stamped.{IsStamped};
+ghost use Rattle.grid.specs.Views.{TellOn};
 ghost use Rattle.chk_file.specs.Upload.{uploaded, upload_cap};
 ghost use Rattle.web_request.specs.declared.request.Request.TheVariants.{Put, Mkdir};
 ghost use Rattle.web_ops.specs.Encoding.{encoding_of};
@@ -34,6 +35,7 @@ pub fn put<S: Store>(
     requires { IsSharing k n }
     ensures cached { cache.new ≡ cache.old }
     ensures stamped { IsStamped grid.old grid.new }
+    ensures told { TellOn grid.old grid.new }
     ensures done { IsPerformed (encoding_of k n secret.now) (Put bytes) result grid.old grid.new }
 {
     store(alloc, grid, cache, k, n, secret, bytes.into_vec(), false)
@@ -52,6 +54,7 @@ pub fn make_directory<S: Store>(
     requires { IsSharing k n }
     ensures cached { cache.new ≡ cache.old }
     ensures stamped { IsStamped grid.old grid.new }
+    ensures told { TellOn grid.old grid.new }
     ensures done { IsPerformed (encoding_of k n secret.now) (Mkdir json.now) result grid.old grid.new }
 {
     match directory_text_of(alloc, cache, json)? {
@@ -74,6 +77,7 @@ fn store<S: Store>(
     requires { IsSharing k n }
     ensures cached { cache.new ≡ cache.old }
     ensures stamped { IsStamped grid.old grid.new }
+    ensures told { TellOn grid.old grid.new }
     ensures done { let u = uploaded k n secret.now bytes.items in
         let cap = if directory then as_directory (upload_cap u) else upload_cap u in
         IsCarriedOut ⊤ (if_long u) (IsPutReply cap) (λ _. cap_reply cap) result grid.old grid.new }

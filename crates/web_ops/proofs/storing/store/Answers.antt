@@ -18,7 +18,7 @@ pub returns-in-Ok-clause-done : goal.returns-in-Ok-clause-done
 returns-in-Ok-clause-done g c =
     stored (uploaded c.args.k c.args.n c.args.secret.now c.args.bytes.items) _ c.cap_reply.result c.args.grid.now c.upload.new.grid c.upload.ensures.leaves (subst AreBytes c.deref.ensures.value c.are_bytes.ensures) (λ few. (c.upload.ensures.short few).0)
     (IfOk-weaker c.cap_reply.result _ _ (λ reply is. is ∙ ap cap_reply (c.as_kind-named.ensures ∙ ap (λ cap. cond c.args.directory (as_directory cap) cap) c.in-Ok.ensures.cap)) c.cap_reply.ensures)
-    c.upload.ensures.history c.in-Ok.ensures.stored c.in-Ok.ensures.all_stand c.in-Ok.ensures.world
+    c.upload.ensures.history c.in-Ok.ensures.stored c.in-Ok.ensures.all_stand c.in-Ok.ensures.all_stood c.in-Ok.ensures.world
 
 pub returns-in-Err-Full-clause-done : goal.returns-in-Err-Full-clause-done
 returns-in-Err-Full-clause-done g c =

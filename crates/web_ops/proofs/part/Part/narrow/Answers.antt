@@ -1,4 +1,4 @@
-use Rattle.std.proofs.Common.{◌≡◌, ◌+◌, ◌≤◌, length, take, drop, ap, sym, ◌∙◌, arith}
+use Rattle.std.proofs.Common.{◌+◌, ◌≤◌, length, take, drop, ap, ◌∙◌, arith}
 use Rattle.web_ops.proofs.Parts.{part_length, part_of_part}
 use Rattle.web_ops.proofs.part.Part.narrow.Goals as goal
 
