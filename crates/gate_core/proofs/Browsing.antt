@@ -6,7 +6,7 @@ use Rattle.caps.specs.Fields.{VerifyValue}
 use Rattle.octets.specs.Case.{eq_ignore_case}
 use Rattle.http_edge.specs.declared.field.Field.{Field}
 use Rattle.http_edge.specs.declared.item.Head.{Head}
-use Rattle.web_request.specs.Ranges.{is_if_range, one_range}
+use Rattle.web_request.specs.Ranges.{is_if_range}
 use Rattle.web_request.specs.declared.head.Field.{Field as WebField}
 use Rattle.web_request.specs.declared.head.Head.{Head as WebHead}
 use Rattle.web_ops.specs.declared.reply.Reply.{Reply as WebReply}

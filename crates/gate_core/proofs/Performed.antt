@@ -1,18 +1,24 @@
 -- What carrying out a request comes to, and what refusing it.
-use Rattle.std.proofs.Common.{◌≡◌, ◌≢◌, ℕ, ◌+◌, ◌-◌, ◌≤◌, Bool, List, length, Option, Some, None, Result, Ok, Err, refl, sym, ap, subst, ◌∙◌, arith}
+use Rattle.std.proofs.Common.{◌≡◌, ◌≢◌, ℕ, ◌+◌, ◌-◌, ◌≤◌, Bool, List, length, Option, Some, None, Result, Ok, Err, refl, sym, ap, subst, ◌∙◌, arith, inl, inr}
 use Rattle.std.specs.Prelude.{IfOk, OnOk, IsErr}
+use Rattle.std.proofs.lemmas.Result.{IfOk-weaker}
 use Rattle.http_edge.specs.declared.item.Head.{Head}
 use Rattle.grid.specs.Standing.{standing}
 use Rattle.grid.specs.GridState.{GridState, stood, room_at, IsHonest, NoneFailed}
 use Rattle.grid.specs.Leaves.{Leaves, IsUnchanged}
 use Rattle.grid.specs.NewBytes.{new_bytes}
 use Rattle.grid.specs.Changed.{ArePut}
+use Rattle.grid.specs.Views.{AllTell, TellOn}
 use Rattle.grid.proofs.Histories.{tells_none}
 use Rattle.grid.proofs.Puts.{put_none}
+use Rattle.grid.proofs.Views.{tell_on_none}
+use Rattle.caps.specs.Fields.{ReadValue}
+use Rattle.chk_file.specs.Cached.{CacheEntry, AreBound}
 use Rattle.chk_file.specs.Upload.{Upload, index, shares_of}
 use Rattle.chk_file.specs.Marks.{shown}
 use Rattle.chk_file.specs.World.{World, after_upload}
 use Rattle.chk_file.specs.Look.{look_in}
+use Rattle.path_walk.specs.Amid.{IsGivenAmid}
 use Rattle.web_request.specs.declared.head.Head.{Head as WebHead}
 use Rattle.web_request.specs.declared.request.Request.{Request}
 use Rattle.web_request.specs.declared.fault.WebFault.{WebFault}
@@ -23,8 +29,11 @@ use Rattle.web_ops.specs.Encoding.{Encoding, encoding_of, mapping}
 use Rattle.web_ops.specs.Uploads.{upload_in, after_stored}
 use Rattle.web_ops.specs.Answers.{request_reply}
 use Rattle.web_ops.specs.Replied.{IsReply}
+use Rattle.web_ops.specs.Amid.{IsReplyBy}
 use Rattle.web_ops.specs.Changes.{HasRoomFor, IsStoredIn, IsBegunIn, TellsOfIn, Follows}
+use Rattle.web_ops.proofs.Amid.{reply_so}
 use Rattle.gate_core.specs.declared.pages.Page.{Page}
+use Rattle.gate_core.specs.Amid.{IsBound, IsGivenFor}
 use Rattle.gate_core.specs.Settings.{GatewaySettings, setup_of, settings_of}
 use Rattle.gate_core.specs.Pages.{reply_elsewhere}
 use Rattle.gate_core.specs.Requests.{Interpreted, web_head, asked_of}
@@ -90,11 +99,14 @@ performed : {E : Type 0} (e : Encoding) (pages : List Page) (head : Head) (reque
     → (IsHonest old → HasRoomFor old (upload_in e request) → NoneFailed old new → OnOk r (Follows (upload_in e request) old new))
     → OnOk r (BringsBytes (upload_in e request))
     → IfOk r (λ reply. TellsOfIn (upload_in e request) reply old new)
+    → TellOn old new → (AllTell old → IfOk r (λ reply. IsReplyBy e (IsGivenFor old new) old new request reply))
     → IfOk r (λ reply. IsRequestCarriedOut (settings_of (setup_of e pages) (length old.stores)) head (Ok request) reply old new)
-performed e pages head request (Ok reply) old new leaves fits written stored follows bytes tells = record {
+performed e pages head request (Ok reply) old new leaves fits written stored follows bytes tells told seen = record {
   fits = fits;
   bytes = bytes;
   tells = tells;
+  told = told;
+  seen = seen;
   as_written = λ w rooms shows brings none.
       let room : HasRoomFor old (upload_in e request) = room_for (upload_in e request) old w rooms shows brings in
       record {
@@ -102,13 +114,18 @@ performed e pages head request (Ok reply) old new leaves fits written stored fol
         stores = Shows-stored (upload_in e request) old new w rooms leaves (stored shows.honest room none) (follows shows.honest room none) shows;
       };
 }
-performed e pages head request (Err failed) old new leaves fits written stored follows bytes tells = tt
+performed e pages head request (Err failed) old new leaves fits written stored follows bytes tells told seen = tt
 
 -- ---- what was asked for
 
 asked_as : (head : Head) (body : List ℕ) (same : WebHead) (asked : Interpreted) → same ≡ web_head head → interpreted same body ≡ asked → asked_of head body ≡ asked
 unfolding asked_of
 asked_as head body same asked is read = ap (λ h. interpreted h body) (sym is) ∙ read
+
+-- what is kept is bound to its fields
+given_for : (cache : List CacheEntry) (old new : GridState) → AreBound cache → (f : ReadValue) (found : Option (List ℕ)) → IsGivenAmid cache old new f found → IsGivenFor old new f found
+given_for cache old new bound f found (inl kept) = inl (subst (IsBound f) (sym kept.is) (bound f kept.stamp kept.bytes kept.there))
+given_for cache old new bound f found (inr seen) = inr seen
 
 -- the encoding of these parts
 abbrev pub parts_as : ℕ → ℕ → List ℕ → Bool → Encoding
@@ -117,7 +134,7 @@ parts_as k n secret mapped = mapping mapped (encoding_of k n secret)
 same_encoding : (e : Encoding) (k n : ℕ) (secret : List ℕ) (mapped : Bool) → k ≡ e.k → n ≡ e.n → secret ≡ e.secret → mapped ≡ e.mapped → parts_as k n secret mapped ≡ e
 same_encoding e k n secret mapped a b c d i = record { k = a i; n = b i; secret = c i; mapped = d i }
 
-pub carried_out : {E : Type 0} (e : Encoding) (pages : List Page) (k n : ℕ) (secret : List ℕ) (mapped : Bool) (head : Head) (body : List ℕ) (same : WebHead) (request : Request) (r : Result Reply E) (old new : GridState)
+pub carried_out : {E : Type 0} (e : Encoding) (pages : List Page) (k n : ℕ) (secret : List ℕ) (mapped : Bool) (head : Head) (body : List ℕ) (same : WebHead) (request : Request) (r : Result Reply E) (cache : List CacheEntry) (old new : GridState)
     → k ≡ e.k → n ≡ e.n → secret ≡ e.secret → mapped ≡ e.mapped
     → same ≡ web_head head → interpreted same body ≡ Ok request → Leaves old new
     → IfOk r (λ reply. IsReply (parts_as k n secret mapped) request reply)
@@ -126,11 +143,13 @@ pub carried_out : {E : Type 0} (e : Encoding) (pages : List Page) (k n : ℕ) (s
     → (IsHonest old → HasRoomFor old (upload_in (parts_as k n secret mapped) request) → NoneFailed old new → OnOk r (Follows (upload_in (parts_as k n secret mapped) request) old new))
     → OnOk r (BringsBytes (upload_in (parts_as k n secret mapped) request))
     → IfOk r (λ reply. TellsOfIn (upload_in (parts_as k n secret mapped) request) reply old new)
+    → TellOn old new → AreBound cache → (AllTell old → IfOk r (λ reply. IsReplyBy (parts_as k n secret mapped) (IsGivenAmid cache old new) old new request reply))
     → IfOk r (λ reply. IsRequestCarriedOut (settings_of (setup_of e pages) (length old.stores)) head (asked_of head body) reply old new)
-carried_out e pages k n secret mapped head body same request r old new is_k is_n is_secret is_mapped is_head read leaves fits written stored follows bytes tells =
+carried_out e pages k n secret mapped head body same request r cache old new is_k is_n is_secret is_mapped is_head read leaves fits written stored follows bytes tells told bound seen =
     subst (λ asked. IfOk r (λ reply. IsRequestCarriedOut (settings_of (setup_of e pages) (length old.stores)) head asked reply old new)) (sym (asked_as head body same (Ok request) is_head read))
     (subst (λ f. IfOk r (λ reply. IsRequestCarriedOut (settings_of (setup_of f pages) (length old.stores)) head (Ok request) reply old new)) (same_encoding e k n secret mapped is_k is_n is_secret is_mapped)
-    (performed (parts_as k n secret mapped) pages head request r old new leaves fits written stored follows bytes tells))
+    (performed (parts_as k n secret mapped) pages head request r old new leaves fits written stored follows bytes tells told
+    (λ all. IfOk-weaker r _ _ (λ reply by. reply_so (IsGivenAmid cache old new) (IsGivenFor old new) (given_for cache old new bound) (parts_as k n secret mapped) old new request reply by) (seen all))))
 
 -- a beginning of its upload was put, if any
 pub begun_out : (e : Encoding) (k n : ℕ) (secret : List ℕ) (mapped : Bool) (head : Head) (body : List ℕ) (same : WebHead) (request : Request) (old new : GridState)
@@ -158,5 +177,5 @@ pub refused : {E : Type 0} (settings : GatewaySettings) (head : Head) (body : Li
 refused {E = E} settings head body same fault (Ok reply) g is_head read is memory =
     let as_sent : reply ≡ reply_elsewhere settings.pages head.method head.target fault = is ∙ ap (λ (h : WebHead). reply_elsewhere settings.pages h.method h.target fault) is_head in
     subst (λ asked. IsRequestCarriedOut settings head asked reply g g) (sym (asked_as head body same (Err fault) is_head (read (λ e. no_error E reply (memory e)))))
-    (record { fits = as_sent; bytes = tt; tells = tt; as_written = λ w rooms shows brings none. record { written = as_sent; stores = Shows-same g w rooms shows } })
+    (record { fits = as_sent; bytes = tt; tells = tt; told = tell_on_none g; seen = λ all. tt; as_written = λ w rooms shows brings none. record { written = as_sent; stores = Shows-same g w rooms shows } })
 refused settings head body same fault (Err failed) g is_head read is memory = tt

@@ -3,6 +3,7 @@ ghost use Rattle.std.specs.Prelude.{◌≡◌, if◌then◌else◌};
 ghost use Rattle.gate_core.specs.Holds.{content_shares, content_text, listing_text, wanted_shares, wanted_text};
 ghost use Rattle.grid.specs.GridState.{IsHonest};
 ghost use Rattle.grid.specs.Leaves.{Leaves, IsUnchanged};
+ghost use Rattle.grid.specs.Views.{TellOn};
 ghost use Rattle.chk_file.specs.Cached.{IsCacheCurrent, IsWithin};
 
 use crate::holds::{Holds, Prospect};
@@ -294,6 +295,7 @@ pub fn prepare_read<S: Store>(
 ) -> Prospect
     ensures leaves { Leaves grid.old grid.new }
     ensures unchanged { IsHonest grid.old → IsUnchanged grid.old grid.new }
+    ensures told { TellOn grid.old grid.new }
     ensures fresh { IsCacheCurrent cache.old grid.old → IsCacheCurrent cache.new grid.new }
 {
     let is_its_turn = prepared_for.is_turn_to_read(id);
@@ -316,6 +318,7 @@ fn step<S: Store>(
 ) -> (Holds, bool)
     ensures leaves { Leaves grid.old grid.new }
     ensures unchanged { IsHonest grid.old → IsUnchanged grid.old grid.new }
+    ensures told { TellOn grid.old grid.new }
     ensures fresh { IsCacheCurrent cache.old grid.old → IsCacheCurrent cache.new grid.new }
 {
     match walk_ahead(alloc, grid, cache, &asked.cap, &asked.names, is_its_turn) {
@@ -405,6 +408,7 @@ fn prepare_end<S: Store>(
 ) -> bool
     ensures leaves { Leaves grid.old grid.new }
     ensures unchanged { IsHonest grid.old → IsUnchanged grid.old grid.new }
+    ensures told { TellOn grid.old grid.new }
     ensures fresh { IsCacheCurrent cache.old grid.old → IsCacheCurrent cache.new grid.new }
 {
     match (wanted, end) {

@@ -1,4 +1,4 @@
-use Rattle.std.proofs.Common.{◌≡◌, ◌∷◌, [], ◌++◌, ap, ◌∙◌}
+use Rattle.std.proofs.Common.{◌∷◌, [], ◌++◌, ap, ◌∙◌}
 use Rattle.reply_fields.specs.Guesses.{guess_of}
 use Rattle.reply_fields.specs.Names.{disposition_of}
 use Rattle.reply_fields.specs.declared.naming.Naming.{Naming}

@@ -1,8 +1,10 @@
-use Rattle.std.proofs.Common.{refl, ap, ◌∙◌}
+use Rattle.std.proofs.Common.{refl, sym, ap, subst, ◌∙◌}
+use Rattle.grid.specs.Views.{TellOn}
+use Rattle.grid.proofs.Views.{tell_on_none}
 use Rattle.gate_core.specs.Forgotten.{with_gone}
 use Rattle.std.proofs.lemmas.Result.{on_ok_weaker}
 use Rattle.gate_core.specs.Settings.{settings_of}
-use Rattle.gate_core.specs.ConnectionState.{connection_at}
+use Rattle.gate_core.specs.ConnectionState.{State, connection_at}
 use Rattle.gate_core.proofs.Maps.{Changed-others}
 use Rattle.gate_core.proofs.Forgetting.{lent, no_entry, unheld_refused}
 use Rattle.gate_core.proofs.Arrivals.{same_state, bytes_refused, received, received_tallied, cut_left, cut_short, received_came, where_open, calm_lent}
@@ -56,3 +58,6 @@ returns-in_default-clause-answer g c =
 pub returns-clause-isolated : goal.returns-clause-isolated
 returns-clause-isolated g c =
     on_ok_weaker c.bytes.result (λ on opening events came roomy none. c.came_goes_on.ensures.isolated opening _ _ (on opening events came roomy none)) (returns-clause-came g c)
+
+pub returns-in_default-clause-told : goal.returns-in_default-clause-told
+returns-in_default-clause-told g c = subst (λ (s : State). TellOn c.args.self.now.grid s.grid) (sym c.self.view_is) (tell_on_none c.args.self.now.grid)

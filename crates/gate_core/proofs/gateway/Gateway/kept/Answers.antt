@@ -1,5 +1,5 @@
 use Rattle.std.proofs.Common.{ap, sym, ◌∙◌}
-use Rattle.std.specs.Prelude.{ℕ, min, ◌-◌, ◌^◌}
+use Rattle.std.specs.Prelude.{min, ◌-◌, ◌^◌}
 use Rattle.gate_core.specs.Kept.{kept_in}
 use Rattle.gate_core.proofs.Forgetting.{entry_found, no_entry, unheld_keeps}
 use Rattle.gate_core.proofs.gateway.Gateway.kept.Goals as goal

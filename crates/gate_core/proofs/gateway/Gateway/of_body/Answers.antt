@@ -1,5 +1,5 @@
-use Rattle.std.proofs.Common.{ap, sym, subst, ◌∙◌}
-use Rattle.std.specs.Prelude.{◌≡◌, ℕ, Option, IfOk}
+use Rattle.std.proofs.Common.{ap, sym, subst}
+use Rattle.std.specs.Prelude.{◌≡◌, Option, IfOk}
 use Rattle.gate_core.specs.ConnectionState.{ConnectionState}
 use Rattle.gate_core.specs.Kept.{bytes_of_body_in, HasNoChunks}
 use Rattle.gate_core.proofs.Forgetting.{entry_found, no_entry, unheld_of_body}
