@@ -408,7 +408,7 @@ STRANGE = {
     "name": (lambda server: through(server, entry("é".encode() * 7_800_000)), "GETs by a name of 15.6 MB"),
     "falling": (lambda server: through(server, entry(b"child", falling_members())), "GETs through falling keys"),
     "makes_falling": (lambda server: made_of(server, [member(b"child", falling_members())]), "directories made of falling keys"),
-    "no_children": (lambda server: made_of(server, [b'"%06d":0' % at for at in range(1_600_000)], b"400"), "refusals of 1.6 million members"),
+    "no_children": (lambda server: made_of(server, [b'"%05x":0' % at for at in range(1_600_000)], b"400"), "refusals of 1.6 million members"),
     "few": (lambda server: made_of(server, [member(b"%03d" % at, b'{"a":"%s"}' % (b"x" * 63_000)) for at in range(245)]), "directories made of 245 children"),
 }
 
