@@ -1,7 +1,7 @@
 #!/usr/bin/env python3
 """Loads on `wozhinnam serve`, the built program, on the loopback, with times and memory; each takes a minute or two at most.
 
-usage: bench/times/loads.py PROGRAM [open|readers|many_readers|slow_readers|untaken|came|million|pipelined|cut|listings|puts|many_puts|chunks|walks|forms|metadata|makes|makes_many|verifies|parts|wide|disk_LOAD|redis_LOAD|mixed|tokens|falling|text|name|makes_falling|no_children|few ..]
+usage: bench/times/loads.py PROGRAM [open|readers|many_readers|slow_readers|untaken|came|million|pipelined|cut|listings|puts|many_puts|chunks|walks|forms|metadata|makes|makes_many|verifies|parts|wide|disk_LOAD|redis_LOAD|mixed|again|tokens|falling|text|name|lists_metadata|lists_falling|makes_falling|no_children|few ..] [--steps]
 
 open          10,000 connections, a reply on each
 readers       8 readers of 4 MiB beside small GETs; many_readers: 200 of them; slow_readers: 200 that take 10 KB a second
@@ -23,23 +23,29 @@ makes         such a directory, made of children JSON; makes_many: one of 300,00
 verifies      checks with verify of a file of 16 MiB
 parts         GETs of 1,000 bytes of two files of 16 MiB, by turns
 wide          the `t=json` of a directory of 20,000 children
-mixed         all of these at once, by a client each
+mixed         all of these at once, by a client each; again: metadata and makes, so that a directory is stored again and again while
+              names are looked for in it
 
 And beside what is long in another way, of some 15.6 MB each:
 tokens        GETs through a directory whose one child has metadata of 3.1 million times `true`; falling: of 1.3 million members whose
               keys fall
 text          GETs through one whose one child has metadata of one text; name: whose one child has a name of accented letters
+lists_metadata the `t=json` of a directory whose one child has 1.3 million members of metadata; lists_falling: whose keys fall
 makes_falling directories made of one child with metadata whose keys fall
 no_children   children JSON that is refused, since its 1.6 million members are no children
 few           directories made of 245 children with 63,000 bytes of metadata each
 
-Of the last eleven each may begin with `disk_` or `redis_`, as `disk_parts`: over five folders whose shares stay on the disk, or three Redis servers (redis-server
-of Debian). Without a name these aren't tried.
+Of those from `puts` to `wide` each may begin with `disk_` or `redis_`, as `disk_parts`: over five folders whose shares stay on the
+disk, or three Redis servers (redis-server of Debian). Without a name these aren't tried.
+
+With --steps (as root; linux-perf of Debian) each of these loads also tells the longest step of the server between two system calls, and how
+long the machine stood still meanwhile: a wait is the server's only where it has a step as long.
 """
 
 import contextlib
 import functools
 import itertools
+import json
 import os
 import random
 import resource
@@ -55,6 +61,7 @@ sys.path.insert(0, os.path.join(os.path.dirname(os.path.abspath(__file__)), "../
 
 from directory_texts import children, entry
 from server import fail, wozhinnam
+from steps import Steps
 
 SMALL = b"GET /uri/URI:LIT:mzxw6 HTTP/1.1\r\nHost: g\r\n\r\n"
 # docs/FORMATS.md, "For browsers": what stands in a reply behind the length of a file.
@@ -62,6 +69,8 @@ OF_FILES = b"Accept-Ranges: bytes\r\nX-Content-Type-Options: nosniff\r\nContent-
 REPLY = b"HTTP/1.1 200 OK\r\nContent-Type: application/octet-stream\r\nContent-Length: 3\r\n" + OF_FILES + b"\r\nfoo"
 LONG = 4_194_304
 SECONDS = 120
+# Whether the steps of the server are looked at.
+STEPS = "--steps" in sys.argv[2:]
 
 
 def served(program, connections):
@@ -235,12 +244,15 @@ def beside(name, server, quick, load, count, seconds=15):
     began = time.monotonic()
     time.sleep(1)
     waits = []
-    while time.monotonic() < over - 1:
-        waits.append(small(quick))
-        time.sleep(0.001)
+    with Steps(server.process.pid) if STEPS else contextlib.nullcontext() as steps:
+        while time.monotonic() < over - 1:
+            waits.append(small(quick))
+            time.sleep(0.001)
     for thread in threads:
         thread.join(SECONDS)
     times("small GETs beside %s" % name, waits)
+    if steps:
+        print(steps.said())
     return len(done) / (done[-1] - began)
 
 
@@ -401,12 +413,23 @@ def falling_members():
     return b"{" + b",".join(b'"%06x":{}' % at for at in reversed(range(1_300_000))) + b"}"
 
 
+def listed(server, metadata):
+    """The `t=json` of a directory of one child with such metadata, which has them as Python writes them, with keys in order."""
+    target = "/%s?t=json" % put_text(server, entry(b"child", metadata))
+    spelling = json.dumps(json.loads(metadata), separators=(",", ":"), sort_keys=True).encode()
+    if server.ask("GET", "/uri" + target).count(spelling) != 1:
+        fail("another listing")
+    return once(server, asked(b"GET", target))
+
+
 # The same of what is long in another way.
 STRANGE = {
     "tokens": (lambda server: through(server, entry(b"child", b'{"a":[%s]}' % b",".join([b"true"] * 3_100_000))), "GETs through 3.1 million values"),
     "text": (lambda server: through(server, entry(b"child", b'{"a":"%s"}' % (b"x" * 15_600_000))), "GETs through one text of 15.6 MB"),
     "name": (lambda server: through(server, entry("é".encode() * 7_800_000)), "GETs by a name of 15.6 MB"),
     "falling": (lambda server: through(server, entry(b"child", falling_members())), "GETs through falling keys"),
+    "lists_metadata": (lambda server: listed(server, many_members()), "listings of 15.6 MB of metadata"),
+    "lists_falling": (lambda server: listed(server, falling_members()), "listings of falling keys"),
     "makes_falling": (lambda server: made_of(server, [member(b"child", falling_members())]), "directories made of falling keys"),
     "no_children": (lambda server: made_of(server, [b'"%05x":0' % at for at in range(1_600_000)], b"400"), "refusals of 1.6 million members"),
     "few": (lambda server: made_of(server, [member(b"%03d" % at, b'{"a":"%s"}' % (b"x" * 63_000)) for at in range(245)]), "directories made of 245 children"),
@@ -460,10 +483,10 @@ def loaded_over(program, load, count, places):
     server.stop()
 
 
-def mixed(program):
-    """All of them at once, by a client each."""
+def mixed(program, names=None):
+    """All of them at once, or those with these names, by a client each."""
     server = served(program, 100)
-    loads = [maker(server) for maker, _ in BESIDE.values()]
+    loads = [BESIDE[name][0](server) for name in names or BESIDE]
     quick = server.connect()
     turn, mine = itertools.count(), threading.local()
 
@@ -622,16 +645,18 @@ LOADS = {
     **{"redis_" + name: functools.partial(loaded, load=load, stores=over_redis) for name, load in BESIDE.items()},
     "many_puts": functools.partial(loaded, load=BESIDE["puts"], count=4),
     "mixed": mixed,
+    "again": functools.partial(mixed, names=("metadata", "makes")),
     **{name: functools.partial(loaded, load=load) for name, load in STRANGE.items()},
 }
 
 
 def main():
-    if len(sys.argv) < 2 or any(name not in LOADS for name in sys.argv[2:]):
+    names = [name for name in sys.argv[2:] if name != "--steps"]
+    if len(sys.argv) < 2 or any(name not in LOADS for name in names):
         sys.exit(__doc__)
     _, most = resource.getrlimit(resource.RLIMIT_NOFILE)
     resource.setrlimit(resource.RLIMIT_NOFILE, (most, most))
-    for name in sys.argv[2:] or [name for name in LOADS if not name.startswith(("disk_", "redis_"))]:
+    for name in names or [name for name in LOADS if not name.startswith(("disk_", "redis_"))]:
         print("%s" % name, flush=True)
         LOADS[name](sys.argv[1])
 
