@@ -1,0 +1,4 @@
+pub mod Builders
+pub mod Parts
+pub mod Writers
+pub mod Remains
