@@ -4,12 +4,13 @@ use Rattle.std.proofs.lemmas.Bool.{and_parts, leb-true}
 use Rattle.std.proofs.lemmas.Slice.Eq.{bytes_eq-Decides}
 use Rattle.std.specs.Str.{bytes_eq}
 use Rattle.serde_json.specs.Data.{Data, Members, put, depth}
-use Rattle.serde_json.specs.Find.{get_member, as_object}
+use Rattle.serde_json.specs.Find.{get_member, as_str, as_object}
 use Rattle.serde_json.specs.Read.{read}
 use Rattle.serde_json.specs.Written.{has_float}
 use Rattle.serde_json.proofs.Views.{get_member-put, get_member-put_other}
 use Rattle.dir_codec.specs.Metadata.{is_whole, spelling_of}
-use Rattle.dir_codec.specs.Kept.{IsField, IsFieldAt}
+use Rattle.dir_codec.specs.Children.{gives_write}
+use Rattle.dir_codec.specs.Kept.{IsField, IsFieldAt, IsTextField, IsTextFieldAt}
 use Rattle.dir_codec.specs.declared.fields.Field.{Field}
 use Rattle.dir_codec.specs.declared.spelling.Spelled.{Spelled}
 use Rattle.dir_codec.proofs.Json.{good_metadata, not_true, spells_itself}
@@ -32,9 +33,22 @@ another q p k apart is same = texts_differ p q apart (same ∙ is)
 pub put_here : (q k : List ℕ) (field : Field) (d : Data) (ms : Members) → k ≡ q → IsField field d → IsFieldAt (Some field) (get_member q (put k d ms))
 put_here q k field d ms same is = subst (λ o. IsFieldAt (Some field) o) (sym (ap (λ n. get_member q (put n d ms)) same ∙ get_member-put q d ms)) is
 
+-- the same as far as a text is concerned
+texts_weaker : (field : Field) (d : Data) → IsField field d → IsTextField field d
+texts_weaker Field.Null d is = is
+texts_weaker (Field.Text text) d is = is
+texts_weaker (Field.Object spelled) d is = (ap as_str is.1, ap gives_write is.1)
+texts_weaker Field.Other d is = (is.0, is.2)
+
+pub put_text_here : (q k : List ℕ) (field : Field) (d : Data) (ms : Members) → k ≡ q → IsField field d → IsTextFieldAt (Some field) (get_member q (put k d ms))
+put_text_here q k field d ms same is = subst (λ o. IsTextFieldAt (Some field) o) (sym (ap (λ n. get_member q (put n d ms)) same ∙ get_member-put q d ms)) (texts_weaker field d is)
+
 -- other names keep their values
 pub put_elsewhere : (q k : List ℕ) (field : Option Field) (d : Data) (ms : Members) → (q ≡ k → ⊥) → IsFieldAt field (get_member q ms) → IsFieldAt field (get_member q (put k d ms))
 put_elsewhere q k field d ms other is = subst (λ o. IsFieldAt field o) (sym (get_member-put_other q k d ms other)) is
+
+pub put_text_elsewhere : (q k : List ℕ) (field : Option Field) (d : Data) (ms : Members) → (q ≡ k → ⊥) → IsTextFieldAt field (get_member q ms) → IsTextFieldAt field (get_member q (put k d ms))
+put_text_elsewhere q k field d ms other is = subst (λ o. IsTextFieldAt field o) (sym (get_member-put_other q k d ms other)) is
 
 -- ---- metadata
 

@@ -11,13 +11,13 @@ use Rattle.json.specs.Json.{Json}
 use Rattle.json.specs.Print.{quoted, token_text}
 use Rattle.json_stack.specs.Machine.{Frame, in_array, in_object, in_member, StackState, reading, done, failed, awaits_value, value_ended, opened_frame, array_ended, object_ended, key_read, state_within, next_state, state_after, start_state, result_of}
 use Rattle.json_stack.proofs.Reading.{machine_reads}
-use Rattle.json_stack.proofs.Runs.{failed_stays}
+use Rattle.json_stack.proofs.Runs.{state_after-append, failed_stays}
 use Rattle.json.proofs.Printed.Utf8.{are_ascii, IsUtf8-are_ascii}
 use Rattle.serde_json.specs.Data.{Num, Data, null, boolean, number, string, array, object, Items, Members, no_members, put, depth}
 use Rattle.serde_json.specs.Read.{number_of, of_json, of_items, of_members, max_depth}
 use Rattle.serde_json.specs.Written.{has_float, comma_if, compact_text}
 use Rattle.dir_codec.specs.Spelled.{IsExtent, rises, data_of}
-use Rattle.dir_codec.specs.Speller.{DataFrame, data_array, data_object, data_member, IsFrameData, AreFrameData, items_with, has_members, items_written, members_written, frame_text, comma_awaited, frames_text, frame_depth, frame_float, frames_depth, frames_float, IsAboveMembers, IsOpenedAt, AreOpened, IsInside, FollowsMachine, awaits, with_value, IsBeforeValue, IsBehindValue, value_awaited, opened_after, is_array, is_object, IsPlainValue, GoesOver, RefusesToken, IsEnded, IsUnended}
+use Rattle.dir_codec.specs.Speller.{DataFrame, data_array, data_object, data_member, IsFrameData, AreFrameData, items_with, has_members, items_written, members_written, frame_text, comma_awaited, frames_text, frame_depth, frame_float, frames_depth, frames_float, IsAboveMembers, IsOpenedAt, AreOpened, IsInside, FollowsMachine, awaits, with_value, IsBeforeValue, IsBehindValue, value_awaited, opened_after, is_array, is_object, IsPlainValue, GoesOver, RefusesToken, IsEnded, IsUnended, HasSpelled}
 use Rattle.dir_codec.specs.declared.extent.Extent.{Extent}
 use Rattle.dir_codec.specs.declared.spelling.Spelled.{Spelled}
 use Rattle.dir_codec.specs.declared.speller.Opened.{Opened}
@@ -503,6 +503,16 @@ object_has_ended speller spelled ended text extent failed at = absurd at
 -- the data that the tokens are
 pub data_read : (ts : List Token) (s : StackState) → state_after (start_state max_depth) ts ≡ s → data_of ts ≡ option_and_then of_json (result_of s)
 data_read ts s is = ap (option_and_then of_json) (machine_reads max_depth ts) ∙ ap (λ r. option_and_then of_json (result_of r)) is
+
+-- all tokens so far
+pub tokens_spelled : (t : Token) (old new : Speller) → GoesOver old t new → (ts : List Token) → HasSpelled ts old → HasSpelled (ts ++ t ∷ []) new
+unfolding state_after
+tokens_spelled t old new goes ts at = subst (λ s. FollowsMachine s new) (sym (state_after-append (start_state max_depth) ts (t ∷ []))) (goes (state_after (start_state max_depth) ts) at)
+
+pub tokens_refused : (t : Token) (old : Speller) → RefusesToken old t → (ts more : List Token) → HasSpelled ts old → data_of (ts ++ t ∷ more) ≡ None
+unfolding state_after
+tokens_refused t old refuses ts more at =
+    ap (option_and_then of_json) (machine_reads max_depth (ts ++ t ∷ more)) ∙ ap (λ s. option_and_then of_json (result_of s)) (state_after-append (start_state max_depth) ts (t ∷ more)) ∙ refuses (state_after (start_state max_depth) ts) at more
 
 -- before the first token
 pub none_yet : (speller : Speller) → speller.out.items ≡ [] → speller.opened.items ≡ [] → speller.ended ≡ false → IsExtent speller.extent 0 false → FollowsMachine (start_state speller.levels) speller

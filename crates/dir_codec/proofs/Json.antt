@@ -1,5 +1,5 @@
 -- JSON that bytes are.
-use Rattle.std.proofs.Common.{◌≡◌, codes, ℕ, Bool, true, false, List, IsUtf8, Some, None, is_some, not, ◌≤◌, refl, sym, ap, arith}
+use Rattle.std.proofs.Common.{◌≡◌, codes, ℕ, Bool, true, false, List, IsUtf8, Some, None, option_map, is_some, not, ◌≤◌, refl, sym, ap, arith}
 use Rattle.std.proofs.lemmas.Bool.{and_parts, leb-true}
 use Rattle.std.proofs.lemmas.Str.{is_utf8-from_IsUtf8, IsUtf8-from_is_utf8}
 use Rattle.std.specs.Str.{chars, is_utf8}
@@ -8,7 +8,7 @@ use Rattle.serde_json.specs.Find.{as_object}
 use Rattle.serde_json.specs.Read.{read}
 use Rattle.serde_json.specs.Written.{has_float, compact_text}
 use Rattle.serde_json.proofs.OnLiterals.{serde_json_on_literals}
-use Rattle.dir_codec.specs.Metadata.{is_whole, json_of, is_metadata, metadata_of, spelling_of}
+use Rattle.dir_codec.specs.Metadata.{is_whole, json_of, is_metadata, if_metadata, metadata_of, spelling_of}
 
 pub json_read : (bytes : List ℕ) (d : Data) → IsUtf8 bytes → read bytes ≡ Some d → json_of bytes ≡ Some d
 unfolding json_of
@@ -30,6 +30,11 @@ json_refused bytes none = refused_at bytes (is_utf8 bytes) refl none
 pub none_spelled : (bytes : List ℕ) → json_of bytes ≡ None → spelling_of bytes ≡ None
 unfolding spelling_of metadata_of
 none_spelled bytes none = rw none
+
+-- the spelling of bytes is that of the metadata that their JSON is
+pub spelling_there : (bytes : List ℕ) (d : Data) → json_of bytes ≡ Some d → spelling_of bytes ≡ option_map compact_text (if_metadata d)
+unfolding spelling_of metadata_of
+spelling_there bytes d is = rw is refl
 
 -- nor have those of JSON that is no metadata
 pub other_spelled : (bytes : List ℕ) (d : Data) → json_of bytes ≡ Some d → is_metadata d ≡ false → spelling_of bytes ≡ None

@@ -27,11 +27,15 @@ pub mod OnePass
 pub mod ReadChildren
 pub mod Gathering
 pub mod Braces
+pub mod TakenMembers
+pub mod ValueTexts
 pub mod Windows
 pub mod Joining
 pub mod PartTexts
 pub mod PartsRead
 pub mod CutPlaces
+pub mod SpelledMetadata
+pub mod PiecesTaken
 pub mod Judged
 pub mod EntrySizes
 pub mod NextEntries

@@ -26,7 +26,8 @@ use Rattle.dir_codec.proofs.Json.{json_read, json_refused, none_spelled, other_s
 use Rattle.dir_codec.proofs.Printed.{printed}
 use Rattle.dir_codec.proofs.ReadData.{from_json, object_opened, read_whole, read_more, read_none}
 use Rattle.dir_codec.proofs.SoundLemmas.{read_sound}
-use Rattle.dir_codec.specs.Metadata.{json_of, spelling_of, is_metadata}
+use Rattle.dir_codec.specs.Metadata.{json_of, metadata_of, spelling_of, is_metadata, if_metadata}
+use Rattle.std.specs.Prelude.{if◌then◌else◌}
 use Rattle.dir_codec.specs.Spelled.{IsExtent, IsSpelled, AreSpelled, SpellsMetadata, AreNoMetadata, begins_object, rises, spelled_text, entries_levels, entries_fractional}
 use Rattle.dir_codec.specs.declared.extent.Extent.{Extent}
 use Rattle.dir_codec.specs.declared.spelling.Spelled.{Spelled}
@@ -162,7 +163,7 @@ same_extent (e ∷ es) (member l f ms) are =
 pub spelled_extent : (extent : Extent) (es : List (String Global × Spelled)) (ms : Members) → AreSpelled es ms → IsExtent extent (entries_levels es) (entries_fractional es) → IsExtent extent (members_depth ms) (members_have_float ms)
 spelled_extent extent es ms are is = let same = same_extent es ms are in (is.0 ∙ same.0, is.1 ∙ same.1)
 
-member_utf8 : (later : Bool) (k : String Global) (l : List ℕ) (d : Data) (ms : Members) → string_bytes k ≡ l → IsUtf8 (compact_text d) → IsUtf8 (members_text true ms) → IsUtf8 (members_text later (member l d ms))
+pub member_utf8 : (later : Bool) (k : String Global) (l : List ℕ) (d : Data) (ms : Members) → string_bytes k ≡ l → IsUtf8 (compact_text d) → IsUtf8 (members_text true ms) → IsUtf8 (members_text later (member l d ms))
 member_utf8 later k l d ms is this more =
     let key = subst (λ s. IsUtf8 (quoted s)) is (IsUtf8-quoted (string_bytes k) (IsUtf8-string_bytes k)) in
     IsUtf8-append (comma_if later) _ (comma_utf8 later) (IsUtf8-append (quoted l) _ key (opened_utf8 58 _ refl (IsUtf8-append (compact_text d) _ this more)))
@@ -345,10 +346,25 @@ spelled_bytes bytes text kept same utf8 made =
     let is : read bytes ≡ Some made.0 = subst (λ s. read s ≡ Some made.0) same made.1 in
     spelled bytes made.0 (json_read bytes made.0 utf8 is) made.2 ∙ ap Some (sym made.3)
 
-pub kept_spelled : (bytes kept : List ℕ) → IsUtf8 kept → SpellsMetadata (tokens bytes) [] kept → spelling_of kept ≡ Some kept
-kept_spelled bytes kept utf8 made =
-    let d = made.0 in
-    let whole = (and_parts (is_some (as_object d)) _ made.2).1 in
+metadata_read : (bytes : List ℕ) (o : Option Data) → json_of bytes ≡ o → (text : List ℕ) → option_map compact_text (option_and_then if_metadata o) ≡ Some text → (d : Data) × (read bytes ≡ Some d) × (is_metadata d ≡ true) × (text ≡ compact_text d)
+metadata_read bytes None is text spelling = absurd cc
+metadata_read bytes (Some d) is text spelling = by_kind (is_metadata d) refl
+  where
+    by_kind : (b : Bool) → is_metadata d ≡ b → (e : Data) × (read bytes ≡ Some e) × (is_metadata e ≡ true) × (text ≡ compact_text e)
+    by_kind true good =
+        let some : Some (compact_text d) ≡ Some text = sym (ap (option_map compact_text) (ap (λ b. if b then Some d else None) good)) ∙ spelling in
+        (d, json_is_read bytes d is, good, grind arith)
+    by_kind false other =
+        let none : None ≡ Some text = sym (ap (option_map compact_text) (ap (λ b. if b then Some d else None) other)) ∙ spelling in
+        absurd cc
+
+-- a spelling spells itself
+pub spelling_kept : (bytes text : List ℕ) → spelling_of bytes ≡ Some text → IsUtf8 text → spelling_of text ≡ Some text
+unfolding spelling_of metadata_of
+spelling_kept bytes text spelling utf8 =
+    let found = metadata_read bytes (json_of bytes) refl text spelling in
+    let d = found.0 in
+    let whole = (and_parts (is_some (as_object d)) _ found.2).1 in
     let none = not_true (has_float d) (and_parts (not (has_float d)) _ whole).0 in
-    let back : read kept ≡ Some d = ap read made.3 ∙ printed d (read_sound bytes d made.1) none (depth-read bytes d made.1) in
-    spells_itself d kept utf8 made.2 (λ _. made.3) (λ _. back)
+    let back : read text ≡ Some d = ap read found.3 ∙ printed d (read_sound bytes d found.1) none (depth-read bytes d found.1) in
+    spells_itself d text utf8 found.2 (λ _. found.3) (λ _. back)

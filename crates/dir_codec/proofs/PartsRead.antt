@@ -1,5 +1,5 @@
 -- Children JSON of which parts were read.
-use Rattle.std.proofs.Common.{◌≡◌, ◌≢◌, ℕ, ◌-◌, ◌≤◌, List, [], length, Option, Some, None, option_and_then, option_map, Err, refl, sym, ap, ◌∙◌, subst}
+use Rattle.std.proofs.Common.{◌≡◌, ◌≢◌, ℕ, ◌-◌, List, [], Option, Some, None, option_and_then, option_map, Err, IsUtf8, refl, sym, ap, ◌∙◌, subst}
 use Rattle.json.specs.Token.{Token, begin_object}
 use Rattle.json.specs.Lex.{tokens}
 use Rattle.json.specs.Json as json
@@ -11,13 +11,12 @@ use Rattle.serde_json.specs.Read.{of_members, max_depth}
 use Rattle.dir_codec.specs.Children.{making}
 use Rattle.dir_codec.specs.Collected.{object_behind, IsBehindBrace, IsPartUpTo, AreEntered, AreMembersRead, with_before}
 use Rattle.dir_codec.specs.Collecting.{IsCollecting}
-use Rattle.dir_codec.specs.Piecewise.{IsRefusedBehind, IsReadingAt, place_reached}
+use Rattle.dir_codec.specs.Piecewise.{HasNoObjectBehind}
+use Rattle.dir_codec.specs.Readings.{IsReadingAt}
 use Rattle.dir_codec.specs.Kept.{Outcome, AreOutcomes}
 use Rattle.dir_codec.specs.Metadata.{json_of}
 use Rattle.dir_codec.specs.declared.collecting.Collecting.{Collecting}
-use Rattle.dir_codec.specs.declared.fault.DirFault.{DirFault}
 use Rattle.dir_codec.specs.declared.fault.DirFault.TheVariants.{NotJson}
-use Rattle.dir_codec.specs.declared.piecewise.Reading.{Reading}
 use Rattle.dir_codec.proofs.Braces.{FirstLaw}
 use Rattle.dir_codec.proofs.Joining.{TurnLaw, of_whole, with_part, with_last, empty_part, empty_last, made_before, made_of_none, none_kept, some_kept, some_put, no_front, none_with}
 use Rattle.dir_codec.proofs.Json.{json_read, json_refused}
@@ -58,15 +57,6 @@ no_parts found ts is none =
 
 no_value : (found : List Outcome) (ts : List Token) → AreMembersRead found ts → found ≡ [] → whole_value max_depth ts ≡ Some (json.object json.no_members)
 no_value found ts is none = is.value ∙ ap (λ ms. Some (json.object ms)) (no_parts found ts is none)
-
--- ---- how much was read
-
-read_at_most : (bytes : List ℕ) (at : ℕ) (o : Option Reading) → at ≤ length bytes → IsReadingAt bytes at o → place_reached at o ≤ length bytes
-read_at_most bytes at None within read = within
-read_at_most bytes at (Some reading) within read = read.looked.searched.within
-
-pub read_within : (bytes : List ℕ) (g : Collecting) → IsCollecting bytes g → place_reached g.at g.reading ≤ length bytes
-read_within bytes g before = read_at_most bytes g.at g.reading before.within before.reading
 
 -- ---- before the first part
 
@@ -119,6 +109,12 @@ all_read bytes text g found outcomes before part is some put_in =
     let made = made_before before.parts is.parts no_members ∙ ap (option_and_then (of_members is.parts)) before.read ∙ put.1 in
     (put.0, json_read bytes (object put.0) (all_text bytes text g.at before.utf8 part.part part.utf8) (ap of_whole value ∙ ap (option_map object) made), put_in before.members put.0 before.outcomes put.2)
 
+-- the same where nothing was read before
+pub whole_read : (bytes : List ℕ) (found outcomes : List Outcome) → IsUtf8 bytes → AreMembersRead found (tokens bytes) → IsPutIn [] outcomes found → AreAll bytes outcomes
+whole_read bytes found outcomes utf8 is put_in =
+    let put = is.put no_members in
+    (put.0, json_read bytes (object put.0) utf8 (ap of_whole is.value ∙ ap (option_map object) put.1), put_in no_members put.0 tt put.2)
+
 -- the object has no members
 pub none_read : (bytes text : List ℕ) (g : Collecting) (found : List Outcome) → IsCollecting bytes g → IsTextPart bytes g.at text None → AreMembersRead found (tokens text) → found ≡ [] → g.outcomes.entries ≡ []
     → AreAll bytes g.outcomes.entries
@@ -135,9 +131,8 @@ refused : (bytes : List ℕ) → of_whole (value_of bytes) ≡ None → making b
 refused bytes none = no_json bytes (json_refused bytes (λ _. none))
 
 -- what stands behind the members that were read makes no object
-pub behind_refused : (bytes : List ℕ) (g : Collecting) (fault : DirFault) → IsCollecting bytes g → IsRefusedBehind bytes g.at fault → making bytes ≡ Err fault
-behind_refused bytes g fault before none =
-    no_json bytes (json_refused bytes (λ utf8. ap of_whole before.value ∙ none_with before.parts (value_of (object_behind g.at bytes)) (none.1 utf8))) ∙ ap (λ f. Err f) (sym none.0)
+pub behind_refused : (bytes : List ℕ) (g : Collecting) → IsCollecting bytes g → HasNoObjectBehind bytes g.at → making bytes ≡ Err NotJson
+behind_refused bytes g before none = no_json bytes (json_refused bytes (λ utf8. ap of_whole before.value ∙ none_with before.parts (value_of (object_behind g.at bytes)) (none utf8)))
 
 -- a part of which nothing is made
 pub nothing_behind : CutLaws → (bytes text : List ℕ) (at : ℕ) (next : Option ℕ) → IsPartUpTo bytes at text next → of_whole (value_of text) ≡ None → of_whole (value_of (object_behind at bytes)) ≡ None

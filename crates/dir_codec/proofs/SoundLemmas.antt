@@ -72,7 +72,7 @@ put_sound_at Less k l d e ms is s all rest = (s, (is, below_trans k l ms is all.
 put_sound_at Equal k l d e ms is s all rest = (s, all.1, all.2)
 put_sound_at Greater k l d e ms is s all rest = (all.0, below_put l k d ms (nat_list_cmp_total.antisymm l k ∙ ap ordering_reverse is) all.1, rest)
 
-put_sound : (k : List ℕ) (d : Data) (ms : Members) → IsSound d → MembersAreSound ms → MembersAreSound (put k d ms)
+pub put_sound : (k : List ℕ) (d : Data) (ms : Members) → IsSound d → MembersAreSound ms → MembersAreSound (put k d ms)
 put_sound k d no_members s all = (s, tt, tt)
 put_sound k d (member l e ms) s all = put_sound_at (slice_cmp nat_cmp k l) k l d e ms refl s all (put_sound k d ms s all.2)
 
@@ -107,3 +107,6 @@ made_sound j d is = subst (Holds IsSound) is (json_sound j)
 
 pub members_made_sound : (js : json.Members) (ms : Members) → of_members js no_members ≡ Some ms → MembersAreSound ms
 members_made_sound js ms is = subst (Holds MembersAreSound) is (members_sound js no_members tt)
+
+pub data_sound : (j : json.Json) (d : Data) → of_json j ≡ Some d → IsSound d
+data_sound j d is = subst (Holds IsSound) is (json_sound j)

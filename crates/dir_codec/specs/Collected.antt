@@ -11,7 +11,6 @@ use Rattle.json_members.specs.JoinedObjects.{joined_objects}
 use Rattle.serde_json.specs.Data.{Data, Members, put}
 use Rattle.serde_json.specs.Read.{of_members, max_depth}
 use Rattle.dir_codec.specs.Kept.{Outcome, IsOutcome}
-use Rattle.dir_codec.specs.declared.cutting.Part.{Part}
 
 -- what stands behind a place, as the text of an object
 abbrev pub object_behind : ℕ → List ℕ → List ℕ
@@ -27,9 +26,6 @@ pub record IsBehindBrace (text : List ℕ) (at : ℕ) : Type 0 where
 abbrev pub IsPartUpTo : List ℕ → ℕ → List ℕ → Option ℕ → Type 0
 IsPartUpTo text at part None = part ≡ object_behind at text
 IsPartUpTo text at part (Some next) = (at < next) × (next ≤ length text) × IsMemberCut (object_behind at text) (next - at) × (part ≡ front_object (object_behind at text) (next - at))
-
-abbrev pub IsPart : List ℕ → ℕ → Part → Type 0
-IsPart text at part = IsPartUpTo text at part.text.items part.next
 
 -- outcomes, put in one after another, are of members that were put in so
 abbrev pub AreEntered : List Outcome → Members → Members → Type 0

@@ -1,5 +1,5 @@
 -- How far the reading of children JSON is; for private clauses.
-use Rattle.std.specs.Prelude.{◌≡◌, ℕ, ◌<◌, ◌≤◌, ⊤, List, length, take, Some, Err}
+use Rattle.std.specs.Prelude.{◌≡◌, ◌⊎◌, ℕ, ◌<◌, ◌≤◌, ⊤, List, length, take, Some, Err}
 use Rattle.std.specs.Str.{IsUtf8}
 use Rattle.json.specs.Lex.{tokens}
 use Rattle.json.specs.Json as json
@@ -10,9 +10,10 @@ use Rattle.dir_codec.specs.Children.{making}
 use Rattle.dir_codec.specs.Collected.{object_behind, with_before}
 use Rattle.dir_codec.specs.Kept.{AreOutcomes}
 use Rattle.dir_codec.specs.Metadata.{json_of}
-use Rattle.dir_codec.specs.Piecewise.{IsReadingAt, place_reached}
+use Rattle.dir_codec.specs.Readings.{IsReadingAt, IsLaterFrom}
 use Rattle.dir_codec.specs.declared.collecting.Collecting.{Collecting}
 use Rattle.dir_codec.specs.declared.collecting.Collected.{Collected}
+use Rattle.dir_codec.specs.declared.fault.DirFault.TheVariants.{NotJson}
 
 -- the members up to a place of the text were read
 pub record IsCollecting (text : List ℕ) (g : Collecting) : Type 0 where
@@ -29,10 +30,14 @@ pub record IsCollecting (text : List ℕ) (g : Collecting) : Type 0 where
 abbrev pub IsCollectedOn : List ℕ → Collected → Type 0
 IsCollectedOn text (Collected.More g) = IsCollecting text g
 IsCollectedOn text (Collected.All outcomes) = (ms : Members) × (json_of text ≡ Some (object ms)) × AreOutcomes outcomes.entries ms
-IsCollectedOn text (Collected.Refused fault outcomes) = making text ≡ Err fault
+IsCollectedOn text (Collected.Refused outcomes remains) = making text ≡ Err NotJson
 
--- more of the text was read, or looked through
+-- more of the text was read, or the members behind that are further
 abbrev pub IsFurther : Collecting → Collected → Type 0
-IsFurther g (Collected.More next) = place_reached g.at g.reading < place_reached next.at next.reading
-IsFurther g (Collected.All outcomes) = ⊤
-IsFurther g (Collected.Refused fault outcomes) = ⊤
+IsFurther g (Collected.More next) = (g.at < next.at) ⊎ ((g.at ≡ next.at) × IsLaterFrom g.at g.reading next.reading)
+IsFurther g other = ⊤
+
+-- a part that stands there was read
+abbrev pub IsPastPart : ℕ → Collected → Type 0
+IsPastPart at (Collected.More next) = at < next.at
+IsPastPart at other = ⊤

@@ -29,10 +29,24 @@ IsFieldAt None (Some d) = ⊥
 IsFieldAt (Some field) None = ⊥
 IsFieldAt (Some field) (Some d) = IsField field d
 
+-- the value that a field was, as far as a text is concerned
+abbrev pub IsTextField : Field → Data → Type 0
+IsTextField Field.Null d = d ≡ null
+IsTextField (Field.Text text) d = d ≡ string (string_bytes text)
+IsTextField (Field.Object spelled) d = (as_str d ≡ None) × (gives_write d ≡ true)
+IsTextField Field.Other d = (as_str d ≡ None) × (gives_write d ≡ true)
+
+-- the same where there may be none
+abbrev pub IsTextFieldAt : Option Field → Option Data → Type 0
+IsTextFieldAt None None = ⊤
+IsTextFieldAt None (Some d) = ⊥
+IsTextFieldAt (Some field) None = ⊥
+IsTextFieldAt (Some field) (Some d) = IsTextField field d
+
 -- the members that the fields of a child were
 pub record AreChildFields (fields : Fields) (ms : Members) : Type 0 where
-  pub ro_uri : IsFieldAt fields.ro_uri (get_member (codes "ro_uri") ms)
-  pub rw_uri : IsFieldAt fields.rw_uri (get_member (codes "rw_uri") ms)
+  pub ro_uri : IsTextFieldAt fields.ro_uri (get_member (codes "ro_uri") ms)
+  pub rw_uri : IsTextFieldAt fields.rw_uri (get_member (codes "rw_uri") ms)
   pub metadata : IsFieldAt fields.metadata (get_member (codes "metadata") ms)
 
 -- the fields of an object, None of another value

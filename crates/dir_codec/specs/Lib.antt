@@ -21,9 +21,13 @@ pub mod Collected
 pub mod TextMakers
 pub mod Speller
 pub mod TokenPieces
+pub mod PieceReaders
+pub mod MetadataSpellers
 pub mod Judge
 pub mod CommaSearch
 pub mod Judging
 pub mod MemberReader
 pub mod Piecewise
+pub mod Taking
+pub mod Readings
 pub mod Collecting

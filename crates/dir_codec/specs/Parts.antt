@@ -1,5 +1,5 @@
 -- The four texts of an entry.
-use Rattle.std.specs.Prelude.{ℕ, ◌==◌, List, length, drop, Option, Some, None, option_and_then, Result, Ok, Err, if◌then◌else◌}
+use Rattle.std.specs.Prelude.{ℕ, ◌==◌, List, length, drop, Option, Some, None, option_map, option_and_then, Result, Ok, Err, if◌then◌else◌}
 use Rattle.tag_hash.specs.NetstringAt.{netstring_at, span_bytes}
 use Rattle.tag_hash.specs.declared.netstrings.Span.{Span}
 use Rattle.tag_hash.specs.declared.netstrings.NetFault.{NetFault}
@@ -37,3 +37,7 @@ texts_before rest None = None
 -- the four texts of the entry that bytes begin with, and what follows it
 abbrev pub first_entry : List ℕ → Option (EntryTexts × List ℕ)
 first_entry bytes = option_and_then (λ found. texts_before found.1 (four_texts found.0)) (first_netstring bytes)
+
+-- the metadata of the entry that bytes begin with
+abbrev pub first_metadata : List ℕ → Option (List ℕ)
+first_metadata bytes = option_map (λ (found : EntryTexts × List ℕ). found.0.metadata) (first_entry bytes)

@@ -1,24 +1,20 @@
 -- Members of children JSON that are read a piece of their text at a time; for private clauses.
-use Rattle.std.specs.Prelude.{◌≡◌, ⊤, ℕ, ◌+◌, ◌-◌, ◌<◌, ◌≤◌, nat_lt, List, [], ◌∷◌, ◌++◌, length, take, drop, Bool, true, false, Option, Some, None, IfSome}
+use Rattle.std.specs.Prelude.{◌≡◌, ⊤, ℕ, ◌+◌, ◌-◌, ◌<◌, ◌≤◌, nat_lt, List, [], ◌∷◌, ◌++◌, length, take, drop, Bool, true, false, Option, None, IfSome}
 use Rattle.std.specs.Str.{IsUtf8}
 use Rattle.json.specs.Token.{Token}
 use Rattle.json.specs.Lex.{Mode, between, tokens}
 use Rattle.json_members.specs.MemberCuts.{IsMemberCutFrom, IsMemberCut}
 use Rattle.json_seams.specs.Modes.{mode_after, is_outside}
 use Rattle.dir_codec.specs.CommaSearch.{IsSearched}
-use Rattle.dir_codec.specs.Collected.{object_behind, IsPartUpTo, IsPart, AreMembersRead}
-use Rattle.dir_codec.specs.MemberReader.{IsReading}
+use Rattle.dir_codec.specs.Collected.{object_behind, IsPartUpTo}
 use Rattle.dir_codec.specs.Spelled.{data_of}
 use Rattle.dir_codec.specs.TokenPieces.{tokens_behind}
 use Rattle.dir_codec.specs.declared.cutting.Behind.{Behind}
 use Rattle.dir_codec.specs.declared.cutting.Looked.{Looked}
 use Rattle.dir_codec.specs.declared.cutting.NextPiece.{NextPiece}
-use Rattle.dir_codec.specs.declared.cutting.Part.{Part}
 use Rattle.dir_codec.specs.declared.cutting.Piece.{Piece}
-use Rattle.dir_codec.specs.declared.fault.DirFault.{DirFault}
-use Rattle.dir_codec.specs.declared.fault.DirFault.TheVariants.{NotJson}
-use Rattle.dir_codec.specs.declared.piecewise.ReadOn.{ReadOn}
-use Rattle.dir_codec.specs.declared.piecewise.Reading.{Reading}
+use Rattle.dir_codec.specs.declared.part_reader.PartRead.{PartRead}
+use Rattle.dir_codec.specs.declared.part_reader.PartReader.{PartReader}
 
 -- ---- how far the text was looked through
 
@@ -72,42 +68,33 @@ abbrev pub is_inner_comma : Behind → Bool
 is_inner_comma (Behind.Comma next) = true
 is_inner_comma (Behind.End next) = false
 
--- ---- how far members are read
+-- ---- how far members are read, by what takes their tokens, where a relation says which ones it took
 
 -- What stands at a place up to another was read, as the beginning of an object: nothing, or what ends with a value and a
 -- comma.
-pub record IsReadSoFar (json : List ℕ) (at : ℕ) (reading : Reading) : Type 0 where
+pub record IsReadSoFar {T : Type 0} (took : List Token → T → Type 0) (json : List ℕ) (at : ℕ) (reader : PartReader T) : Type 0 where
   pub read : List Token
-  pub begun : reading.looked.at ≡ at
-  pub looked : IsLooked json reading.looked
+  pub begun : reader.looked.at ≡ at
+  pub looked : IsLooked json reader.looked
   pub before : IsUtf8 (take at json)
-  pub utf8 : IsUtf8 (read_to at reading.looked.end json)
-  pub reader : IsReading read reading.reader
-  pub joined : (rest : List ℕ) → tokens (read_to at reading.looked.end json ++ rest) ≡ read ++ tokens_behind (nat_lt at reading.looked.end) (tokens rest)
+  pub utf8 : IsUtf8 (read_to at reader.looked.end json)
+  pub taken : took read reader.taker
+  pub joined : (rest : List ℕ) → tokens (read_to at reader.looked.end json ++ rest) ≡ read ++ tokens_behind (nat_lt at reader.looked.end) (tokens rest)
 
--- the reading goes on, or the members of a part were read
-abbrev pub IsReadOn : List ℕ → ℕ → ℕ → ReadOn → Type 0
-IsReadOn json at reached (ReadOn.More next) = IsReadSoFar json at next × (reached < next.looked.search.reached)
-IsReadOn json at reached (ReadOn.All found next) =
-    (text : List ℕ) × IsPartUpTo json at text next × IsUtf8 text × AreMembersRead found.items (tokens text) × IfSome next (λ n. reached < n)
+-- the tokens of a part were taken
+pub record IsPartTaken {T : Type 0} (took : List Token → T → Type 0) (json : List ℕ) (at : ℕ) (taker : T) (next : Option ℕ) : Type 0 where
+  pub text : List ℕ
+  pub part : IsPartUpTo json at text next
+  pub utf8 : IsUtf8 text
+  pub taken : took (tokens text) taker
 
--- why what stands there makes no object
-abbrev pub IsRefusedBehind : List ℕ → ℕ → DirFault → Type 0
-IsRefusedBehind json at fault = (fault ≡ NotJson) × (IsUtf8 json → data_of (tokens (object_behind at json)) ≡ None)
+-- what stands there makes no object
+abbrev pub HasNoObjectBehind : List ℕ → ℕ → Type 0
+HasNoObjectBehind json at = IsUtf8 json → data_of (tokens (object_behind at json)) ≡ None
 
--- what is read of a part, or why nothing is, wherever it stands
-abbrev pub IsPartRead : Part → ReadOn → Type 0
-IsPartRead part on = (json : List ℕ) (at reached : ℕ) → IsPart json at part → IfSome part.next (λ next. reached < next) → IsReadOn json at reached on
-
-abbrev pub IsPartRefused : Part → DirFault → Type 0
-IsPartRefused part fault = (json : List ℕ) (at : ℕ) → at ≤ length json → IsUtf8 (take at json) → IsPart json at part → IsRefusedBehind json at fault
-
--- what was read of members that are under way, if some are
-abbrev pub IsReadingAt : List ℕ → ℕ → Option Reading → Type 0
-IsReadingAt json at None = ⊤
-IsReadingAt json at (Some reading) = IsReadSoFar json at reading
-
--- the place up to which was read, or looked through
-abbrev pub place_reached : ℕ → Option Reading → ℕ
-place_reached at None = at
-place_reached at (Some reading) = reading.looked.search.reached
+-- the reading goes on, or the tokens of a part were taken, or no JSON has them
+abbrev pub IsPartReadOn : {T : Type 0} → (List Token → T → Type 0) → List ℕ → ℕ → ℕ → PartRead T → Type 0
+IsPartReadOn took json at reached (PartRead.More next) = IsReadSoFar took json at next × (reached < next.looked.search.reached)
+IsPartReadOn took json at reached (PartRead.All taker next) = IsPartTaken took json at taker next
+IsPartReadOn took json at reached (PartRead.NotJson taker) = HasNoObjectBehind json at
+IsPartReadOn took json at reached PartRead.NotRising = ⊤

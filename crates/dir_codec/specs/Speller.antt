@@ -7,9 +7,9 @@ use Rattle.std.specs.Str.{IsUtf8}
 use Rattle.json.specs.Token.{Token}
 use Rattle.json.specs.Json.{Json}
 use Rattle.json.specs.Print.{quoted}
-use Rattle.json_stack.specs.Machine.{Frame, in_array, in_object, in_member, StackState, reading, done, failed, awaits_value, value_ended, next_state, state_after, result_of}
+use Rattle.json_stack.specs.Machine.{Frame, in_array, in_object, in_member, StackState, reading, done, failed, awaits_value, value_ended, next_state, state_after, start_state, result_of}
 use Rattle.serde_json.specs.Data.{Data, Items, no_items, item, Members, no_members, member, depth, items_depth, members_depth}
-use Rattle.serde_json.specs.Read.{of_json, of_items, of_members}
+use Rattle.serde_json.specs.Read.{of_json, of_items, of_members, max_depth}
 use Rattle.serde_json.specs.Written.{has_float, items_have_float, members_have_float, comma_if, compact_text}
 use Rattle.dir_codec.specs.Spelled.{IsExtent, IsSpelled, rises}
 use Rattle.dir_codec.specs.declared.spelling.Spelled.{Spelled}
@@ -211,3 +211,9 @@ IsEnded s spelled = (j : Json) × (d : Data) × (s ≡ done j) × (of_json j ≡
 -- or it is still reading
 abbrev pub IsUnended : StackState → Speller → Speller → Type 0
 IsUnended s old new = (room : ℕ) × (frames : List Frame) × (s ≡ reading room frames) × (new ≡ old)
+
+-- ---- all tokens of a text
+
+-- these tokens came to a speller of as many levels as are read
+abbrev pub HasSpelled : List Token → Speller → Type 0
+HasSpelled ts speller = FollowsMachine (state_after (start_state max_depth) ts) speller

@@ -1,6 +1,8 @@
 -- The text of the directory that children JSON names, as far as it is made.
-use Rattle.std.specs.Prelude.{◌≡◌, ◌+◌, ◌<◌, ◌++◌, ⊤, length, List, [], ℕ, option_map, Ok, Option, None}
+use Rattle.std.specs.Prelude.{◌≡◌, ◌+◌, ◌<◌, ◌≤◌, ◌++◌, ⊤, length, List, [], ℕ, option_map, Ok, Option, Some, None}
 use Rattle.serde_json.specs.Data.{Members}
+use Rattle.json_tree.specs.Remains.{parts_left}
+use Rattle.json_tree.specs.declared.remains.Remains.{Remains}
 use Rattle.dir_codec.specs.Children.{making, made, making_after}
 use Rattle.dir_codec.specs.DirectoryText.{directory_text}
 use Rattle.dir_codec.specs.Named.{entries_of}
@@ -8,6 +10,7 @@ use Rattle.dir_codec.specs.Kept.{AreBefore}
 use Rattle.dir_codec.specs.Collecting.{IsCollecting, IsFurther}
 use Rattle.dir_codec.specs.declared.entry.Entry.{Entry}
 use Rattle.dir_codec.specs.declared.collecting.Collected.{Collected}
+use Rattle.dir_codec.specs.declared.text_maker.Leavings.{Leavings}
 use Rattle.dir_codec.specs.declared.text_maker.MakerStage.{MakerStage}
 use Rattle.dir_codec.specs.declared.text_maker.TextMaker.{TextMaker}
 use Rattle.dir_codec.specs.declared.text_maker.TextMaking.{TextMaking}
@@ -19,7 +22,7 @@ IsMakerStage json MakerStage.Unopened = ⊤
 IsMakerStage json (MakerStage.Collecting collecting) = IsCollecting json collecting
 IsMakerStage json (MakerStage.Naming left children) = (ms : Members) × (making json ≡ making_after [] ms) × AreBefore children.entries left.entries ms
 IsMakerStage json (MakerStage.Writing left text) = (entries : List Entry) × (making json ≡ Ok entries) × (text.items ++ directory_text (entries_of left.entries) ≡ directory_text entries)
-IsMakerStage json (MakerStage.Refused outcomes children) = made json ≡ None
+IsMakerStage json (MakerStage.Refused leavings) = made json ≡ None
 
 -- a maker stands in the JSON
 abbrev pub IsTextMaker : List ℕ → TextMaker → Type 0
@@ -36,6 +39,19 @@ IsTextMadeOn json (Done text) = option_map (λ bytes. bytes.items) text ≡ text
 
 -- ---- a maker comes to an end
 
+-- the parts that are left of a tree, if there is one
+abbrev pub tree_parts : Option Remains → ℕ
+tree_parts None = 0
+tree_parts (Some remains) = parts_left remains
+
+-- how much has yet to be let go of
+abbrev pub leaving_count : Leavings → ℕ
+leaving_count leavings = length leavings.outcomes.entries + length leavings.children.entries + tree_parts leavings.tree
+
+-- no more than is let go of in a step
+abbrev pub AreFewLeavings : Leavings → Type 0
+AreFewLeavings leavings = (length leavings.outcomes.entries ≤ 1024) × (length leavings.children.entries ≤ 1024) × (tree_parts leavings.tree ≤ 1024)
+
 -- the stage comes behind the other one, or has less to do
 abbrev pub IsLaterStage : MakerStage → MakerStage → Type 0
 IsLaterStage MakerStage.Unopened MakerStage.Unopened = ⊥
@@ -45,13 +61,13 @@ IsLaterStage (MakerStage.Collecting collecting) (MakerStage.Collecting next) = I
 IsLaterStage (MakerStage.Collecting collecting) next = ⊤
 IsLaterStage (MakerStage.Naming left children) (MakerStage.Naming fewer named) = length fewer.entries < length left.entries
 IsLaterStage (MakerStage.Naming left children) (MakerStage.Writing named text) = ⊤
-IsLaterStage (MakerStage.Naming left children) (MakerStage.Refused outcomes named) = ⊤
+IsLaterStage (MakerStage.Naming left children) (MakerStage.Refused leavings) = ⊤
 IsLaterStage (MakerStage.Naming left children) next = ⊥
 IsLaterStage (MakerStage.Writing left text) (MakerStage.Writing fewer longer) = length fewer.entries < length left.entries
-IsLaterStage (MakerStage.Writing left text) (MakerStage.Refused outcomes named) = ⊤
+IsLaterStage (MakerStage.Writing left text) (MakerStage.Refused leavings) = ⊤
 IsLaterStage (MakerStage.Writing left text) next = ⊥
-IsLaterStage (MakerStage.Refused left children) (MakerStage.Refused fewer named) = length fewer.entries + length named.entries < length left.entries + length children.entries
-IsLaterStage (MakerStage.Refused left children) next = ⊥
+IsLaterStage (MakerStage.Refused leavings) (MakerStage.Refused fewer) = leaving_count fewer < leaving_count leavings
+IsLaterStage (MakerStage.Refused leavings) next = ⊥
 
 -- a maker that goes on has less to do than one at that stage
 abbrev pub IsLaterMaker : MakerStage → TextMaking → Type 0

@@ -7,7 +7,7 @@ ghost use Rattle.caps.specs.CapTexts.{cap_text};
 ghost use Rattle.caps.specs.Reading.{cap_reading};
 ghost use Rattle.dir_codec.specs.Entries.{is_child_cap, IsEntry};
 ghost use Rattle.dir_codec.specs.Children.{has_write, metadata_made, entry_of_fields, entry_made};
-ghost use Rattle.dir_codec.specs.Kept.{IsFieldAt, AreChildFields, IsChildNode};
+ghost use Rattle.dir_codec.specs.Kept.{IsFieldAt, IsTextFieldAt, AreChildFields, IsChildNode};
 ghost use Rattle.dir_codec.specs.Named.{entry_of_child};
 ghost use Rattle.dir_codec.specs.declared.fault.DirFault.TheVariants.{NoMemory};
 
@@ -87,7 +87,7 @@ fn read_fields(alloc: Global, name: &str, fields: Fields) -> Result<Child, DirFa
 
 /// The text that a field is.
 fn text_of(field: Option<Field>) -> Option<String>
-    ensures { (found : Option Data) → IsFieldAt field found
+    ensures { (found : Option Data) → IsTextFieldAt field found
         → option_map string_bytes result ≡ option_and_then as_str found }
 {
     match field {
@@ -101,7 +101,7 @@ fn text_of(field: Option<Field>) -> Option<String>
 
 /// Whether there is a write cap: neither null nor the empty text.
 fn has_write(field: &Option<Field>) -> bool
-    ensures { (found : Option Data) → IsFieldAt field.now found → result ≡ has_write found }
+    ensures { (found : Option Data) → IsTextFieldAt field.now found → result ≡ has_write found }
 {
     match field {
         None => false,

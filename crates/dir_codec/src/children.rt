@@ -1,20 +1,22 @@
 //! From the JSON that a client names children with to their directory.
-ghost use Rattle.std.specs.Prelude.{◌≡◌, ◌≢◌, ◌++◌, Ok, Err, IfOk, IfErr};
+ghost use Rattle.std.specs.Prelude.{◌≡◌, ◌≢◌, Ok, Err, Some, IfOk, IfErr};
+ghost use Rattle.json.specs.Token.{begin_object};
+ghost use Rattle.json.specs.Lex.{tokens};
+ghost use Rattle.json_members.specs.MemberCuts.{first_token};
 ghost use Rattle.serde_json.specs.Data.{Members, object};
 ghost use Rattle.dir_codec.specs.Children.{making};
-ghost use Rattle.dir_codec.specs.Collected.{IsBehindBrace};
 ghost use Rattle.dir_codec.specs.Kept.{AreOutcomes};
 ghost use Rattle.dir_codec.specs.Metadata.{json_of};
 ghost use Rattle.dir_codec.specs.Named.{entries_of};
 ghost use Rattle.dir_codec.specs.declared.fault.DirFault.TheVariants.{NoMemory};
 
 use crate::child::{Child, MemberOutcome};
-use crate::collecting::{Collected, Collecting};
+use crate::collecting::put_in;
 use crate::cutting::behind_brace;
 use crate::directory::Directory;
 use crate::entry::Entry;
 use crate::fault::DirFault;
-use crate::members::why_no_object;
+use crate::members::{read_members, why_no_object};
 use crate::naming::named_children;
 use octets::Text;
 use std::alloc::{AllocError, Global};
@@ -31,37 +33,33 @@ pub fn from_children_json(alloc: Global, json: &[u8]) -> Result<Directory, DirFa
     ensures made { IfOk result (λ directory. making json.now ≡ Ok directory) }
     ensures refused { IfErr result (λ fault. fault ≢ NoMemory → making json.now ≡ Err fault) }
 {
-    let Some(start) = behind_brace(json) else {
+    json_members::laws::objects_begin_with_a_brace();
+    let Some(_) = behind_brace(json) else {
         let Ok(text) = str::from_utf8(json) else {
             return Err(DirFault::NotJson);
         };
         return Err(why_no_object(alloc, text));
     };
-    let outcomes = collect(alloc, json, start)?;
+    let outcomes = collect(alloc, json)?;
     let children = named_children(alloc, outcomes)?;
     let entries = in_order(alloc, children)?;
     Ok(Directory::from_entries(entries))
 }
 
-/// What is made of each member of the object, by its key.
-fn collect(
-    alloc: Global,
-    json: &[u8],
-    start: usize,
-) -> Result<BTreeMap<String, MemberOutcome>, DirFault>
-    requires { IsBehindBrace json.now start }
+/// What is made of each member of the object that a text begins with, by its key.
+fn collect(alloc: Global, json: &[u8]) -> Result<BTreeMap<String, MemberOutcome>, DirFault>
+    requires { first_token (tokens json.now) ≡ Some begin_object }
     ensures ok { IfOk result (λ outcomes. (ms : Members) × (json_of json.now ≡ Some (object ms))
         × AreOutcomes outcomes.entries ms) }
     ensures err { IfErr result (λ fault. fault ≢ NoMemory → making json.now ≡ Err fault) }
 {
-    let mut collecting = Collecting::new(alloc, start);
-    'members: loop {
-        match collecting.step(alloc, json)? {
-            Collected::More(next) => collecting = next,
-            Collected::All(outcomes) => return Ok(outcomes),
-            Collected::Refused(fault, _) => return Err(fault),
-        }
-    }
+    let Ok(text) = str::from_utf8(json) else {
+        return Err(DirFault::NotJson);
+    };
+    let found = read_members(alloc, text)?;
+    let mut outcomes = BTreeMap::new(alloc);
+    put_in(&mut outcomes, found)?;
+    Ok(outcomes)
 }
 
 /// The entries of children, in order of their names.

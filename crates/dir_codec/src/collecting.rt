@@ -2,12 +2,13 @@
 ghost use Rattle.std.specs.Prelude.{◌≡◌, ℕ, List, [], None, IsTrue, ◌↔◌, OnOk, IfOk};
 ghost use Rattle.serde_json.specs.Data.{Members};
 ghost use Rattle.dir_codec.specs.Kept.{AreOutcomes};
-ghost use Rattle.dir_codec.specs.Collected.{IsBehindBrace, AreEntered};
-ghost use Rattle.dir_codec.specs.Collecting.{IsCollecting, IsCollectedOn, IsFurther};
+ghost use Rattle.dir_codec.specs.Collected.{IsBehindBrace, AreEntered, AreMembersRead};
+ghost use Rattle.dir_codec.specs.Collecting.{IsCollecting, IsCollectedOn, IsFurther, IsPastPart};
+ghost use Rattle.dir_codec.specs.Piecewise.{IsPartTaken};
 
 use crate::child::MemberOutcome;
-use crate::fault::{DirFault, is_memory};
 use crate::piecewise::{ReadOn, Reading};
+use json_tree::Remains;
 use std::alloc::{AllocError, Global};
 use std::collections::BTreeMap;
 
@@ -28,8 +29,9 @@ pub(crate) enum Collected {
     More(Collecting),
     /// What is made of each member of the object, by its key.
     All(BTreeMap<String, MemberOutcome>),
-    /// The text is no JSON: its fault, and what was made of the members before it.
-    Refused(DirFault, BTreeMap<String, MemberOutcome>),
+    /// The text is no JSON. What was made of the members before the fault, and what was built of those under way, is to be
+    /// let go of.
+    Refused(BTreeMap<String, MemberOutcome>, Option<Remains>),
 }
 
 impl Collecting {
@@ -50,45 +52,58 @@ impl Collecting {
     /// `AllocError` where memory is refused.
     pub(crate) fn step(self, alloc: Global, json: &[u8]) -> Result<Collected, AllocError>
         requires { IsCollecting json.now self }
-        ensures collected { IfOk result (λ collected. IsCollectedOn json.now collected) }
-        ensures further { IfOk result (λ collected. IsFurther self collected) }
+        ensures collected { IfOk result (IsCollectedOn json.now) }
+        ensures further { IfOk result (IsFurther self) }
     {
-        json_members::laws::a_cut_object_is_joined();
-        json_members::laws::objects_begin_with_a_brace();
-        json_members::laws::objects_are_joined_in_turn();
         let Collecting {
             at,
-            mut outcomes,
+            outcomes,
             reading,
         } = self;
         let reading = Reading::at(alloc, at, reading);
-        let (found, next) = match reading.go_on(alloc, json) {
-            Ok(ReadOn::All(found, next)) => (found, next),
-            Ok(ReadOn::More(reading)) => {
-                return Ok(Collected::More(Collecting {
-                    at,
-                    outcomes,
-                    reading: Some(reading),
-                }));
-            }
-            Err(fault) if is_memory(&fault) => return Err(AllocError),
-            Err(fault) => return Ok(Collected::Refused(fault, outcomes)),
-        };
-        if found.is_empty() {
-            if !is_alone(next, &outcomes) {
-                return Ok(Collected::Refused(DirFault::NotJson, outcomes));
-            }
-            return Ok(Collected::All(outcomes));
-        }
-        put_in(&mut outcomes, found)?;
-        match next {
-            Some(at) => Ok(Collected::More(Collecting {
+        match reading.go_on(alloc, json, at)? {
+            ReadOn::More(reading) => Ok(Collected::More(Collecting {
                 at,
                 outcomes,
-                reading: None,
+                reading: Some(reading),
             })),
-            None => Ok(Collected::All(outcomes)),
+            ReadOn::All(found, next) => with_part(json, at, outcomes, found, next),
+            ReadOn::NotJson(remains) => Ok(Collected::Refused(outcomes, remains)),
         }
+    }
+}
+
+/// With the outcomes of a part put in, behind those of the members before its place.
+fn with_part(
+    json: &[u8],
+    at: usize,
+    outcomes: BTreeMap<String, MemberOutcome>,
+    found: Vec<(String, MemberOutcome)>,
+    next: Option<usize>,
+) -> Result<Collected, AllocError>
+    requires before { IsCollecting json.now (record { at = at; outcomes = outcomes; reading = None }) }
+    requires part { IsPartTaken (λ ts es. AreMembersRead es ts) json.now at found.items next }
+    ensures collected { IfOk result (IsCollectedOn json.now) }
+    ensures further { IfOk result (IsPastPart at) }
+{
+    json_members::laws::a_cut_object_is_joined();
+    json_members::laws::objects_begin_with_a_brace();
+    json_members::laws::objects_are_joined_in_turn();
+    let mut outcomes = outcomes;
+    if found.is_empty() {
+        if !is_alone(next, &outcomes) {
+            return Ok(Collected::Refused(outcomes, None));
+        }
+        return Ok(Collected::All(outcomes));
+    }
+    put_in(&mut outcomes, found)?;
+    match next {
+        Some(at) => Ok(Collected::More(Collecting {
+            at,
+            outcomes,
+            reading: None,
+        })),
+        None => Ok(Collected::All(outcomes)),
     }
 }
 
@@ -100,7 +115,7 @@ fn is_alone(next: Option<usize>, outcomes: &BTreeMap<String, MemberOutcome>) -> 
 }
 
 /// Puts outcomes in at their keys, in the place of those that are there.
-fn put_in(
+pub(crate) fn put_in(
     outcomes: &mut BTreeMap<String, MemberOutcome>,
     found: Vec<(String, MemberOutcome)>,
 ) -> Result<(), AllocError>

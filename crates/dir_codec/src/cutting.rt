@@ -4,10 +4,10 @@ ghost use Rattle.json.specs.Token.{begin_object};
 ghost use Rattle.json.specs.Lex.{tokens};
 ghost use Rattle.json.specs.Word.{is_space};
 ghost use Rattle.json_members.specs.MemberCuts.{first_token};
-ghost use Rattle.dir_codec.specs.Collected.{IsBehindBrace, IsPart};
+ghost use Rattle.dir_codec.specs.Collected.{IsBehindBrace};
 ghost use Rattle.dir_codec.specs.Piecewise.{IsLooked, IsPieceSought};
 
-use crate::comma_search::{CommaSearch, STEP_BYTES};
+use crate::comma_search::CommaSearch;
 use json_members::MemberScanner;
 use std::alloc::{AllocError, Global};
 
@@ -33,15 +33,6 @@ fn is_space(byte: u8) -> bool
     ensures { result ≡ is_space byte }
 {
     matches!(byte, b' ' | b'\t' | b'\n' | b'\r')
-}
-
-/// Some members of an object, as the text of an object.
-#[derive(Drop)]
-pub(crate) struct Part {
-    /// The text, in braces.
-    pub(crate) text: Vec<u8>,
-    /// The place behind the comma that it ends at. None where it is the rest.
-    pub(crate) next: Option<usize>,
 }
 
 /// What was looked through of children JSON.
@@ -75,38 +66,6 @@ impl Looked {
             scanner,
         }
     }
-}
-
-/// The members from where the looking began: up to the last comma between members in the first 65,536 bytes behind what was
-/// looked through that have one, or the rest.
-pub(crate) fn next_part(alloc: Global, json: &[u8], looked: &Looked) -> Result<Part, AllocError>
-    requires { IsLooked json.now looked.now }
-    ensures part { IfOk result (λ part. IsPart json.now looked.now.at part) }
-    ensures ahead { IfOk result (λ part. IfSome part.next (λ next. looked.now.search.reached < next)) }
-{
-    json_members::laws::member_cuts_are_found_in_parts();
-    let at = looked.at;
-    let mut end = looked.search.reached;
-    let mut scanner = looked.scanner;
-    let mut text = Vec::new(alloc);
-    text.push(b'{')?;
-    text.extend_from_slice(&json[at..end])?;
-    'windows: while end < json.len() {
-        let start = end;
-        end = json.len().min(start.saturating_add(STEP_BYTES));
-        let window = &json[start..end];
-        let cut = scanner.last_cut(window);
-        if let Some(cut) = cut {
-            text.extend_from_slice(&window[..cut])?;
-            text.push(b'}')?;
-            return Ok(Part {
-                text,
-                next: Some(start + cut + 1),
-            });
-        }
-        text.extend_from_slice(window)?;
-    }
-    Ok(Part { text, next: None })
 }
 
 /// A piece of the text of members.

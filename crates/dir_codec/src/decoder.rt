@@ -1,5 +1,5 @@
 //! From a text to the directory whose text it is.
-ghost use Rattle.std.specs.Prelude.{◌≡◌, ◌≢◌, IfOk, IfErr, Ok, Err, MatchOption, true, false};
+ghost use Rattle.std.specs.Prelude.{◌≡◌, ◌≢◌, ℕ, List, Some, IfOk, IfErr, Ok, Err, MatchOption, true, false};
 ghost use Rattle.std.specs.Ordering.{nat_cmp, is_lt};
 ghost use Rattle.std.specs.Cmp.Lexicographic.{slice_cmp};
 ghost use Rattle.caps.specs.CapTexts.{cap_text};
@@ -15,8 +15,9 @@ use crate::directory::Directory;
 use crate::entries::{last_name, read_first};
 use crate::entry::Entry;
 use crate::fault::DirFault;
-use crate::metadata::read_metadata;
+use crate::metadata::{spell_bytes, spelling_is_kept};
 use crate::parts::Parts;
+use crate::spelling::Keys;
 use caps::{Cap, parse_bytes};
 use octets::Text;
 use std::alloc::{AllocError, Global};
@@ -59,13 +60,27 @@ pub(crate) fn read_entry(alloc: Global, parts: Parts<'_>, last: &[u8]) -> Result
     ensures err { IfErr result (λ fault. fault ≢ NoMemory
         → entry_reading last.now (texts_now parts.entry) ≡ Err fault) }
 {
-    let Named { name, cap } = read_named(alloc, parts, last)?;
-    let metadata = read_metadata(alloc, parts.metadata)?;
-    Ok(Entry {
-        name,
-        cap,
-        metadata,
-    })
+    let named = read_named(alloc, parts, last)?;
+    let spelled = spell_bytes(alloc, parts.metadata, Keys::Rising)?;
+    named.with_metadata(spelled)
+}
+
+/// The same where the spelling of the metadata is known: they are not read.
+pub(crate) fn read_entry_spelled(
+    alloc: Global,
+    parts: Parts<'_>,
+    last: &[u8],
+    spelled: Option<Text>,
+) -> Result<Entry, DirFault>
+    requires { spelled ≡ spelling_of parts.metadata.now }
+    ensures ok { IfOk result (λ entry. entry_reading last.now (texts_now parts.entry) ≡ Ok entry) }
+    ensures kept { IfOk result (λ entry. IsEntry entry) }
+    ensures above { IfOk result (λ entry. IsAbove entry.name last.now) }
+    ensures err { IfErr result (λ fault. fault ≢ NoMemory
+        → entry_reading last.now (texts_now parts.entry) ≡ Err fault) }
+{
+    let named = read_named(alloc, parts, last)?;
+    named.with_metadata(spelled)
 }
 
 /// What an entry has beside its metadata.
@@ -75,6 +90,29 @@ pub(crate) struct Named {
     pub(crate) name: Text,
     /// The cap that reads the child.
     pub(crate) cap: Cap,
+}
+
+impl Named {
+    /// The entry, with the spelling of its metadata.
+    ///
+    /// # Errors
+    /// BadMetadata where they have none.
+    fn with_metadata(self, spelled: Option<Text>) -> Result<Entry, DirFault>
+        ensures made { result ≡ with_metadata self.name self.cap spelled }
+        ensures kept { IfOk result (λ entry. (bytes : List ℕ) → spelled ≡ spelling_of bytes
+            → spelling_of entry.metadata ≡ Some entry.metadata) }
+    {
+        let Named { name, cap } = self;
+        let Some(metadata) = spelled else {
+            return Err(DirFault::BadMetadata);
+        };
+        spelling_is_kept(&metadata);
+        Ok(Entry {
+            name,
+            cap,
+            metadata,
+        })
+    }
 }
 
 /// The same of four texts, after an entry of that name.

@@ -3,23 +3,18 @@ ghost use Rattle.std.specs.Prelude.{◌≡◌, ℕ, List, IfOk, is_some};
 ghost use Rattle.dir_codec.specs.Metadata.{spelling_of};
 ghost use Rattle.dir_codec.specs.Judging.{IsJudging, IsJudgedOn, IsJudgedBehind, IsJudgedSoFar, judged_bytes};
 
-use crate::comma_search::{CommaSearch, STEP_BYTES};
-use crate::fault::is_memory;
+use crate::comma_search::STEP_BYTES;
 use crate::judge::Judge;
-use crate::metadata::read_metadata;
-use crate::spelling::Stop;
-use crate::token_pieces::push_tokens;
+use crate::metadata::spell_bytes;
+use crate::piece_reader::{PieceReader, PiecesRead};
+use crate::spelling::Keys;
 use std::alloc::{AllocError, Global};
 
 /// Metadata that are judged, some of their text at a time.
 #[derive(Debug, Drop)]
 pub(crate) struct Judging {
-    /// How many bytes of the text were read: none, or those up to a value and a comma.
-    at: usize,
-    /// The search for the comma that the next part ends at.
-    search: CommaSearch,
-    /// What is known of what was read.
-    judge: Judge,
+    /// What was read, and what is known of it.
+    reader: PieceReader<Judge>,
 }
 
 /// How far the judging of metadata is.
@@ -47,7 +42,8 @@ pub(crate) fn judge(
             if text.len() > STEP_BYTES {
                 Judging::new(alloc).step(alloc, text)
             } else {
-                Ok(Judged::Done(are_metadata(alloc, text)?))
+                let spelled = spell_bytes(alloc, text, Keys::Rising)?;
+                Ok(Judged::Done(spelled.is_some()))
             }
         }
     }
@@ -56,12 +52,11 @@ pub(crate) fn judge(
 impl Judging {
     /// Before the first byte.
     fn new(alloc: Global) -> Judging
-        ensures { (text : List ℕ) → IsJudging text result }
+        ensures judging { (text : List ℕ) → IsJudging text result }
+        ensures reached { result.reader.search.reached ≡ 0 }
     {
         Judging {
-            at: 0,
-            search: CommaSearch::new(0),
-            judge: Judge::new(alloc),
+            reader: PieceReader::new(Judge::new(alloc)),
         }
     }
 
@@ -69,53 +64,14 @@ impl Judging {
     /// or the rest. Else with those looked through.
     fn step(self, alloc: Global, text: &[u8]) -> Result<Judged, AllocError>
         ensures judged { IfOk result (λ judged. IsJudging text.now self → IsJudgedOn text.now judged) }
-        ensures behind { IfOk result (λ judged. IsJudgedBehind text.now self.search.reached judged) }
+        ensures behind { IfOk result (λ judged. IsJudgedBehind text.now self.reader.search.reached judged) }
     {
-        json_seams::laws::a_cut_text_is_joined();
-        let Judging {
-            at,
-            mut search,
-            mut judge,
-        } = self;
-        if at > search.reached || search.reached > text.len() {
-            return Ok(Judged::Done(false));
-        }
-        let cut = search.step(text);
-        if cut.is_none() && search.reached < text.len() {
-            return Ok(Judged::More(Judging { at, search, judge }));
-        }
-        let end = cut.unwrap_or(text.len());
-        let Ok(part) = str::from_utf8(&text[at..end]) else {
-            return Ok(Judged::Done(false));
-        };
-        match push_tokens(alloc, &mut judge, part, at > 0, cut.is_some()) {
-            Ok(()) => match cut {
-                Some(cut) => Ok(Judged::More(Judging {
-                    at: cut + 1,
-                    search: CommaSearch::new(cut + 1),
-                    judge,
-                })),
-                None => Ok(Judged::Done(judge.finish())),
-            },
+        match self.reader.step(alloc, text)? {
+            PiecesRead::More(reader) => Ok(Judged::More(Judging { reader })),
+            PiecesRead::All(judge) => Ok(Judged::Done(judge.finish())),
+            PiecesRead::NotJson(_) => Ok(Judged::Done(false)),
             // A judge wants no order of keys: NotRising never comes.
-            Err(Stop::NotJson | Stop::NotRising) => Ok(Judged::Done(false)),
-            Err(Stop::NoMemory) => Err(AllocError),
-        }
-    }
-}
-
-/// Whether a text is metadata, judged at once.
-fn are_metadata(alloc: Global, text: &[u8]) -> Result<bool, AllocError>
-    ensures { IfOk result (λ is. is ≡ is_some (spelling_of text.now)) }
-{
-    match read_metadata(alloc, text) {
-        Ok(_) => Ok(true),
-        Err(fault) => {
-            if is_memory(&fault) {
-                Err(AllocError)
-            } else {
-                Ok(false)
-            }
+            PiecesRead::NotRising => Ok(Judged::Done(false)),
         }
     }
 }

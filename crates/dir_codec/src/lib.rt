@@ -24,6 +24,10 @@ mod text_maker;
 mod collecting;
 /// Reads members of children JSON a piece of their text at a time.
 mod piecewise;
+/// What takes the tokens of members, a piece of their text at a time.
+mod part_reader;
+/// What is made of members is taken from the tree of their values, some members at a time.
+mod taking;
 /// Reads the members of children JSON whose tokens come one at a time.
 mod member_reader;
 /// Pushes the tokens of a piece of a JSON text into what takes them one at a time.
@@ -48,6 +52,12 @@ mod metadata;
 mod spelling;
 /// The one spelling of JSON whose keys rise, written while its tokens come one at a time.
 mod speller;
+/// Reading JSON a piece of its text at a time.
+mod piece_reader;
+/// A tree takes the tokens of pieces.
+mod tree_tokens;
+/// Spelling long metadata, some of their text at a time.
+mod metadata_speller;
 /// Judging JSON whose tokens come one at a time.
 mod judge;
 /// Judging long metadata, some of their text at a time.
@@ -62,8 +72,9 @@ pub use children::from_children_json;
 pub use decoder::decode;
 pub use directory::Directory;
 pub use encoder::encode;
-pub use entries::read_first;
+pub use entries::{first_metadata, read_first, read_spelled};
 pub use entry::Entry;
 pub use fault::{DirFault, is_memory};
 pub use finder::{Finder, Finding, Sought, find_child};
+pub use metadata_speller::{MetadataSpeller, MetadataSpelling};
 pub use text_maker::{TextMaker, TextMaking, make_text};

@@ -23,14 +23,13 @@ use json::{Reader, Scratch, Token};
 use std::alloc::{AllocError, Global};
 
 /// What is made of each member of an object, in the order of the text. Where keys rise in each object that is a field, the
-/// texts of caps and metadata are in memory twice at most. How keys come is a guess, which costs time alone.
+/// texts of caps and metadata are in memory twice at most, and else they are read in a second pass.
 ///
 /// # Errors
 /// NotJson where the text is no JSON.
 pub(crate) fn read_members(
     alloc: Global,
     text: &str,
-    keys: Keys,
 ) -> Result<Vec<(String, MemberOutcome)>, DirFault>
     requires { first_token (tokens text.now) ≡ Some JsonToken.begin_object }
     ensures ok { IfOk result (λ outcomes. AreMembersRead outcomes.items (tokens text.now)) }
@@ -38,7 +37,7 @@ pub(crate) fn read_members(
     ensures json { result ≢ Err BadShape }
 {
     let mut scratch = Scratch::new(alloc);
-    match members_once(alloc, text, &mut scratch, keys) {
+    match members_once(alloc, text, &mut scratch, Keys::Rising) {
         Ok(found) => Ok(found),
         Err(Stop::NotJson) => Err(DirFault::NotJson),
         Err(Stop::NoMemory) => Err(DirFault::NoMemory),

@@ -1,28 +1,40 @@
 //! Metadata, and their one spelling.
-ghost use Rattle.std.specs.Prelude.{◌≡◌, ◌≢◌, Some, None, IfOk, IfErr};
+ghost use Rattle.std.specs.Prelude.{◌≡◌, ℕ, List, Some, IfOk};
 ghost use Rattle.dir_codec.specs.Metadata.{spelling_of};
-ghost use Rattle.dir_codec.specs.declared.fault.DirFault.TheVariants.{NoMemory, BadMetadata};
 
-use crate::fault::DirFault;
-use crate::spelling::spell_text;
+use crate::spelling::{Keys, spell_text};
 use octets::Text;
-use std::alloc::Global;
+use std::alloc::{AllocError, Global};
 
-/// The metadata that bytes are, in their one spelling.
-pub(crate) fn read_metadata(alloc: Global, bytes: &[u8]) -> Result<Text, DirFault>
-    ensures ok { IfOk result (λ text. spelling_of bytes.now ≡ Some text) }
-    ensures kept { IfOk result (λ text. spelling_of text ≡ Some text) }
-    ensures err { IfErr result (λ fault. fault ≢ NoMemory → spelling_of bytes.now ≡ None) }
-    ensures cause { IfErr result (λ fault. fault ≢ NoMemory → fault ≡ BadMetadata) }
+/// The one spelling of the metadata that bytes are, made at once, with a guess of how keys come in them. None where they
+/// are none.
+///
+/// # Errors
+/// `AllocError` where memory is refused, and never for what the bytes say.
+pub(crate) fn spell_bytes(
+    alloc: Global,
+    bytes: &[u8],
+    guess: Keys,
+) -> Result<Option<Text>, AllocError>
+    ensures { IfOk result (λ spelled. spelled ≡ spelling_of bytes.now) }
 {
     if bytes == b"{}".as_slice() {
-        return Ok(Text::from_string(String::from_str(alloc, "{}")?));
+        return Ok(Some(Text::from_string(String::from_str(alloc, "{}")?)));
     }
     let Ok(text) = str::from_utf8(bytes) else {
-        return Err(DirFault::BadMetadata);
+        return Ok(None);
     };
-    let Some(spelling) = spell_text(alloc, text)? else {
-        return Err(DirFault::BadMetadata);
+    let Some(spelling) = spell_text(alloc, text, guess)? else {
+        return Ok(None);
     };
-    Ok(Text::from_string(spelling))
+    Ok(Some(Text::from_string(spelling)))
+}
+
+/// A spelling of metadata is the spelling of itself.
+pub(crate) fn spelling_is_kept(spelled: &Text)
+    ensures { (bytes : List ℕ) → spelling_of bytes ≡ Some spelled.now
+        → spelling_of spelled.now ≡ Some spelled.now }
+{
+    // It is UTF-8, whatever the bytes are.
+    let _text = spelled.as_str();
 }

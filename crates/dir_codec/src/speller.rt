@@ -1,5 +1,5 @@
 //! The one spelling of JSON whose keys rise, written while its tokens come one at a time.
-ghost use Rattle.std.specs.Prelude.{◌≡◌, ◌≢◌, ◌+◌, ◌<◌, ◌≤◌, List, [], None, Some, Err, false, MatchOption, MatchResult, OnOk, IfOk, reverse};
+ghost use Rattle.std.specs.Prelude.{◌≡◌, ◌≢◌, ◌+◌, ◌<◌, ◌≤◌, List, [], ⊤, None, Some, Err, false, MatchOption, MatchResult, OnOk, IfOk, reverse, option_map, option_and_then};
 ghost use Rattle.json.specs.Token.{Token as JsonToken};
 ghost use Rattle.json.specs.Json.{Json};
 ghost use Rattle.json.specs.Print.{IsPrintable};
@@ -7,12 +7,16 @@ ghost use Rattle.json.specs.Reads.{token_of};
 ghost use Rattle.json_stack.specs.Machine.{StackState, start_state};
 ghost use Rattle.serde_json.specs.Data.{Data};
 ghost use Rattle.serde_json.specs.Read.{of_json};
+ghost use Rattle.serde_json.specs.Written.{compact_text};
+ghost use Rattle.dir_codec.specs.Metadata.{if_metadata};
 ghost use Rattle.dir_codec.specs.Spelled.{IsExtent, data_of, IsSpelled};
-ghost use Rattle.dir_codec.specs.Speller.{FollowsMachine, GoesOver, RefusesToken, IsBeforeValue, IsBehindValue, IsPlainValue, awaits, with_value, value_awaited, opened_after, is_array, is_object, IsEnded, IsUnended};
+ghost use Rattle.dir_codec.specs.Speller.{FollowsMachine, GoesOver, RefusesToken, IsBeforeValue, IsBehindValue, IsPlainValue, awaits, with_value, value_awaited, opened_after, is_array, is_object, IsEnded, IsUnended, HasSpelled};
 
 use crate::extent::Extent;
 use crate::spelling::{Spelled, Stop, put, rises, separate, spell_number};
+use crate::token_pieces::TakesTokens;
 use json::Token;
+use octets::Text;
 use std::alloc::{AllocError, Global};
 
 /// The spelling of a JSON value, as far as its tokens came.
@@ -200,6 +204,29 @@ impl Speller {
             return Ok(Spelled { text: out, extent });
         }
         Err(self)
+    }
+}
+
+impl Speller {
+    /// The one spelling of the metadata that came. None where the value has not ended, or is none.
+    pub(crate) fn into_metadata(self) -> Option<Text>
+        ensures { (ts : List JsonToken) → HasSpelled ts self
+            → result ≡ option_map compact_text (option_and_then if_metadata (data_of ts)) }
+    {
+        match self.spelled() {
+            Ok(spelled) => spelled.into_metadata(),
+            Err(_) => None,
+        }
+    }
+}
+
+impl TakesTokens for Speller {
+    ghost took = { HasSpelled };
+
+    ghost wants_order = { ⊤ };
+
+    fn push(&mut self, alloc: Global, token: Token<'_>) -> Result<(), Stop> {
+        self.go_over(alloc, token)
     }
 }
 

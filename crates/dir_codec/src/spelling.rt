@@ -8,15 +8,18 @@ ghost use Rattle.json.specs.Print.{IsPrintable, quoted, token_text};
 ghost use Rattle.json.specs.Run.{is_plain};
 ghost use Rattle.std.specs.List.{list_all};
 ghost use Rattle.json.specs.Reads.{token_of};
-ghost use Rattle.serde_json.specs.Data.{Num, Members, no_members};
+ghost use Rattle.serde_json.specs.Data.{Num, Data, Members, no_members};
 ghost use Rattle.serde_json.specs.Find.{as_integer, is_float};
 ghost use Rattle.serde_json.specs.Read.{number_of, number_from, float_of, of_json, of_items, of_members, converted};
-ghost use Rattle.serde_json.specs.Written.{comma_if, number_text};
-ghost use Rattle.dir_codec.specs.Spelled.{IsExtent, SpellsValue, SpellsItems, SpellsMembers, AreSpelled, SpellsMetadata, AreNoMetadata, begins_object, rises, spelled_text, entries_levels, entries_fractional};
+ghost use Rattle.serde_json.specs.Written.{comma_if, compact_text, number_text};
+ghost use Rattle.dir_codec.specs.Metadata.{if_metadata, is_metadata};
+ghost use Rattle.dir_codec.specs.Sound.{IsSound};
+ghost use Rattle.dir_codec.specs.Spelled.{IsExtent, IsSpelled, SpellsValue, SpellsItems, SpellsMembers, AreSpelled, SpellsMetadata, AreNoMetadata, begins_object, rises, spelled_text, entries_levels, entries_fractional};
 
 use crate::extent::Extent;
 use fast_float::Numeral;
 use json::{Invalid, Reader, Scratch, Token, Writer};
+use octets::Text;
 use std::alloc::{AllocError, AllocFailed, Global};
 use std::collections::BTreeMap;
 
@@ -85,14 +88,42 @@ pub(crate) struct Spelled {
     pub(crate) extent: Extent,
 }
 
-/// The one spelling of the metadata that a text is, None where it is none. Where keys rise in each object, it takes
-/// some twice the text's bytes, and else some 20 to 25 times at most. `Err` only where memory is refused.
-pub(crate) fn spell_text(alloc: Global, text: &str) -> Result<Option<String>, AllocError>
+impl Spelled {
+    /// Whether the value is metadata: only an object's spelling begins with a brace.
+    pub(crate) fn is_metadata(&self) -> bool
+        ensures { (d : Data) → IsSound d → IsSpelled self.now d → result ≡ is_metadata d }
+    {
+        self.extent.fits() && self.text.first() == Some(&b'{')
+    }
+
+    /// The one spelling of the metadata. None where the value is none.
+    pub(crate) fn into_metadata(self) -> Option<Text>
+        ensures { (d : Data) → IsSound d → IsSpelled self d
+            → result ≡ option_map compact_text (if_metadata d) }
+    {
+        if !self.is_metadata() {
+            return None;
+        }
+        match String::from_utf8(self.text) {
+            Ok(text) => Some(Text::from_string(text)),
+            Err(_) => None,
+        }
+    }
+}
+
+/// The one spelling of the metadata that a text is, None where it is none, with a guess of how keys come in it. Where
+/// they rise in each object, it takes some twice the text's bytes, and else some 20 to 25 times at most. `Err` only where
+/// memory is refused.
+pub(crate) fn spell_text(
+    alloc: Global,
+    text: &str,
+    guess: Keys,
+) -> Result<Option<String>, AllocError>
     ensures { IfOk result (λ found. MatchOption found (AreNoMetadata (tokens text.now))
         (λ spelling. SpellsMetadata (tokens text.now) [] (string_bytes spelling))) }
 {
     let mut scratch = Scratch::new(alloc);
-    match spell_once(alloc, text, &mut scratch, Keys::Rising) {
+    match spell_once(alloc, text, &mut scratch, guess) {
         Ok(found) => Ok(found),
         Err(Stop::NotRising) => match spell_once(alloc, text, &mut scratch, Keys::Any) {
             Ok(found) => Ok(found),

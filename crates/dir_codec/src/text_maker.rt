@@ -1,8 +1,8 @@
 //! The text of the directory of the children that JSON names, made some members at a time.
-ghost use Rattle.std.specs.Prelude.{◌≡◌, ◌+◌, ◌-◌, ◌<◌, ◌≤◌, ◌++◌, ℕ, List, None, length, option_map, OnOk, IfOk};
+ghost use Rattle.std.specs.Prelude.{◌≡◌, ◌+◌, ◌-◌, ◌<◌, ◌≤◌, ◌++◌, ℕ, List, Ok, None, length, option_map, OnOk, IfOk, IfSome};
 ghost use Rattle.dir_codec.specs.DirectoryText.{directory_text};
 ghost use Rattle.dir_codec.specs.Named.{entries_of};
-ghost use Rattle.dir_codec.specs.TextMakers.{IsMakerStage, IsTextMaker, IsTextMadeOn, IsLaterMaker, text_made};
+ghost use Rattle.dir_codec.specs.TextMakers.{IsMakerStage, IsTextMaker, IsTextMadeOn, IsLaterMaker, AreFewLeavings, text_made, tree_parts};
 ghost use Rattle.dir_codec.specs.declared.text_maker.TextMaking.TheVariants.{Going, Done};
 
 use crate::child::{Child, MemberOutcome};
@@ -14,6 +14,7 @@ use crate::encoder::{encode, push_entry};
 use crate::entry::Entry;
 use crate::fault::{DirFault, is_memory};
 use crate::naming::name_some;
+use json_tree::Remains;
 use octets::Text;
 use std::alloc::{AllocError, Global};
 use std::collections::BTreeMap;
@@ -38,8 +39,19 @@ pub(crate) enum MakerStage {
     Naming(BTreeMap<String, MemberOutcome>, BTreeMap<String, Child>),
     /// The children are written.
     Writing(BTreeMap<String, Child>, Vec<u8>),
-    /// The JSON names no directory: what was made of its members is let go of.
-    Refused(BTreeMap<String, MemberOutcome>, BTreeMap<String, Child>),
+    /// The JSON names no directory: what was made and built of its members is let go of.
+    Refused(Leavings),
+}
+
+/// What was made and built of the members of JSON that names no directory.
+#[derive(Drop)]
+pub(crate) struct Leavings {
+    /// What was made of members.
+    outcomes: BTreeMap<String, MemberOutcome>,
+    /// Children that were named.
+    children: BTreeMap<String, Child>,
+    /// What is left of a tree of members that were under way.
+    tree: Option<Remains>,
 }
 
 /// How a maker goes on.
@@ -63,10 +75,12 @@ impl TextMaker {
 
     /// With 65,536 bytes of members looked through, or with 1,024 children named, or with as many written or with
     /// 65,536 bytes of them. Where the JSON names no directory, what was made of its members is let go of so too: of
-    /// 1,024 members and 1,024 children in a step. The members that end in the bytes looked through are read, and of a
-    /// longer one what stands up to the last comma outside strings, if there is one. So a long string is read at once,
-    /// and so is a long member where an object in it has keys that don't rise. The JSON has to be the same at each
-    /// step. What it is that the JSON names is said at [`from_children_json`](crate::from_children_json).
+    /// 1,024 members, 1,024 children and 1,024 values in a step. The members that end in the bytes looked through are
+    /// read, and of a longer one what stands up to the last comma outside strings, if there is one. So a long string is
+    /// read at once. Where an object in a longer one has keys that don't rise, the member is read anew, into a tree, in
+    /// steps too; and what is made of it is taken from the tree, and the rest let go of, some 1,024 values a step. The
+    /// JSON has to be the same at each step. What it is that the JSON names is said at
+    /// [`from_children_json`](crate::from_children_json).
     ///
     /// # Errors
     /// `AllocError` where memory is refused, and never for what the JSON says.
@@ -81,7 +95,7 @@ impl TextMaker {
             MakerStage::Collecting(collecting) => collect_next(alloc, json, collecting),
             MakerStage::Naming(outcomes, children) => name_next(alloc, json, outcomes, children),
             MakerStage::Writing(children, text) => write_next(alloc, json, children, text),
-            MakerStage::Refused(outcomes, children) => Ok(drop_next(json, outcomes, children)),
+            MakerStage::Refused(leavings) => drop_next(json, leavings),
         }
     }
 }
@@ -117,10 +131,11 @@ fn collect_next(
     match collecting.step(alloc, json)? {
         Collected::More(next) => Ok(going(MakerStage::Collecting(next))),
         Collected::All(outcomes) => Ok(going(MakerStage::Naming(outcomes, BTreeMap::new(alloc)))),
-        Collected::Refused(_, outcomes) => Ok(going(MakerStage::Refused(
+        Collected::Refused(outcomes, tree) => Ok(going(MakerStage::Refused(Leavings {
             outcomes,
-            BTreeMap::new(alloc),
-        ))),
+            children: BTreeMap::new(alloc),
+            tree,
+        }))),
     }
 }
 
@@ -141,7 +156,11 @@ fn name_next(
         Ok(()) if left.is_empty() => Ok(going(MakerStage::Writing(named, Vec::new(alloc)))),
         Ok(()) => Ok(going(MakerStage::Naming(left, named))),
         Err(fault) if is_memory(&fault) => Err(AllocError),
-        Err(_) => Ok(going(MakerStage::Refused(left, named))),
+        Err(_) => Ok(going(MakerStage::Refused(Leavings {
+            outcomes: left,
+            children: named,
+            tree: None,
+        }))),
     }
 }
 
@@ -199,25 +218,43 @@ fn write_some(
 }
 
 /// With more let go of that was made of refused JSON. It is done once nothing is left.
-fn drop_next(
-    json: &[u8],
-    outcomes: BTreeMap<String, MemberOutcome>,
-    children: BTreeMap<String, Child>,
-) -> TextMaking
-    requires { IsMakerStage json.now (MakerStage.Refused outcomes children) }
-    ensures made { IsTextMadeOn json.now result }
-    ensures later { IsLaterMaker (MakerStage.Refused outcomes children) result }
-    ensures few { result ≡ Done None
-        → (length outcomes.entries ≤ 1024) × (length children.entries ≤ 1024) }
+fn drop_next(json: &[u8], leavings: Leavings) -> Result<TextMaking, AllocError>
+    requires { IsMakerStage json.now (MakerStage.Refused leavings) }
+    ensures made { IfOk result (IsTextMadeOn json.now) }
+    ensures later { IfOk result (IsLaterMaker (MakerStage.Refused leavings)) }
+    ensures few { result ≡ Ok (Done None) → AreFewLeavings leavings }
 {
-    let mut outcomes_left = outcomes;
-    let mut children_left = children;
-    drop_some(&mut outcomes_left, STEP_CHILDREN);
-    drop_some(&mut children_left, STEP_CHILDREN);
-    if outcomes_left.is_empty() && children_left.is_empty() {
-        return TextMaking::Done(None);
+    let Leavings {
+        mut outcomes,
+        mut children,
+        tree,
+    } = leavings;
+    drop_some(&mut outcomes, STEP_CHILDREN);
+    drop_some(&mut children, STEP_CHILDREN);
+    let tree = drop_parts(tree)?;
+    if outcomes.is_empty() && children.is_empty() && tree.is_none() {
+        return Ok(TextMaking::Done(None));
     }
-    going(MakerStage::Refused(outcomes_left, children_left))
+    Ok(going(MakerStage::Refused(Leavings {
+        outcomes,
+        children,
+        tree,
+    })))
+}
+
+/// Lets go of the next 1,024 parts of a tree, or those that are left.
+fn drop_parts(tree: Option<Remains>) -> Result<Option<Remains>, AllocError>
+    ensures fewer { IfOk result (λ left. IfSome left (λ rest. tree_parts left < tree_parts tree)) }
+    ensures none_more { IfOk result (λ left. tree_parts left ≤ tree_parts tree) }
+    ensures few { IfOk result (λ left. tree_parts tree ≤ tree_parts left + 1024) }
+{
+    let Some(mut left) = tree else {
+        return Ok(None);
+    };
+    if left.step()? {
+        return Ok(Some(left));
+    }
+    Ok(None)
 }
 
 /// Lets go of the first values of a map: so many, or those that are left.

@@ -1,6 +1,8 @@
 use Rattle.std.proofs.Common.{Ok, sym, ap, ◌∙◌}
 use Rattle.std.proofs.lemmas.Result.{err_from_is_err_and}
+use Rattle.json_members.specs.MemberCuts.{first_token}
 use Rattle.dir_codec.proofs.Outcomes.{no_text, text_refused}
+use Rattle.dir_codec.proofs.PartTexts.{rest_begins}
 use Rattle.dir_codec.proofs.Stages.{members_made}
 use Rattle.dir_codec.proofs.children.from_children_json.Goals as goal
 
@@ -25,3 +27,6 @@ pub returns-clause-made : goal.returns-clause-made
 returns-clause-made c =
     let found = c.in_ok-outcomes.ensures.ok in
     members_made c.args.json.now found.0 found.1 ∙ c.in_ok-children.ensures.ok found.0 found.2 ∙ ap Ok (sym (c.from_entries.ensures ∙ c.in_ok-entries.ensures))
+
+pub collect-requires : goal.collect-requires
+collect-requires c = ap first_token c.in-Some.ensures.some.same ∙ rest_begins c.objects_begin_with_a_brace.ensures.first c.args.json.now c.in-Some.field-0

@@ -1,6 +1,7 @@
 use Rattle.std.proofs.Common.{sym, subst}
 use Rattle.dir_codec.specs.Collecting.{IsCollectedOn}
 use Rattle.dir_codec.specs.TextMakers.{IsTextMadeOn}
+use Rattle.dir_codec.specs.declared.fault.DirFault.TheVariants.{NotJson}
 use Rattle.dir_codec.proofs.Stages.{members_made, none_named, fault_named}
 use Rattle.dir_codec.proofs.text_maker.collect_next.Goals as goal
 
@@ -14,4 +15,4 @@ returns-in-All-clause-made c =
 pub returns-in-Refused-clause-made : goal.returns-in-Refused-clause-made
 returns-in-Refused-clause-made c =
     let json = c.args.json.now in
-    subst (IsTextMadeOn json) (sym c.going-in-Refused.ensures) (fault_named json c.in-Refused.field-0 (subst (IsCollectedOn json) c.in-Refused.is c.in_ok-next.ensures.collected))
+    subst (IsTextMadeOn json) (sym c.going-in-Refused.ensures) (fault_named json NotJson (subst (IsCollectedOn json) c.in-Refused.is c.in_ok-next.ensures.collected))
