@@ -1,12 +1,15 @@
 -- The JSON of a directory that is made of the directory's text as it is taken. Read IsListingOf; all that follows is for
 -- the models of a listing and of a count, and for private clauses.
-use Rattle.std.specs.Prelude.{◌≡◌, ℕ, ◌+◌, ◌<◌, ◌≤◌, nat_lt, Bool, true, false, List, [], ◌∷◌, ◌++◌, length, map, drop, codes, Result, Ok, Err, if◌then◌else◌}
+use Rattle.std.specs.Prelude.{◌≡◌, ℕ, ◌+◌, ◌<◌, ◌≤◌, nat_lt, Bool, true, false, List, [], ◌∷◌, ◌++◌, length, map, drop, codes, Option, Result, Ok, Err, if◌then◌else◌}
 use Rattle.std.specs.List.{concat}
 use Rattle.serde_json.specs.Written.{comma_if}
 use Rattle.caps.specs.declared.cap.Cap.{Cap}
-use Rattle.dir_codec.specs.Reading.{before_more, reading_after, directory_reading}
+use Rattle.dir_codec.specs.Reading.{reading_after, directory_reading}
 use Rattle.dir_codec.specs.declared.entry.Entry.{Entry}
 use Rattle.dir_codec.specs.declared.fault.DirFault.{DirFault}
+use Rattle.dir_codec.specs.declared.metadata_speller.MetadataSpeller.{MetadataSpeller}
+use Rattle.json_view.specs.declared.kept_spelling.KeptSpelling.{KeptSpelling}
+use Rattle.json_view.specs.KeptSpellings.{AreSpellingsIn, IsFirstSpeller}
 use Rattle.json_view.specs.Nodes.{node_members, child_text, dir_text}
 
 -- the JSON of the directory whose text this is
@@ -49,17 +52,11 @@ pub record IsReadable (at : ℕ) (text : List ℕ) : Type 0 where
   pub within : at ≤ length text
   pub read : directory_reading (drop at text) ≡ Ok (entries_in (drop at text))
 
--- a listing has come to a place of a text, and counts the bytes that are left
-pub record IsListing (at left : ℕ) (text bytes : List ℕ) : Type 0 where
+-- a listing has come to a place of a text, counts the bytes that are left, and keeps these spellings
+pub record IsListing (at left : ℕ) (text bytes : List ℕ) (spellings : List KeptSpelling) : Type 0 where
   pub readable : IsReadable at text
   pub counted : left ≡ length bytes
-
--- the child whose entry stands at a place was put, with the comma before it that a later one has
-pub record IsChildPut (last text : List ℕ) (later : Bool) (at : ℕ) (old new : List ℕ) (entry : Entry) (next : ℕ) : Type 0 where
-  pub further : at < next
-  pub within : next ≤ length text
-  pub read : reading_after last (drop at text) ≡ before_more entry (reading_after entry.name (drop next text))
-  pub put : new ≡ old ++ (comma_if later ++ child_text entry)
+  pub kept : AreSpellingsIn text spellings
 
 -- a text has no fault, and its children so many bytes with the commas between them
 pub record IsCountOfChildren (text : List ℕ) (count : ℕ) : Type 0 where
@@ -77,6 +74,17 @@ pub record IsCountedTo (last text : List ℕ) (at count : ℕ) : Type 0 where
 abbrev pub IsCountOrFault : List ℕ → Result ℕ DirFault → Type 0
 IsCountOrFault text (Ok count) = IsCountOfChildren text count
 IsCountOrFault text (Err fault) = directory_reading text ≡ Err fault
+
+-- a count has come to a place of a text and keeps these spellings; it may be spelling the metadata of the next entry
+pub record IsCounting (last text : List ℕ) (at count : ℕ) (speller : Option MetadataSpeller) (spellings : List KeptSpelling) : Type 0 where
+  pub counted : IsCountedTo last text at count
+  pub spelling : IsFirstSpeller (drop at text) speller
+  pub kept : AreSpellingsIn text spellings
+
+-- what comes of a count, and the spellings that it has kept
+pub record IsCountedText (text : List ℕ) (children : Result ℕ DirFault) (spellings : List KeptSpelling) : Type 0 where
+  pub is : IsCountOrFault text children
+  pub kept : AreSpellingsIn text spellings
 
 -- the children from one place to another were put; whether others stand before the one, and before the other
 pub record AreChildrenPut (text : List ℕ) (later : Bool) (from : ℕ) (old new : List ℕ) (after : Bool) (at : ℕ) : Type 0 where

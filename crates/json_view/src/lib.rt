@@ -4,6 +4,8 @@
 
 /// Nodes: files, and directories with their children.
 mod node;
+/// The spellings of long metadata that a count keeps for the listing.
+mod kept_spelling;
 /// Counting the JSON of a directory's children, some entries at a time.
 mod counting;
 /// The JSON of directories that is made as it is taken.

@@ -1,15 +1,14 @@
 //! Nodes: files, and directories with their children.
-ghost use Rattle.std.specs.Prelude.{◌≡◌, ◌≢◌, ◌<◌, ◌++◌, length, drop, false, map, Err, IfOk, IfErr, OnOk};
+ghost use Rattle.std.specs.Prelude.{◌≡◌, ◌++◌, length, false, map, IfOk, OnOk};
 ghost use Rattle.std.specs.List.{join_with_byte};
 ghost use Rattle.caps.specs.Weakening.{weakened};
-ghost use Rattle.dir_codec.specs.Reading.{reading_after};
-ghost use Rattle.dir_codec.specs.declared.fault.DirFault.TheVariants.{NoMemory};
+ghost use Rattle.serde_json.specs.Written.{comma_if};
 ghost use Rattle.json_view.specs.Nodes.{size_member, verify_member, node_members, node_kind, file_text, child_text, dir_text};
-ghost use Rattle.json_view.specs.Listings.{head_unless, dir_end, IsChildPut};
+ghost use Rattle.json_view.specs.Listings.{head_unless, dir_end};
 
 use crate::text::{put_all, put_cap, put_comma, put_string};
 use caps::{Cap, weaken};
-use dir_codec::{DirFault, Directory, Entry, read_first};
+use dir_codec::{Directory, Entry};
 use itoa::Buffer;
 use std::alloc::{AllocError, Global};
 
@@ -68,9 +67,22 @@ fn put_children(alloc: Global, out: &mut Vec<u8>, entries: &[Entry]) -> Result<(
 }
 
 /// Puts a child under its name, with its metadata.
-#[tactic(auto, unfolding(crate::specs::Nodes::child_text))]
 pub(crate) fn put_child(alloc: Global, out: &mut Vec<u8>, entry: &Entry) -> Result<(), AllocError>
     ensures { OnOk result (out.new.items ≡ out.old.items ++ child_text entry.now) }
+{
+    put_child_with(alloc, out, entry, entry.metadata.as_str().as_bytes())
+}
+
+/// Puts a child under its name, with these metadata in place of its own.
+#[tactic(auto, unfolding(crate::specs::Nodes::child_text))]
+fn put_child_with(
+    alloc: Global,
+    out: &mut Vec<u8>,
+    entry: &Entry,
+    metadata: &[u8],
+) -> Result<(), AllocError>
+    ensures { OnOk result (out.new.items
+        ≡ out.old.items ++ child_text (record entry.now { metadata = metadata.now })) }
 {
     put_string(alloc, out, entry.name.as_str())?;
     put_all(
@@ -79,7 +91,7 @@ pub(crate) fn put_child(alloc: Global, out: &mut Vec<u8>, entry: &Entry) -> Resu
             b":[\"",
             node_kind(&entry.cap),
             b"\",{\"metadata\":",
-            entry.metadata.as_str().as_bytes(),
+            metadata,
             b",",
         ],
     )?;
@@ -88,26 +100,26 @@ pub(crate) fn put_child(alloc: Global, out: &mut Vec<u8>, entry: &Entry) -> Resu
     Ok(())
 }
 
-/// Puts the child whose entry stands at a place of a directory's text, behind an entry of that name, with the comma before
-/// it that a later one has. It gives the entry and the place behind it.
-pub(crate) fn put_at(
+/// How many bytes a child takes, with the comma before it that a later one has. Its metadata are counted and not copied:
+/// only the rest of it is put, into the buffer.
+///
+/// # Errors
+/// `AllocError` where memory is refused, or where a `usize` doesn't count them.
+pub(crate) fn child_len(
     alloc: Global,
-    out: &mut Vec<u8>,
-    last: &[u8],
-    text: &[u8],
+    buffer: &mut Vec<u8>,
     later: bool,
-    at: usize,
-) -> Result<(Entry, usize), DirFault>
-    requires { at < length text.now }
-    ensures put { IfOk result (λ child.
-        IsChildPut last.now text.now later at out.old.items out.new.items child.0 child.1) }
-    ensures refused { IfErr result (λ fault. fault ≢ NoMemory
-        → reading_after last.now (drop at text.now) ≡ Err fault) }
+    entry: &Entry,
+) -> Result<usize, AllocError>
+    ensures { IfOk result (λ len. len ≡ length (comma_if later ++ child_text entry.now)) }
 {
-    let (entry, size) = read_first(alloc, last, &text[at..])?;
-    put_comma(out, later)?;
-    put_child(alloc, out, &entry)?;
-    Ok((entry, at + size))
+    buffer.clear();
+    put_comma(buffer, later)?;
+    put_child_with(alloc, buffer, entry, &[])?;
+    let Some(len) = buffer.len().checked_add(entry.metadata.as_str().len()) else {
+        return Err(AllocError);
+    };
+    Ok(len)
 }
 
 /// The kind of the node that a cap names.

@@ -1,6 +1,6 @@
 use Rattle.std.proofs.Common.{◌-◌, length}
 use Rattle.json_view.specs.Listings.{IsCountedTo}
-use Rattle.json_view.proofs.counting.count_until.Given as goal
+use Rattle.json_view.proofs.counting.count_all.Given as goal
 
 abbrev pub invariant-loop-at : goal.invariant-loop-at
 invariant-loop-at l = IsCountedTo l.last.items l.text l.at l.count
