@@ -13,10 +13,20 @@ const MEMBERS: u32 = 80_000;
 /// How many bytes of shares the store may hold.
 const ROOM: u64 = 10_000_000;
 
-/// A directory's text with such metadata, which end so; what is told where it is put, a request through it, and what that is
-/// told.
+/// In which order the members come.
+#[derive(Clone, Copy)]
+enum Order {
+    /// Each name is above the one before it.
+    Rising,
+    /// Each name is below the one before it.
+    Falling,
+}
+
+/// A directory's text with such metadata, in this order, which end so; what is told where it is put, a request of it, and what
+/// that is told.
 #[derive(Clone, Copy)]
 struct Long {
+    order: Order,
     ending: &'static str,
     put: &'static [u8],
     stored: &'static [u8],
@@ -26,6 +36,7 @@ struct Long {
 
 /// A directory, in which a name is missing. The caps here are those of `models/uploads.py`.
 const WHOLE: Long = Long {
+    order: Order::Rising,
     ending: "}",
     put: b"PUT /uri HTTP/1.1\r\nHost: g\r\nContent-Length: 960041\r\n\r\n",
     stored: b"HTTP/1.1 200 OK\r\nContent-Type: text/plain; charset=utf-8\r\nContent-Length: 99\r\n\r\nURI:CHK:ehoxr24lezcmu57copo5tvo5eu:bu3toq3zmhlbo6q6pzneu65fhvkhelbj4iftxpyvs5rtraldhf3q:3:10:960041",
@@ -35,12 +46,27 @@ const WHOLE: Long = Long {
 
 /// What is no directory, since the last number in the metadata isn't a whole one.
 const FRACTION: Long = Long {
+    order: Order::Rising,
     ending: ",\"~\":1.5}",
     put: b"PUT /uri HTTP/1.1\r\nHost: g\r\nContent-Length: 960049\r\n\r\n",
     stored: b"HTTP/1.1 200 OK\r\nContent-Type: text/plain; charset=utf-8\r\nContent-Length: 99\r\n\r\nURI:CHK:azdfk7cqbgpi36nhhcqqxijtge:6uoa4d2fhmp5vhcyhzx3fo6fosmupqpit5ovmjc4okgftzvzisba:3:10:960049",
     get: b"GET /uri/URI:DIR2-CHK:azdfk7cqbgpi36nhhcqqxijtge:6uoa4d2fhmp5vhcyhzx3fo6fosmupqpit5ovmjc4okgftzvzisba:3:10:960049/c HTTP/1.1\r\nHost: g\r\n\r\n",
     told: b"HTTP/1.1 400 Bad Request\r\nContent-Type: text/plain; charset=utf-8\r\nContent-Length: 16\r\n\r\nnot a directory\n",
 };
+
+/// A directory with the first one's metadata in the other order, which is listed; what is told up to its metadata and behind
+/// them. `models/uploads.py` has its caps, and Python's `json` prints these bytes.
+const FALLING: Long = Long {
+    order: Order::Falling,
+    ending: "}",
+    put: b"PUT /uri HTTP/1.1\r\nHost: g\r\nContent-Length: 960041\r\n\r\n",
+    stored: b"HTTP/1.1 200 OK\r\nContent-Type: text/plain; charset=utf-8\r\nContent-Length: 99\r\n\r\nURI:CHK:6ljj2hw4h3up2zuct2bjiypxrq:jbdguyvhfm7peppuzhtemvlpcud4mrfdzdyahrfhqctfj5lawfva:3:10:960041",
+    get: b"GET /uri/URI:DIR2-CHK:6ljj2hw4h3up2zuct2bjiypxrq:jbdguyvhfm7peppuzhtemvlpcud4mrfdzdyahrfhqctfj5lawfva:3:10:960041?t=json HTTP/1.1\r\nHost: g\r\n\r\n",
+    told: b"HTTP/1.1 200 OK\r\nContent-Type: application/json\r\nContent-Length: 960369\r\n\r\n[\"dirnode\",{\"children\":{\"c\":[\"filenode\",{\"metadata\":",
+};
+
+const BEHIND_METADATA: &[u8] =
+    b",\"mutable\":false,\"ro_uri\":\"URI:LIT:mzxw6\",\"size\":3}]},\"mutable\":false,\"ro_uri\":\"URI:DIR2-CHK:6ljj2hw4h3up2zuct2bjiypxrq:jbdguyvhfm7peppuzhtemvlpcud4mrfdzdyahrfhqctfj5lawfva:3:10:960041\",\"verify_uri\":\"URI:DIR2-CHK-Verifier:n36bi7u3v354yv6ox2ewvt7nqu:jbdguyvhfm7peppuzhtemvlpcud4mrfdzdyahrfhqctfj5lawfva:3:10:960041\"}]";
 
 /// What is told where the first directory is made of children JSON, and where the second one would be.
 const MADE: &[u8] =
@@ -56,6 +82,8 @@ enum Trial {
     Walked,
     /// They are made of children JSON.
     Made,
+    /// What falls is listed.
+    Listed,
 }
 
 #[test]
@@ -66,6 +94,11 @@ fn long_metadata_are_judged_in_steps(rt: HostRuntime) -> Result<(), Fail> {
 #[test]
 fn a_directory_is_made_with_long_metadata(rt: HostRuntime) -> Result<(), Fail> {
     is_tried(rt.alloc(), Trial::Made)
+}
+
+#[test]
+fn long_metadata_are_listed_in_order(rt: HostRuntime) -> Result<(), Fail> {
+    is_tried(rt.alloc(), Trial::Listed)
 }
 
 /// The trial holds over a new gateway.
@@ -85,23 +118,42 @@ fn is_tried_over(alloc: Global, gateway: &mut Gateway<MemStore>, trial: Trial) -
         }
         Trial::Made => {
             is_made(alloc, gateway, WHOLE, MADE)?;
+            is_made(alloc, gateway, FALLING, MADE)?;
             is_made(alloc, gateway, FRACTION, REFUSED)
         }
+        Trial::Listed => is_listed(alloc, gateway),
     }
 }
 
-/// The text is put, and walked through in steps.
-fn is_judged(alloc: Global, gateway: &mut Gateway<MemStore>, long: Long) -> Result<(), Fail> {
+/// The text is put.
+fn is_stored(alloc: Global, gateway: &mut Gateway<MemStore>, long: Long) -> Result<(), Fail> {
     let text = text_of(alloc, long)?;
     gateway.bytes(1, long.put)?;
     for piece in text.chunks(65_536) {
         gateway.bytes(1, piece)?;
     }
-    are_told(gateway, &[(1, b"", long.stored)])?;
+    are_told(gateway, &[(1, b"", long.stored)])
+}
+
+/// The text is put, and walked through in steps.
+fn is_judged(alloc: Global, gateway: &mut Gateway<MemStore>, long: Long) -> Result<(), Fail> {
+    is_stored(alloc, gateway, long)?;
     // Eight segments are gathered, and each 65,536 bytes of the metadata are a step.
     let steps = steps_left(gateway, 1, long.get);
     holds(steps > 20, "not judged in steps")?;
     are_told(gateway, &[(1, long.get, long.told)])
+}
+
+/// The text whose metadata fall is put, and listed in steps.
+fn is_listed(alloc: Global, gateway: &mut Gateway<MemStore>) -> Result<(), Fail> {
+    is_stored(alloc, gateway, FALLING)?;
+    // Eight segments are gathered; the metadata are judged, read into a tree and written.
+    let steps = steps_left(gateway, 1, FALLING.get);
+    holds(steps > 100, "not spelled in steps")?;
+    let mut told = Vec::from_slice(alloc, FALLING.told)?;
+    told.extend_from_slice(&metadata_of(alloc, WHOLE)?)?;
+    told.extend_from_slice(BEHIND_METADATA)?;
+    are_told(gateway, &[(1, FALLING.get, &told)])
 }
 
 /// Children JSON with these metadata is prepared in steps, and told this.
@@ -129,8 +181,12 @@ fn is_made(
 /// The metadata.
 fn metadata_of(alloc: Global, long: Long) -> Result<Vec<u8>, AllocError> {
     let mut text = Vec::from_slice(alloc, b"{")?;
-    for number in 0..MEMBERS {
-        let comma = if number == 0 { "" } else { "," };
+    for place in 0..MEMBERS {
+        let comma = if place == 0 { "" } else { "," };
+        let number = match long.order {
+            Order::Rising => place,
+            Order::Falling => MEMBERS.saturating_sub(place).saturating_sub(1),
+        };
         let member = format!(in alloc; "{comma}\"{number:06x}\":{{}}")?;
         text.extend_from_slice(member.as_bytes())?;
     }
