@@ -154,13 +154,14 @@ impl Cache {
     }
 }
 
-/// One step more of a directory whose listing is prepared, unless it was stored again since.
+/// One step more of a directory whose listing is prepared. Where it was stored again since, it is let go of, and begun anew
+/// by the next step.
 fn list_on(alloc: Global, cache: &mut Cache, listed: Listed, stamp: u64) -> bool
     requires { Bound listed.0 listed.1.1 }
     ensures { IsWithinOr cache.old cache.new listed }
 {
     if !listed.is_at(stamp) {
-        return false;
+        return true;
     }
     match listed.step(alloc) {
         Ok(next) => {

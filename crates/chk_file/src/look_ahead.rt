@@ -152,13 +152,14 @@ fn step_now<S: Store>(
     Ok(Some(Step::new(*fields, stamp, text, sought, &bytes)))
 }
 
-/// One step more of a directory that is looked through, unless it was stored again since.
+/// One step more of a directory that is looked through. Where it was stored again since, it is let go of, and begun anew by
+/// the next step.
 fn look_on(alloc: Global, cache: &mut Cache, looking: Looking, stamp: u64) -> bool
     requires { Bound looking.0 looking.1.1 }
     ensures { IsWithinOr cache.old cache.new looking }
 {
     if !looking.is_at(stamp) {
-        return false;
+        return true;
     }
     match looking.step(alloc) {
         Ok(Looked::Going(next)) => {
