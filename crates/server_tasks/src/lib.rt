@@ -178,11 +178,30 @@ fn serve<
     let opening = &StoreRuntime::new(rt.clone()?, told.clone()?);
     let mut answers = control_of(rt, options)?;
     let pages = pages_of(opening, options)?;
-    let mut lobby = Lobby::new(open_gateway(opening, options, pages)?);
-    serve_lobby(rt, told, options, &mut lobby, &mut answers)
+    match open_gateway(opening, options, pages) {
+        Ok(gateway) => serve_gateway(rt, told, options, gateway, &mut answers),
+        Err(fault) => Err(fault),
+    }
 }
 
-/// The same, once its stores are open. What owns them leaves at no other place: that is dear to prove.
+/// The same, once its stores are open. What owns them leaves at no other place, and doesn't name them: all else is dear to
+/// prove.
+fn serve_gateway<
+    R: Print + Eprint + AllocGlobal + Files + Clock + CpuClock + Net,
+    L: Log,
+    S: Store + Drop,
+>(
+    rt: &R,
+    told: &L,
+    options: &Options<'_>,
+    gateway: Gateway<S>,
+    answers: &mut StatusControl,
+) -> Result<(), ProgramFault> {
+    let mut lobby = Lobby::new(gateway);
+    serve_lobby(rt, told, options, &mut lobby, answers)
+}
+
+/// The same with the gateway's lobby.
 fn serve_lobby<R: Print + Eprint + AllocGlobal + Files + Clock + CpuClock + Net, L: Log, S: Store>(
     rt: &R,
     told: &L,
