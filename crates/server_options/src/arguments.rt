@@ -5,162 +5,171 @@ use std::alloc::{AllocError, Global};
 
 /// The program's command line.
 pub fn program<'a>(alloc: Global) -> Result<Command<'a>, AllocError> {
-    Command::new(alloc, "wozhinnam")
+    let command = Command::new(alloc, "wozhinnam")
         .version("0.1.0")
         .about(
             "A web gateway for capability-addressed storage, over stores in memory, in folders and on Redis servers.",
         )
-        .subcommand_required(true)
-        .subcommand(serving(alloc)?)?
-        .subcommand(checking(alloc)?)?
-        .subcommand(repairing(alloc)?)?
-        .subcommand(reshaping(alloc)?)?
-        .subcommand(imaging(alloc)?)?
-        .subcommand(restoring(alloc)?)
+        .subcommand_required(true);
+    let command = with_verb(Ok(command), serving(alloc));
+    let command = with_verb(command, checking(alloc));
+    let command = with_verb(command, repairing(alloc));
+    let command = with_verb(command, reshaping(alloc));
+    let command = with_verb(command, imaging(alloc));
+    with_verb(command, restoring(alloc))
+}
+
+/// A command line with one argument more, where there is one. What has several arguments hands it on as it is: a `?` behind
+/// each would drop it there, and each such drop costs the prover seconds.
+fn with<'a>(
+    command: Result<Command<'a>, AllocError>,
+    argument: Arg<'a>,
+) -> Result<Command<'a>, AllocError> {
+    match command {
+        Ok(command) => command.arg(argument),
+        Err(error) => Err(error),
+    }
+}
+
+/// A command line with one verb more, where there are both.
+fn with_verb<'a>(
+    command: Result<Command<'a>, AllocError>,
+    verb: Result<Command<'a>, AllocError>,
+) -> Result<Command<'a>, AllocError> {
+    match command {
+        Ok(command) => command.subcommand(verb?),
+        Err(error) => Err(error),
+    }
 }
 
 /// The command line of `serve`.
 fn serving<'a>(alloc: Global) -> Result<Command<'a>, AllocError> {
-    let command = Command::new(alloc, "serve")
-        .about("Serves connections until it is stopped.")
-        .arg(option(
+    let command = Ok(Command::new(alloc, "serve").about("Serves connections until it is stopped."));
+    let command = with(
+        command,
+        option(
             alloc,
             "config",
             "FILE",
             "a TOML file with more options, whose keys are their names without the dashes; one that is given here too counts as it is given here",
-        ))?
-        .arg(
-            option(
-                alloc,
-                "listen",
-                "ADDR[,secret=PATH]",
-                "where connections are accepted, up to 64 times; with secret=PATH they are opened under the secret in that file, and else under that of --secret-file",
-            )
-            .action(ArgAction::Append)
-            .default_value("127.0.0.1:3456"),
-        )?
-        .arg(option(
+        ),
+    );
+    let command = with(command, listen(alloc));
+    let command = with(
+        command,
+        option(
             alloc,
             "control",
             "ADDR",
             "where GET /status, GET /metrics and POST /stop are answered",
-        ))?
-        .arg(control_token_file(alloc))?
-        .arg(shares(alloc))?;
-    with_log(
-        alloc,
-        with_limits(alloc, with_pages(alloc, with_stores(alloc, command)?)?)?,
-    )
+        ),
+    );
+    let command = with(command, control_token_file(alloc));
+    let command = with(command, shares(alloc));
+    let command = with_stores(alloc, command);
+    let command = with_pages(alloc, command);
+    let command = with_limits(alloc, command);
+    with_log(alloc, command)
 }
 
 /// Adds the options of pages.
-fn with_pages<'a>(alloc: Global, command: Command<'a>) -> Result<Command<'a>, AllocError> {
-    command
-        .arg(option(
+fn with_pages<'a>(
+    alloc: Global,
+    command: Result<Command<'a>, AllocError>,
+) -> Result<Command<'a>, AllocError> {
+    let command = with(
+        command,
+        option(
             alloc,
             "pages",
             "FOLDER",
             "a folder whose files are pages beside the web API: index.html at /, each other one under its name; without it the folder pages beside the program, where there is one",
-        ))?
-        .arg(
-            Arg::new(alloc, "no-pages")
-                .long("no-pages")
-                .help("no pages, also where the folder pages is there")
-                .action(ArgAction::SetTrue)
-                .conflicts_with("pages")?,
-        )
+        ),
+    );
+    with(command, no_pages(alloc)?)
 }
 
 /// Adds the options of stores.
-fn with_stores<'a>(alloc: Global, command: Command<'a>) -> Result<Command<'a>, AllocError> {
-    command
-        .arg(option(
-            alloc,
-            "store",
-            "STORE",
-            "a store: dir:PATH or dir:PATH:BYTES keeps its shares in a folder too, dir:PATH:BYTES,disk there alone, dir:PATH,shared there alone and beside other programs that serve it so, redis:HOST:PORT[/NAME][:BYTES] on a Redis server, mem:BYTES in memory; one for each server, in their order. BYTES are as in --room",
-        )
-        .action(ArgAction::Append))?
-        .arg(
-            option(
-                alloc,
-                "servers",
-                "COUNT",
-                "how many stores there are, in memory, where no --store names one",
-            )
-            .value_parser(ValueParser::unsigned(1, 256))
-            .default_value("5")
-            .conflicts_with("store")?,
-        )?
-        .arg(option(
-            alloc,
-            "room",
-            "BYTES",
-            "how many bytes each store takes that doesn't say it: digits, and K, M, G or T behind them for powers of 1,024",
-        )
-        .default_value("1G"))?
-        .arg(new_folders(alloc))?
-        .arg(missing_folders(alloc))?
-        .arg(no_sync(alloc))?
-        .arg(secret_file(alloc))?
-        .arg(redis_password_file(alloc))
+fn with_stores<'a>(
+    alloc: Global,
+    command: Result<Command<'a>, AllocError>,
+) -> Result<Command<'a>, AllocError> {
+    let command = with(command, store(alloc));
+    let command = with(command, servers(alloc)?);
+    let command = with(command, room(alloc));
+    let command = with(command, new_folders(alloc));
+    let command = with(command, missing_folders(alloc));
+    let command = with(command, no_sync(alloc));
+    let command = with(command, secret_file(alloc));
+    with(command, redis_password_file(alloc))
 }
 
 /// Adds the options of connections.
-fn with_limits<'a>(alloc: Global, command: Command<'a>) -> Result<Command<'a>, AllocError> {
-    command
-        .arg(
-            option(
-                alloc,
-                "connections",
-                "MAX",
-                "how many connections may be open at once",
-            )
-            .value_parser(ValueParser::unsigned(1, 1_000_000))
-            .default_value("900"),
-        )?
-        .arg(
-            option(
-                alloc,
-                "idle",
-                "SECONDS",
-                "for how long a connection may be silent",
-            )
-            .value_parser(ValueParser::unsigned(1, 86_400))
-            .default_value("60"),
-        )?
-        .arg(option(
+fn with_limits<'a>(
+    alloc: Global,
+    command: Result<Command<'a>, AllocError>,
+) -> Result<Command<'a>, AllocError> {
+    let command = with(
+        command,
+        option(
+            alloc,
+            "connections",
+            "MAX",
+            "how many connections may be open at once",
+        )
+        .value_parser(ValueParser::unsigned(1, 1_000_000))
+        .default_value("900"),
+    );
+    let command = with(
+        command,
+        option(
+            alloc,
+            "idle",
+            "SECONDS",
+            "for how long a connection may be silent",
+        )
+        .value_parser(ValueParser::unsigned(1, 86_400))
+        .default_value("60"),
+    );
+    with(
+        command,
+        option(
             alloc,
             "memory",
             "BYTES",
             "how many bytes are kept of requests and replies, as in --room, before those who send or ask for long ones have to wait",
         )
-        .default_value("256M"))
+        .default_value("256M"),
+    )
 }
 
 /// Adds the options of the log.
-fn with_log<'a>(alloc: Global, command: Command<'a>) -> Result<Command<'a>, AllocError> {
-    command
-        .arg(
-            option(
-                alloc,
-                "log-level",
-                "LEVEL",
-                "which lines are written on standard error: those of this level and of graver ones",
-            )
-            .value_parser(ValueParser::Names(["error", "warn", "info", "debug"].as_slice()))
-            .default_value("info"),
-        )?
-        .arg(
-            option(
-                alloc,
-                "log-format",
-                "FORMAT",
-                "how a line is written: as a text, or as an object of JSON, with the time",
-            )
-            .value_parser(ValueParser::Names(["text", "json"].as_slice()))
-            .default_value("text"),
+fn with_log<'a>(
+    alloc: Global,
+    command: Result<Command<'a>, AllocError>,
+) -> Result<Command<'a>, AllocError> {
+    let command = with(
+        command,
+        option(
+            alloc,
+            "log-level",
+            "LEVEL",
+            "which lines are written on standard error: those of this level and of graver ones",
         )
+        .value_parser(ValueParser::Names(["error", "warn", "info", "debug"].as_slice()))
+        .default_value("info"),
+    );
+    with(
+        command,
+        option(
+            alloc,
+            "log-format",
+            "FORMAT",
+            "how a line is written: as a text, or as an object of JSON, with the time",
+        )
+        .value_parser(ValueParser::Names(["text", "json"].as_slice()))
+        .default_value("text"),
+    )
 }
 
 /// The command line of `check`.
@@ -174,35 +183,39 @@ fn checking<'a>(alloc: Global) -> Result<Command<'a>, AllocError> {
 
 /// The command line of `repair`.
 fn repairing<'a>(alloc: Global) -> Result<Command<'a>, AllocError> {
-    Command::new(alloc, "repair")
+    let command = Command::new(alloc, "repair")
         .about(
             "Puts the shares of a grid that are missing or rotten back into the folders of its servers, which are given in their order, made of the other shares; status 0 only if each is there afterwards.",
         )
-        .arg(new_folders(alloc))?
-        .arg(no_sync(alloc))?
-        .arg(redis_password_file(alloc))?
-        .arg(paths(alloc).help("a folder, or redis:HOST:PORT[/NAME]"))
+        .arg(new_folders(alloc));
+    let command = with(command, no_sync(alloc));
+    let command = with(command, redis_password_file(alloc));
+    with(
+        command,
+        paths(alloc).help("a folder, or redis:HOST:PORT[/NAME]"),
+    )
 }
 
 /// The command line of `reshape`.
 fn reshaping<'a>(alloc: Global) -> Result<Command<'a>, AllocError> {
-    Command::new(alloc, "reshape")
+    let command = Command::new(alloc, "reshape")
         .about(
             "Lays the shares of a grid in its folders, which are given in the order of its servers, into another number of new folders; status 0 only if each is there afterwards.",
         )
-        .arg(paths(alloc))?
-        .arg(
-            option(
-                alloc,
-                "into",
-                "PATH",
-                "the new folders, one for each server, in their order",
-            )
-            .required(true)
-            .num_args(1..257)
-            .action(ArgAction::Append),
-        )?
-        .arg(no_sync(alloc))
+        .arg(paths(alloc));
+    let command = with(
+        command,
+        option(
+            alloc,
+            "into",
+            "PATH",
+            "the new folders, one for each server, in their order",
+        )
+        .required(true)
+        .num_args(1..257)
+        .action(ArgAction::Append),
+    );
+    with(command, no_sync(alloc))
 }
 
 /// The command line of `image`.
@@ -214,19 +227,76 @@ fn imaging<'a>(alloc: Global) -> Result<Command<'a>, AllocError> {
 
 /// The command line of `restore`.
 fn restoring<'a>(alloc: Global) -> Result<Command<'a>, AllocError> {
-    Command::new(alloc, "restore")
+    let command = Command::new(alloc, "restore")
         .about("Lays an image into new folders, one for each of its servers, in their order.")
-        .arg(shares(alloc))?
-        .arg(secret_file(alloc))?
-        .arg(no_sync(alloc))?
-        .arg(
-            Arg::new(alloc, "file")
-                .value_name("FILE")
-                .help("the image")
-                .required(true)
-                .action(ArgAction::Set),
-        )?
-        .arg(paths(alloc))
+        .arg(shares(alloc));
+    let command = with(command, secret_file(alloc));
+    let command = with(command, no_sync(alloc));
+    let command = with(
+        command,
+        Arg::new(alloc, "file")
+            .value_name("FILE")
+            .help("the image")
+            .required(true)
+            .action(ArgAction::Set),
+    );
+    with(command, paths(alloc))
+}
+
+/// `--listen`.
+fn listen<'a>(alloc: Global) -> Arg<'a> {
+    option(
+        alloc,
+        "listen",
+        "ADDR[,secret=PATH]",
+        "where connections are accepted, up to 64 times; with secret=PATH they are opened under the secret in that file, and else under that of --secret-file",
+    )
+    .action(ArgAction::Append)
+    .default_value("127.0.0.1:3456")
+}
+
+/// `--no-pages`.
+fn no_pages<'a>(alloc: Global) -> Result<Arg<'a>, AllocError> {
+    Arg::new(alloc, "no-pages")
+        .long("no-pages")
+        .help("no pages, also where the folder pages is there")
+        .action(ArgAction::SetTrue)
+        .conflicts_with("pages")
+}
+
+/// `--store`.
+fn store<'a>(alloc: Global) -> Arg<'a> {
+    option(
+        alloc,
+        "store",
+        "STORE",
+        "a store: dir:PATH or dir:PATH:BYTES keeps its shares in a folder too, dir:PATH:BYTES,disk there alone, dir:PATH,shared there alone and beside other programs that serve it so, redis:HOST:PORT[/NAME][:BYTES] on a Redis server, mem:BYTES in memory; one for each server, in their order. BYTES are as in --room",
+    )
+    .action(ArgAction::Append)
+}
+
+/// `--servers`.
+fn servers<'a>(alloc: Global) -> Result<Arg<'a>, AllocError> {
+    option(
+        alloc,
+        "servers",
+        "COUNT",
+        "how many stores there are, in memory, where no --store names one",
+    )
+    .value_parser(ValueParser::unsigned(1, 256))
+    .default_value("5")
+    .conflicts_with("store")
+}
+
+/// `--room`.
+fn room<'a>(alloc: Global) -> Arg<'a> {
+    option(
+        alloc,
+        "room",
+        "BYTES",
+        "how many bytes each store takes that doesn't say it: digits, and K, M, G or T behind them for powers of 1,024",
+    )
+    .default_value("1G")
 }
 
 /// The folders of a grid.
