@@ -42,6 +42,8 @@ enum Trial {
     Prepared(&'static [u8], &'static [u8]),
     /// Each row is told, without being prepared.
     Told(&'static [Row<'static>]),
+    /// A request is prepared while the directory is stored again.
+    StoredAgain(&'static [u8]),
     /// Requests of each form are prepared.
     Forms,
 }
@@ -59,6 +61,16 @@ fn a_child_that_is_missing_is_so_where_the_walk_is_prepared(rt: HostRuntime) -> 
 #[test]
 fn a_child_that_is_missing_is_so_where_nothing_is_prepared(rt: HostRuntime) -> Result<(), Fail> {
     is_tried(rt.alloc(), Trial::Told(ROWS))
+}
+
+#[test]
+fn a_walk_goes_on_where_its_directory_is_stored_again(rt: HostRuntime) -> Result<(), Fail> {
+    is_tried(rt.alloc(), Trial::StoredAgain(GET))
+}
+
+#[test]
+fn a_listing_goes_on_where_its_directory_is_stored_again(rt: HostRuntime) -> Result<(), Fail> {
+    is_tried(rt.alloc(), Trial::StoredAgain(LIST))
 }
 
 #[test]
@@ -82,6 +94,7 @@ fn is_tried_over(alloc: Global, gateway: &mut Gateway<MemStore>, trial: Trial) -
     match trial {
         Trial::Prepared(request, told) => is_walked_ahead(gateway, request, told),
         Trial::Told(rows) => are_told(gateway, rows),
+        Trial::StoredAgain(request) => is_begun_anew(alloc, gateway, request),
         Trial::Forms => are_foreseen(alloc, gateway),
     }
 }
@@ -226,13 +239,38 @@ fn put_of_directory(alloc: Global) -> Result<Vec<u8>, AllocError> {
 
 /// Two connections are opened, and the first one puts the directory's text.
 fn is_stored(alloc: Global, gateway: &mut Gateway<MemStore>) -> Result<(), Fail> {
-    let request = put_of_directory(alloc)?;
     gateway.open(1, None)?;
     gateway.open(2, None)?;
+    is_put(alloc, gateway)
+}
+
+/// The first connection puts the directory's text.
+fn is_put(alloc: Global, gateway: &mut Gateway<MemStore>) -> Result<(), Fail> {
+    let request = put_of_directory(alloc)?;
     for piece in request.chunks(65_536) {
         gateway.bytes(1, piece)?;
     }
     are_told(gateway, &[(1, b"", STORED)])
+}
+
+/// What was prepared of a request on one connection is begun anew where the directory was stored again on another: steps are
+/// left then, as many as at the beginning.
+fn is_begun_anew(
+    alloc: Global,
+    gateway: &mut Gateway<MemStore>,
+    request: &[u8],
+) -> Result<(), Fail> {
+    let whole = steps_left(gateway, 2, request);
+    gateway.let_go_of(2);
+    is_put(alloc, gateway)?;
+    for _ in 0..whole / 2 {
+        holds(waits(gateway, 2, request), "no step left in the middle")?;
+    }
+    is_put(alloc, gateway)?;
+    holds(
+        whole > 20 && steps_left(gateway, 2, request) >= whole,
+        "not begun anew",
+    )
 }
 
 /// A request is prepared in steps, while the same one on another connection waits, and needs none once that was answered.
