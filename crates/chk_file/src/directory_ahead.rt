@@ -10,12 +10,22 @@ use std::marker::Model;
 
 /// Children JSON that is awaited: a copy of its first bytes, and once all are copied the text of the directory that it names,
 /// as far as it is made.
-#[derive(Drop)]
 pub(crate) struct DirectoryAhead {
     /// How many bytes it has.
     size: usize,
     json: Vec<u8>,
     making: Option<TextMaking>,
+}
+
+// Its own, so that what owns one calls it: a derived drop is spelled out wherever a value may be dropped.
+impl Drop for DirectoryAhead {
+    fn drop(self) {
+        let DirectoryAhead {
+            size: _,
+            json: _,
+            making: _,
+        } = self;
+    }
 }
 
 impl Model for DirectoryAhead {

@@ -13,7 +13,6 @@ use std::marker::Model;
 
 /// A directory that is looked through for a name, and the stamp of its storage index when that began: its bytes are
 /// gathered, and then the name is looked for in them.
-#[derive(Drop)]
 pub(crate) struct Looking {
     fields: ReadFields,
     stamp: u64,
@@ -21,6 +20,20 @@ pub(crate) struct Looking {
     bytes: Vec<u8>,
     rest: Download,
     finder: Finder,
+}
+
+// Its own, so that what owns one calls it: a derived drop is spelled out wherever a value may be dropped.
+impl Drop for Looking {
+    fn drop(self) {
+        let Looking {
+            fields: _,
+            stamp: _,
+            name: _,
+            bytes: _,
+            rest: _,
+            finder: _,
+        } = self;
+    }
 }
 
 impl Model for Looking {

@@ -13,13 +13,23 @@ use std::alloc::{AllocError, Global};
 use std::collections::BTreeMap;
 
 /// What is made of the members that were read so far, by their keys: of equal keys the last.
-#[derive(Drop)]
 pub(crate) struct Collecting {
     /// How many bytes of the text were read, up to a comma between members.
     at: usize,
     outcomes: BTreeMap<String, MemberOutcome>,
     /// Members behind them that are under way.
     reading: Option<Reading>,
+}
+
+// Its own, so that what owns one calls it: a derived drop is spelled out wherever a value may be dropped.
+impl Drop for Collecting {
+    fn drop(self) {
+        let Collecting {
+            at: _,
+            outcomes: _,
+            reading: _,
+        } = self;
+    }
 }
 
 /// How far the reading of members is.

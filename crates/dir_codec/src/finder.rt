@@ -24,7 +24,7 @@ pub enum Sought {
 
 /// A name that is looked for in a directory text, some entries at a time, and in long metadata some of their text at a
 /// time. The whole text is judged, also behind the child.
-#[derive(Debug, Drop)]
+#[derive(Debug)]
 pub struct Finder {
     /// The name that is looked for.
     name: Text,
@@ -36,6 +36,19 @@ pub struct Finder {
     found: Option<Cap>,
     /// The metadata of the next entry, where they are long and some of their bytes were looked through.
     judging: Option<Judging>,
+}
+
+// Its own, so that what owns one calls it: a derived drop is spelled out wherever a value may be dropped.
+impl Drop for Finder {
+    fn drop(self) {
+        let Finder {
+            name: _,
+            last: _,
+            at: _,
+            found: _,
+            judging: _,
+        } = self;
+    }
 }
 
 /// How far a finder is.

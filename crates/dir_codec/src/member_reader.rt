@@ -24,7 +24,6 @@ use std::alloc::Global;
 use std::mem;
 
 /// What is made of the members of an object, as far as their tokens came.
-#[derive(Drop)]
 pub(crate) struct MemberReader {
     /// What is made of the members that have ended.
     outcomes: Vec<(String, MemberOutcome)>,
@@ -32,6 +31,17 @@ pub(crate) struct MemberReader {
     stage: Stage,
     /// The array or object that is under way there, and that is spelled or passed by.
     value: Option<UnderWay>,
+}
+
+// Its own, so that what owns one calls it: a derived drop is spelled out wherever a value may be dropped.
+impl Drop for MemberReader {
+    fn drop(self) {
+        let MemberReader {
+            outcomes: _,
+            stage: _,
+            value: _,
+        } = self;
+    }
 }
 
 /// What is open.
@@ -65,12 +75,21 @@ pub(crate) enum Listed {
 }
 
 /// An array or object that is spelled, and has not ended.
-#[derive(Drop)]
 pub(crate) struct UnderWay {
     /// Whether it is an object.
     object: bool,
     /// Its spelling so far.
     speller: Speller,
+}
+
+// Its own, so that what owns one calls it: a derived drop is spelled out wherever a value may be dropped.
+impl Drop for UnderWay {
+    fn drop(self) {
+        let UnderWay {
+            object: _,
+            speller: _,
+        } = self;
+    }
 }
 
 /// What begins with a token.
@@ -150,7 +169,7 @@ impl MemberReader {
         let MemberReader {
             outcomes,
             stage,
-            ..
+            value: _,
         } = self;
         if object_has_ended(&stage) {
             Some(outcomes)

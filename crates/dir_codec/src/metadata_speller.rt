@@ -21,9 +21,16 @@ use octets::Text;
 use std::alloc::{AllocError, Global};
 
 /// The one spelling of metadata, as far as it is made of their text, some 65,536 bytes at a time.
-#[derive(Debug, Drop)]
+#[derive(Debug)]
 pub struct MetadataSpeller {
     stage: SpellingStage,
+}
+
+// Its own, so that what owns one calls it: a derived drop is spelled out wherever a value may be dropped.
+impl Drop for MetadataSpeller {
+    fn drop(self) {
+        let MetadataSpeller { stage: _ } = self;
+    }
 }
 
 /// How far a speller of metadata is.
@@ -70,7 +77,8 @@ impl MetadataSpeller {
             → IsSpelledOn text.now spelling) }
         ensures later { IfOk result (λ spelling. IsLaterSpelling self.stage spelling) }
     {
-        match self.stage {
+        let MetadataSpeller { stage } = self;
+        match stage {
             SpellingStage::Rising(reader) => spell_rising(alloc, reader, text),
             SpellingStage::Building(reader) => build_on(alloc, reader, text),
             SpellingStage::Writing(writer) => write_on(alloc, writer, text),

@@ -27,7 +27,6 @@ use std::collections::BTreeMap;
 const STEP_MEMBERS: usize = 1_024;
 
 /// The members of an object whose values are a tree, as far as what is made of them is taken from it.
-#[derive(Drop)]
 pub(crate) struct Taking {
     /// The members that are left.
     left: BTreeMap<String, Value>,
@@ -37,6 +36,18 @@ pub(crate) struct Taking {
     found: Vec<(String, MemberOutcome)>,
     /// What has no meaning in them, which is let go of at the end.
     dropped: Vec<Value>,
+}
+
+// Its own, so that what owns one calls it: a derived drop is spelled out wherever a value may be dropped.
+impl Drop for Taking {
+    fn drop(self) {
+        let Taking {
+            left: _,
+            child: _,
+            found: _,
+            dropped: _,
+        } = self;
+    }
 }
 
 /// A member that is a child with metadata.
@@ -114,12 +125,17 @@ impl Taking {
             → IsTakenOn ts on) }
         ensures less { IfOk result (HasLessToTakeOn self) }
     {
-        let mut taking = self;
-        if taking.left.is_empty() {
-            let Taking { found, dropped, .. } = taking;
+        if self.left.is_empty() {
+            let Taking {
+                left: _,
+                child: _,
+                found,
+                dropped,
+            } = self;
             let remains = Remains::of(alloc, Value::Array(dropped));
             return Ok(TakenOn::All(found, remains));
         }
+        let mut taking = self;
         taking.take_some(alloc)?;
         Ok(TakenOn::Going(taking))
     }

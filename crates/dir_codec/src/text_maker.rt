@@ -23,9 +23,15 @@ use std::collections::BTreeMap;
 const STEP_CHILDREN: usize = 1_024;
 
 /// The text of the directory of the children that JSON names, as far as it is made.
-#[derive(Drop)]
 pub struct TextMaker {
     stage: MakerStage,
+}
+
+// Its own, so that what owns one calls it: a derived drop is spelled out wherever a value may be dropped.
+impl Drop for TextMaker {
+    fn drop(self) {
+        let TextMaker { stage: _ } = self;
+    }
 }
 
 /// How far a maker is.

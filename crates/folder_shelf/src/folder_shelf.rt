@@ -27,13 +27,25 @@ pub type FileShelf<R> = FolderShelf<FileDisk<R>>;
 
 /// A shelf in a folder of files. What has the name of a share's file and is none of at most 67,108,872 bytes, or is not what
 /// was written, is rotten: it is left alone until a share is put in its place. It isn't honest, since no contract says what files give.
-#[derive(Drop)]
 pub struct FolderShelf<D: Disk + Drop> {
     disk: D,
     top: String,
     failures: u64,
     rotten: Vec<String>,
     strangers: Vec<String>,
+}
+
+// Its own, so that what owns one calls it: a derived drop is spelled out wherever a value may be dropped.
+impl<D: Disk + Drop> Drop for FolderShelf<D> {
+    fn drop(self) {
+        let FolderShelf {
+            disk: _,
+            top: _,
+            failures: _,
+            rotten: _,
+            strangers: _,
+        } = self;
+    }
 }
 
 impl<R: Files + AllocGlobal + Clone + Drop> FolderShelf<FileDisk<R>> {

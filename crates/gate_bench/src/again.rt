@@ -30,7 +30,6 @@ const GIVEN: &[u8] =
 const PORTION: usize = 65_536;
 
 /// The memory of the run itself, which is had before anything is called.
-#[derive(Drop)]
 struct Room {
     /// The bytes of the file.
     file: Vec<u8>,
@@ -45,6 +44,22 @@ struct Room {
     /// An image, and a beginning of one.
     image: Vec<u8>,
     begun: Vec<u8>,
+}
+
+// Its own, so that what owns one calls it: a derived drop is spelled out wherever a value may be dropped.
+impl Drop for Room {
+    fn drop(self) {
+        let Room {
+            file: _,
+            put: _,
+            get: _,
+            stored: _,
+            given: _,
+            reply: _,
+            image: _,
+            begun: _,
+        } = self;
+    }
 }
 
 /// Why a run ended early.

@@ -122,7 +122,6 @@ enum Goes {
 }
 
 /// A control connection.
-#[derive(Drop)]
 struct ControlConnection {
     alloc: Global,
     stream: TcpStream,
@@ -138,6 +137,24 @@ struct ControlConnection {
     opened: Instant,
     /// Whether its socket was reported ready since its last turn.
     is_ready: bool,
+}
+
+// Its own, so that what owns one calls it: a derived drop is spelled out wherever a value may be dropped.
+impl Drop for ControlConnection {
+    fn drop(self) {
+        let ControlConnection {
+            alloc: _,
+            stream: _,
+            here: _,
+            conn: _,
+            phase: _,
+            taken: _,
+            said: _,
+            written: _,
+            opened: _,
+            is_ready: _,
+        } = self;
+    }
 }
 
 /// What a request is told, and whether serving is to stop.

@@ -30,7 +30,6 @@ const CUT: usize = 1024;
 
 /// The connections by their ids, each with its seat among those that have turns. An id is a connection's id in the gateway
 /// and its token in the poll, and none is used twice: an event that comes late finds nothing.
-#[derive(Drop)]
 pub struct Table {
     alloc: Global,
     ids: Ids,
@@ -40,6 +39,21 @@ pub struct Table {
     stopping: bool,
     /// What turns are had with.
     pub tools: Tools,
+}
+
+// Its own, so that what owns one calls it: a derived drop is spelled out wherever a value may be dropped.
+impl Drop for Table {
+    fn drop(self) {
+        let Table {
+            alloc: _,
+            ids: _,
+            peers: _,
+            turns: _,
+            cut: _,
+            stopping: _,
+            tools: _,
+        } = self;
+    }
 }
 
 impl Table {

@@ -19,7 +19,7 @@ use std::alloc::Global;
 use std::collections::BTreeMap;
 
 /// A JSON value, as far as its tokens came.
-#[derive(Debug, Drop)]
+#[derive(Debug)]
 pub struct TreeBuilder {
     /// What is open, the innermost last.
     opened: Vec<Opened>,
@@ -27,6 +27,17 @@ pub struct TreeBuilder {
     value: Option<Value>,
     /// How many levels of arrays and objects it may have.
     levels: usize,
+}
+
+// Its own, so that what owns one calls it: a derived drop is spelled out wherever a value may be dropped.
+impl Drop for TreeBuilder {
+    fn drop(self) {
+        let TreeBuilder {
+            opened: _,
+            value: _,
+            levels: _,
+        } = self;
+    }
 }
 
 /// An array or object that is open.
@@ -103,7 +114,11 @@ impl TreeBuilder {
     pub fn give_up(self) -> Remains
         ensures { parts_left result ≡ parts_built self }
     {
-        let TreeBuilder { opened, value, .. } = self;
+        let TreeBuilder {
+            opened,
+            value,
+            levels: _,
+        } = self;
         Remains::with(opened, value)
     }
 

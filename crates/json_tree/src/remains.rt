@@ -15,12 +15,22 @@ use std::collections::BTreeMap;
 const STEP_PARTS: usize = 1_024;
 
 /// What is left of a value that is let go of, or of a builder that is given up.
-#[derive(Debug, Drop)]
+#[derive(Debug)]
 pub struct Remains {
     /// The arrays and objects of which some is left.
     opened: Vec<Opened>,
     /// A value of which all is left.
     value: Option<Value>,
+}
+
+// Its own, so that what owns one calls it: a derived drop is spelled out wherever a value may be dropped.
+impl Drop for Remains {
+    fn drop(self) {
+        let Remains {
+            opened: _,
+            value: _,
+        } = self;
+    }
 }
 
 impl Remains {

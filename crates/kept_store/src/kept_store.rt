@@ -20,7 +20,6 @@ use std::rc::RcSlice;
 
 /// A store that answers from memory and keeps each share on a shelf beside it. It is always honest. Once its shelf
 /// failed it is down for good: each call that would change something is refused, until it is opened anew.
-#[derive(Drop)]
 pub struct KeptStore<H: Shelf> {
     pub(crate) alloc: Global,
     pub(crate) memory: MemStore,
@@ -31,6 +30,19 @@ pub struct KeptStore<H: Shelf> {
         (shares_in rc_slice_items memory.shares.indexes) } by { IsInStep-prop
             H.moment H.left_since H.honest down shelf
             (shares_in rc_slice_items memory.shares.indexes) },
+}
+
+// Its own, so that what owns one calls it: a derived drop is spelled out wherever a value may be dropped.
+impl<H: Shelf + Drop> Drop for KeptStore<H> {
+    fn drop(self) {
+        let KeptStore {
+            alloc: _,
+            memory: _,
+            shelf: _,
+            down: _,
+            failures: _,
+        } = self;
+    }
 }
 
 impl<H: Shelf> KeptStore<H> {

@@ -67,7 +67,6 @@ pub(crate) struct Awaited {
 }
 
 /// A connection to a server, or the way to one.
-#[derive(Drop)]
 pub(crate) struct Connection<L: Link + Drop> {
     pub(crate) alloc: Global,
     pub(crate) link: L,
@@ -79,6 +78,20 @@ pub(crate) struct Connection<L: Link + Drop> {
     pub(crate) awaited: Option<Awaited>,
     ghost told: { ForSome awaited (λ told. IsToldLast (L.talk link) told.commands) },
     ghost busy: { ForSome awaited (λ _. is_open ≡ false) },
+}
+
+// Its own, so that what owns one calls it: a derived drop is spelled out wherever a value may be dropped.
+impl<L: Link + Drop> Drop for Connection<L> {
+    fn drop(self) {
+        let Connection {
+            alloc: _,
+            link: _,
+            first: _,
+            rest: _,
+            is_open: _,
+            awaited: _,
+        } = self;
+    }
 }
 
 impl<L: Link + Drop> Connection<L> {

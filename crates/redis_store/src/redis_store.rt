@@ -48,13 +48,25 @@ pub struct Server {
 /// A store of shares on a Redis server, which others may use at the same time. It has no index: each call asks the
 /// server. It isn't honest, since no contract says what a server keeps, and since others put shares between two
 /// calls.
-#[derive(Drop)]
 pub struct RedisStore<L: Link + Drop> {
     connection: Connection<L>,
     grid: Bytes,
     longest: u32,
     failures: u64,
     last_fault: Option<ServerFault>,
+}
+
+// Its own, so that what owns one calls it: a derived drop is spelled out wherever a value may be dropped.
+impl<L: Link + Drop> Drop for RedisStore<L> {
+    fn drop(self) {
+        let Self {
+            connection: _,
+            grid: _,
+            longest: _,
+            failures: _,
+            last_fault: _,
+        } = self;
+    }
 }
 
 impl<L: Link + Drop> RedisStore<L> {

@@ -6,11 +6,17 @@ use std::alloc::Global;
 use std::rc::RcSlice;
 
 /// A shelf, and what keeps it for this process alone. It is what the shelf inside is: each call is passed on.
-#[derive(Drop)]
 pub struct LockedShelf<F: Shelf + Drop, K: Drop> {
     shelf: F,
     /// Held for as long as the shelf is there.
     lock: K,
+}
+
+// Its own, so that what owns one calls it: a derived drop is spelled out wherever a value may be dropped.
+impl<F: Shelf + Drop, K: Drop> Drop for LockedShelf<F, K> {
+    fn drop(self) {
+        let LockedShelf { shelf: _, lock: _ } = self;
+    }
 }
 
 impl<F: Shelf + Drop, K: Drop> LockedShelf<F, K> {

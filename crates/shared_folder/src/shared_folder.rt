@@ -41,7 +41,6 @@ pub struct SharedOpening<'a> {
 /// A store of shares in a folder of files, which others may use at the same time. It has no index: each call asks the
 /// file system. It isn't honest, since no contract says what files give, and since others put shares between two
 /// calls.
-#[derive(Drop)]
 pub struct SharedFolder<D: Disk + Drop, L: Drop> {
     disk: D,
     top: String,
@@ -53,6 +52,21 @@ pub struct SharedFolder<D: Disk + Drop, L: Drop> {
     last_fault: Option<SharedFault>,
     /// Held for as long as the store is there.
     lock: L,
+}
+
+// Its own, so that what owns one calls it: a derived drop is spelled out wherever a value may be dropped.
+impl<D: Disk + Drop, L: Drop> Drop for SharedFolder<D, L> {
+    fn drop(self) {
+        let SharedFolder {
+            disk: _,
+            top: _,
+            tag: _,
+            made: _,
+            failures: _,
+            last_fault: _,
+            lock: _,
+        } = self;
+    }
 }
 
 impl<R: Files + AllocGlobal + Clone + Drop, L: Drop> SharedFolder<FileDisk<R>, L> {

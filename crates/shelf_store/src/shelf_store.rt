@@ -29,7 +29,6 @@ use std::rc::RcSlice;
 /// Once its shelf failed in a change, it is in doubt whether the change was done. The store then answers what stood
 /// before: so it keeps the bytes that stood at that one place. Before its next change it puts them back on the shelf, and
 /// as soon as the shelf takes that, no change is in doubt; until then each change is refused.
-#[derive(Drop)]
 pub struct ShelfStore<H: Shelf> {
     pub(crate) alloc: Global,
     pub(crate) sizes: ShareSizes,
@@ -39,6 +38,19 @@ pub struct ShelfStore<H: Shelf> {
     ghost in_step: { IsInStep H.moment H.left_since H.honest H.shares (in_doubt doubt) shelf
         (known sizes) } by { IsInStep-prop H.moment H.left_since H.honest H.shares
             (in_doubt doubt) shelf (known sizes) },
+}
+
+// Its own, so that what owns one calls it: a derived drop is spelled out wherever a value may be dropped.
+impl<H: Shelf + Drop> Drop for ShelfStore<H> {
+    fn drop(self) {
+        let ShelfStore {
+            alloc: _,
+            sizes: _,
+            shelf: _,
+            doubt: _,
+            failures: _,
+        } = self;
+    }
 }
 
 impl<H: Shelf> ShelfStore<H> {

@@ -8,7 +8,6 @@ use share_store::Store;
 use std::alloc::{AllocError, Global};
 
 /// The files that were stored, with what was read of them.
-#[derive(Drop)]
 pub struct Files {
     /// The caps of the files, in the order in which they were stored.
     caps: Vec<Cap>,
@@ -16,6 +15,17 @@ pub struct Files {
     cache: Option<Cache>,
     /// The file that is given a segment at a time.
     download: Option<Download>,
+}
+
+// Its own, so that what owns one calls it: a derived drop is spelled out wherever a value may be dropped.
+impl Drop for Files {
+    fn drop(self) {
+        let Files {
+            caps: _,
+            cache: _,
+            download: _,
+        } = self;
+    }
 }
 
 impl Files {

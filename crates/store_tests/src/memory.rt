@@ -9,12 +9,18 @@ use share_store::MemStore;
 use std::alloc::Global;
 
 /// A grid of stores in memory, and the files on it.
-#[derive(Drop)]
 pub struct Memory {
     /// The grid.
     grid: Option<Grid<MemStore>>,
     /// Its files.
     files: Files,
+}
+
+// Its own, so that what owns one calls it: a derived drop is spelled out wherever a value may be dropped.
+impl Drop for Memory {
+    fn drop(self) {
+        let Memory { grid: _, files: _ } = self;
+    }
 }
 
 impl Memory {

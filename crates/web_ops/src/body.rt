@@ -24,9 +24,16 @@ pub(crate) enum Source {
 
 /// The bytes of a body that are left: they are at hand, decoded or made as they are asked for, or shared with other
 /// replies. Contracts see them as bytes.
-#[derive(Debug, Drop)]
+#[derive(Debug)]
 pub struct Body {
     source: Source,
+}
+
+// Its own, so that what owns one calls it: a derived drop is spelled out wherever a value may be dropped.
+impl Drop for Body {
+    fn drop(self) {
+        let Body { source: _ } = self;
+    }
 }
 
 impl Model for Body {
@@ -80,7 +87,8 @@ impl Body {
         requires { from + count ≤ length self }
         ensures { IfOk result (λ body. body ≡ take count (drop from self)) }
     {
-        match self.source {
+        let Body { source } = self;
+        match source {
             Source::Bytes(bytes) => copy_of(alloc, bytes.as_slice(), from, count),
             Source::Part(part) => Ok(Body::from_part(part.narrow(from, count))),
             Source::Shared(bytes) => copy_of(alloc, bytes.as_slice(), from, count),

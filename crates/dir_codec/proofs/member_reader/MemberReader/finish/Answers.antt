@@ -5,5 +5,5 @@ use Rattle.dir_codec.proofs.member_reader.MemberReader.finish.Goals as goal
 pub returns-then-object_has_ended : goal.returns-then-object_has_ended
 returns-then-object_has_ended c = members_read c.args.self (sym c.object_has_ended.ensures ∙ c.if-object_has_ended.true)
 
-pub returns : goal.returns
-returns c = members_unread c.args.self (sym c.object_has_ended.ensures ∙ c.if-object_has_ended.false)
+pub returns-else-object_has_ended : goal.returns-else-object_has_ended
+returns-else-object_has_ended c = members_unread c.args.self (sym c.object_has_ended.ensures ∙ c.if-object_has_ended.false)
