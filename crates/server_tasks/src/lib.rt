@@ -83,20 +83,39 @@ pub fn run<
     let typed = words.len();
     words.append(&mut more)?;
     match read_words(rt.alloc(), &words) {
-        Ok(Task::Serve(options)) => serve(rt, &options),
-        Ok(Task::Check(folders)) => check(rt, &folders),
-        Ok(Task::Repair(wanted)) => repair(rt, &wanted),
-        Ok(Task::Reshape(wanted)) => reshape(rt, &wanted),
-        Ok(Task::Image(folders)) => write_image(rt, &folders),
-        Ok(Task::Restore(wanted)) => {
-            let secret = Secret::read(rt, wanted.secret_file)?;
-            restore(rt, &wanted, secret.bytes())
-        }
+        Ok(task) => carry_out(rt, &task),
         Err(refusal) => {
             if words.len() > typed {
                 name_file(rt, &words[..typed]);
             }
             told(rt, refusal)
+        }
+    }
+}
+
+/// Does what was asked for, up to the first fault.
+fn carry_out<
+    R: Print
+        + Eprint
+        + AllocGlobal
+        + Files<File = File>
+        + Clock
+        + CpuClock
+        + Net
+        + RandomSource
+        + Log
+        + Clone
+        + Drop,
+>(rt: &R, task: &Task<'_>) -> Result<(), ProgramFault> {
+    match task {
+        Task::Serve(options) => serve(rt, options),
+        Task::Check(folders) => check(rt, folders),
+        Task::Repair(wanted) => repair(rt, wanted),
+        Task::Reshape(wanted) => reshape(rt, wanted),
+        Task::Image(folders) => write_image(rt, folders),
+        Task::Restore(wanted) => {
+            let secret = Secret::read(rt, wanted.secret_file)?;
+            restore(rt, wanted, secret.bytes())
         }
     }
 }
@@ -177,9 +196,25 @@ fn serve<
     let told = &log_of(rt, options)?;
     let opening = &StoreRuntime::new(rt.clone()?, told.clone()?);
     let mut answers = control_of(rt, options)?;
+    serve_opened(rt, told, opening, options, &mut answers)
+}
+
+/// The same, with what opens stores. What that is made of isn't named here, since a gateway over its stores is dear to prove
+/// where it is.
+fn serve_opened<
+    R: Print + Eprint + AllocGlobal + Files + Clock + CpuClock + Net,
+    L: Log,
+    O: AllocGlobal + Files<File = File> + Net + Clock + RandomSource + Clone + Drop + Log + Eprint,
+>(
+    rt: &R,
+    told: &L,
+    opening: &O,
+    options: &Options<'_>,
+    answers: &mut StatusControl,
+) -> Result<(), ProgramFault> {
     let pages = pages_of(opening, options)?;
     match open_gateway(opening, options, pages) {
-        Ok(gateway) => serve_gateway(rt, told, options, gateway, &mut answers),
+        Ok(gateway) => serve_gateway(rt, told, options, gateway, answers),
         Err(fault) => Err(fault),
     }
 }
