@@ -16,7 +16,7 @@ use Rattle.gate_turns.specs.declared.seat.Lane.TheVariants.{Quick, Fresh, Slow}
 use Rattle.gate_turns.specs.Lanes.{LanesState, HasTurn, turns_due}
 use Rattle.gate_turns.specs.Seat.{IsTurned, IsReported, StandsAfter, is_woken, lane_for, new_seat}
 use Rattle.gate_turns.specs.Turns.{TurnsState, IsSeated, HasTurnNow, HasBegun, HasCome, HasLeft, seat_at, seat_in, OthersStay, lanes_after}
-use Rattle.gate_poll.specs.declared.ids.Ids.{Ids}
+use Rattle.gate_limits.specs.declared.ids.Ids.{Ids}
 use Rattle.gate_poll.specs.declared.peer.Peer.{Peer}
 use Rattle.gate_poll.specs.Peers.{owes, owes_at, EndsFor, StandsFor}
 use Rattle.gate_poll.specs.Table.{peer_in, OthersKept, IsSeatOf, HasSeat, IsOwnPeer, AreKept, IsTurnOf, AreKeptBut, IsSocketCalled}

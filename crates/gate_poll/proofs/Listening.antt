@@ -8,7 +8,7 @@ use Rattle.gate_core.specs.ConnectionState.{State}
 use Rattle.gate_flow.specs.Hosted.{IsHosted, IsHostedWith, IsOwnId, Opened}
 use Rattle.gate_turns.specs.Turns.{TurnsState}
 use Rattle.gate_poll.specs.declared.peer.Peer.{Peer}
-use Rattle.gate_poll.specs.Listeners.{IsUnder, IsUnderSome, IsOpenedUnder}
+use Rattle.gate_poll.specs.Secrets.{IsUnder, IsUnderSome, IsOpenedUnder}
 use Rattle.gate_poll.specs.Table.{IsHostedUnder, ArePeersServed, ArePeersServedUnder}
 
 -- the laws of what a loop does to a gateway, with connections that were opened

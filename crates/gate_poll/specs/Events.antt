@@ -4,7 +4,7 @@ use Rattle.mio.specs.Event.{is_readable, is_writable, is_error, is_read_closed, 
 use Rattle.mio.specs.declared.event.event.Event.{Event}
 use Rattle.gate_turns.specs.Seat.{IsReported}
 use Rattle.gate_turns.specs.Turns.{TurnsState, seat_at}
-use Rattle.gate_poll.specs.declared.sockets.Entrance.{Entrance}
+use Rattle.gate_limits.specs.declared.sockets.Entrance.{Entrance}
 
 -- an open connection was told that sides of its socket are ready
 abbrev pub IsInformed : ℕ → Bool → Bool → TurnsState → TurnsState → Type 0

@@ -1,14 +1,6 @@
--- Read Listeners and Table first: what the loop does to the gateway; then Peers. Foreign and Bearer are of the control
--- listener; Stopwatch cites Latencies.
-pub mod Late
-pub mod Journal
+-- Read Secrets and Table first: what the loop does to the gateway; then Peers. Admitted is of the control listener.
 pub mod Peers
-pub mod Listeners
+pub mod Secrets
 pub mod Table
-pub mod Foreign
-pub mod Bearer
-pub mod Latencies
-pub mod Stopwatch
+pub mod Admitted
 pub mod Events
-pub mod Arrivals
-pub mod Memory

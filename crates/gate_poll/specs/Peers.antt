@@ -1,5 +1,8 @@
 -- What a connection does in its turn.
-use Rattle.std.specs.Prelude.{◌≡◌, ◌+◌, ◌≤◌, ◌⊎◌, ⊤, Bool, true, Option, Some, None}
+use Rattle.std.specs.Prelude.{◌≡◌, ◌+◌, ◌-◌, ◌^◌, ◌≤◌, ◌⊎◌, min, ⊤, Bool, true, Option, Some, None}
+use Rattle.std.specs.Duration.{as_nanos}
+use Rattle.std.specs.Time.{instant_nanos}
+use Rattle.std.specs.declared.time.Instant.{Instant}
 use Rattle.gate_core.specs.ConnectionState.{State}
 use Rattle.gate_flow.specs.declared.want.Want.{Want}
 use Rattle.gate_flow.specs.declared.want.Want.TheVariants.{Read, Advance, Write, Nothing}
@@ -10,7 +13,12 @@ use Rattle.gate_turns.specs.declared.seat.Side.{Side}
 use Rattle.gate_turns.specs.declared.seat.Side.TheVariants as side
 use Rattle.gate_turns.specs.declared.seat.Place.{Place}
 use Rattle.gate_turns.specs.declared.seat.Place.TheVariants.{Queued, Turn, Awaits}
-use Rattle.gate_poll.specs.declared.memory.Memory.{Memory}
+use Rattle.gate_limits.specs.declared.latencies.Latencies.{Latencies}
+use Rattle.gate_limits.specs.declared.limits.Limits.{Limits}
+use Rattle.gate_limits.specs.declared.memory.Memory.{Memory}
+use Rattle.gate_limits.specs.declared.stopwatch.Begun.{Begun}
+use Rattle.gate_limits.specs.declared.stopwatch.Stopwatch.{Stopwatch}
+use Rattle.gate_limits.specs.Latencies.{latencies_after}
 use Rattle.gate_poll.specs.declared.peer.Peer.{Peer}
 
 -- something is still to be said, or its flow wants to read and it is only waited until it ends its side
@@ -62,3 +70,17 @@ pub record IsStepped (old new : Peer) (end : Option End) (g h : State) : Type 0 
 -- goes on although memory is used up. Of another that takes a reply 1,048,576 bytes or more are.
 abbrev pub IsHurried : Memory → Peer → Type 0
 IsHurried memory peer = (16384 ≤ peer.kept) × ((peer.flow.want ≡ Read) ⊎ ((memory.first ≡ Some peer.flow.id) ⊎ (1048576 ≤ peer.kept)))
+
+-- the limits of one that is hurried, where these are those of others
+pub record AreHurried (limits hurried : Limits) : Type 0 where
+  pub rate : hurried.rate ≡ 65536
+  pub idle : as_nanos hurried.idle ≡ min (as_nanos limits.idle) 2_000_000_000
+  pub grace : as_nanos hurried.grace ≡ min (as_nanos limits.grace) 2_000_000_000
+
+-- a reply was made: the time since its request began is counted
+abbrev pub timed_in : Option Begun → Instant → Latencies → Latencies
+timed_in None now latencies = latencies
+timed_in (Some begun) now latencies = latencies_after begun.kind (min (instant_nanos now - instant_nanos begun.since) (2 ^ 64 - 1)) latencies
+
+abbrev pub timed_by : Stopwatch → Instant → Latencies → Latencies
+timed_by stopwatch now latencies = timed_in stopwatch.begun now latencies

@@ -3,14 +3,13 @@ ghost use Rattle.std.specs.Prelude.{◌≡◌, ◌<◌, ◌≤◌, ℕ, List, Op
 ghost use Rattle.std.specs.List.{list_any};
 ghost use Rattle.http_edge.specs.FramingState.{frame_from};
 ghost use Rattle.http_edge.specs.Judge.{is_head_request};
-ghost use Rattle.gate_poll.specs.Bearer.{challenge, is_admitted, is_admitted_item, is_authorized};
-ghost use Rattle.gate_poll.specs.Foreign.{foreign_in, refusal};
+ghost use Rattle.gate_limits.specs.Bearer.{challenge, is_authorized};
+ghost use Rattle.gate_limits.specs.Foreign.{foreign_in, refusal};
+ghost use Rattle.gate_poll.specs.Admitted.{is_admitted, is_admitted_item};
 ghost use Rattle.gate_poll.specs.declared.control.Goes.TheVariants as goes;
 
-use crate::bearer::{challenge, is_authorized};
-use crate::counts::Counts;
-use crate::foreign::{Here, foreign_by, refusal};
 use gate_core::Gateway;
+use gate_limits::{Counts, Here, challenge, foreign_by, is_authorized, refusal};
 use http_edge::{Conn, Head, Item, Reply, ReplyField, ReplyFields, Status, continue_text, render};
 use mio::net::TcpStream;
 use octets::Bytes;

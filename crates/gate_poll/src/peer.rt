@@ -6,12 +6,10 @@ ghost use Rattle.gate_core.specs.Holds.{held_while};
 ghost use Rattle.gate_flow.specs.declared.want.Want.TheVariants as want;
 ghost use Rattle.gate_turns.specs.declared.seat.Side.TheVariants as side;
 
-use crate::memory::{LONG, Memory};
-use crate::pace::{Pace, Way};
-use crate::stopwatch::Stopwatch;
 use crate::tools::Tools;
 use gate_core::{Holds, Prospect};
 use gate_flow::{Flow, FlowFault, Lobby, Step, Want};
+use gate_limits::{LONG, Memory, Pace, Stopwatch, Way};
 use gate_turns::{End, Seat, Side, Turned};
 use mio::net::TcpStream;
 use share_store::Store;
@@ -162,12 +160,11 @@ impl Stepped {
 }
 
 impl Peer {
-    ghost use Rattle.gate_poll.specs.Late.{AreHurried, IsLate, IsPast, turned_at};
-    ghost use Rattle.gate_poll.specs.declared.limits.Limits.{Limits};
-    ghost use Rattle.gate_poll.specs.declared.pace.Way.TheVariants.{Sends};
-    ghost use Rattle.gate_poll.specs.Memory.{is_queued};
-    ghost use Rattle.gate_poll.specs.Peers.{owes, EndsFor, IsGoing, IsHurried, IsStepped};
-    ghost use Rattle.gate_poll.specs.Stopwatch.{timed_by};
+    ghost use Rattle.gate_limits.specs.Late.{IsLate, IsPast, turned_at};
+    ghost use Rattle.gate_limits.specs.Memory.{is_queued};
+    ghost use Rattle.gate_limits.specs.declared.limits.Limits.{Limits};
+    ghost use Rattle.gate_limits.specs.declared.pace.Way.TheVariants.{Sends};
+    ghost use Rattle.gate_poll.specs.Peers.{owes, timed_by, AreHurried, EndsFor, IsGoing, IsHurried, IsStepped};
 
     /// A socket that was just accepted.
     pub fn new(stream: TcpStream, flow: Flow, now: Instant) -> Peer

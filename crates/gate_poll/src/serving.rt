@@ -2,23 +2,23 @@
 ghost use Rattle.std.specs.Prelude.{◌≡◌, ◌≤◌, ◌<◌, ◌-◌, ◌^◌, ◌↔◌, ◌⊎◌, ℕ, true, None, IfSome, IsTrue, IsSomeAnd};
 ghost use Rattle.gate_core.specs.ConnectionState.{connection_at};
 ghost use Rattle.mio.specs.Event.{event_token};
+ghost use Rattle.gate_limits.specs.Listeners.{listener_place};
 ghost use Rattle.gate_turns.specs.Acceptor.{MayAccept};
 ghost use Rattle.gate_turns.specs.Acceptors.{knocked, with_acceptor};
 ghost use Rattle.gate_turns.specs.Lanes.{turns_due};
 ghost use Rattle.gate_poll.specs.Events.{IsInformed, IsKnocked, wakes_reader, wakes_writer};
-ghost use Rattle.gate_poll.specs.Listeners.{IsUnder, IsUnderSome, IsUnderOneOf, listener_place};
+ghost use Rattle.gate_poll.specs.Secrets.{IsUnder, IsUnderSome, IsUnderOneOf};
 ghost use Rattle.gate_poll.specs.Table.{IsTableKept, IsHostedUnder, Serves, ServesUnder, LetsGo, IsLetGo, IsOverAt};
 
 use crate::control::{Control, ControlTable};
-use crate::counts::Counts;
 use crate::fault::ServeFault;
 use crate::forget::{Forget, Forgetter};
-use crate::limits::Limits;
-use crate::listeners::{Arrivals, CONTROL, Listener, Listeners, place_of};
-use crate::sockets::{Arrival, Entrance, register};
 use crate::table::Table;
 use crate::watch::Watch;
 use gate_flow::Lobby;
+use gate_limits::{
+    Arrival, Arrivals, CONTROL, Counts, Entrance, Limits, Listener, Listeners, place_of, register,
+};
 use gate_turns::{Acceptors, Ending};
 use log::{Log, info, warn};
 use mio::event::Event;

@@ -10,12 +10,10 @@ ghost use Rattle.gate_core.specs.ConnectionState.{connection_at};
 ghost use Rattle.gate_poll.specs.Table.{peer_in, IsLetGo, OthersKept, IsOwnPeer, AreOwnPeers, IsTurnOf, AreKeptBut, IsSocketCalled};
 
 use crate::forget::Forget;
-use crate::ids::Ids;
-use crate::limits::Limits;
 use crate::peer::{Moment, Outcome, Peer};
-use crate::sockets::register;
 use crate::tools::Tools;
 use gate_flow::{Flow, Lobby};
+use gate_limits::{Ids, Limits, register};
 use gate_turns::{Chosen, Lane, Seat, Turns};
 use log::{Log, warn};
 use mio::Poll;
@@ -58,7 +56,7 @@ impl Drop for Table {
 
 impl Table {
     ghost use Rattle.gate_poll.specs.Events.{IsInformed};
-    ghost use Rattle.gate_poll.specs.Listeners.{IsOpenedUnder};
+    ghost use Rattle.gate_poll.specs.Secrets.{IsOpenedUnder};
     ghost use Rattle.gate_poll.specs.Table.{IsTableKept, Serves, ServesUnder, LetsGo};
 
     /// No connections, and room for as many as the limits say.

@@ -1,9 +1,6 @@
 //! What turns are had with.
-use crate::counts::Counts;
-use crate::journal::Journal;
-use crate::limits::Limits;
-use crate::memory::Memory;
 use crate::peer::Outcome;
+use gate_limits::{Counts, Journal, Limits, Memory};
 use gate_turns::End;
 use log::{Log, warn};
 use std::alloc::{AllocError, Global};

@@ -1,5 +1,5 @@
 use Rattle.std.proofs.Common.{ℕ, subst}
-use Rattle.gate_poll.specs.Listeners.{IsUnderOneOf}
+use Rattle.gate_poll.specs.Secrets.{IsUnderOneOf}
 use Rattle.gate_poll.specs.Table.{IsHostedUnder}
 use Rattle.gate_poll.proofs.LettingGo.{is_over}
 use Rattle.gate_poll.proofs.serving.serve_on.Goals as goal

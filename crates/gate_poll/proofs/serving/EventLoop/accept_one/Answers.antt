@@ -1,5 +1,5 @@
 use Rattle.std.proofs.Common.{ℕ, refl, sym, subst, arith}
-use Rattle.gate_poll.specs.Arrivals.{IsSocket}
+use Rattle.gate_limits.specs.Arrivals.{IsSocket}
 use Rattle.gate_poll.proofs.Hosts.{serves_still}
 use Rattle.gate_poll.proofs.LettingGo.{none_gone}
 use Rattle.gate_poll.proofs.Listening.{serves_none, serves_so, came_by}

@@ -1,6 +1,6 @@
 use Rattle.std.proofs.Common.{◌≡◌}
 use Rattle.gate_turns.specs.Lanes.{turns_due}
-use Rattle.gate_poll.specs.Listeners.{IsUnderSome}
+use Rattle.gate_poll.specs.Secrets.{IsUnderSome}
 use Rattle.gate_poll.specs.Table.{ServesUnder, LetsGo}
 use Rattle.gate_poll.proofs.serving.EventLoop.accept_some.Given as goal
 

@@ -2,7 +2,7 @@ use Rattle.std.proofs.Common.{ap, arith, subst, sym, ℕ}
 use Rattle.std.specs.BTreeMap.{BTreeMap}
 use Rattle.gate_poll.specs.declared.peer.Peer.{Peer}
 use Rattle.gate_poll.specs.Table.{AreLetGo}
-use Rattle.gate_poll.specs.declared.ids.Ids.{Ids}
+use Rattle.gate_limits.specs.declared.ids.Ids.{Ids}
 use Rattle.gate_poll.proofs.LettingGo.{gone_then}
 use Rattle.gate_poll.proofs.Hosts.{serves_still}
 use Rattle.gate_poll.proofs.Listening.{serves_none, under_none, under_then}

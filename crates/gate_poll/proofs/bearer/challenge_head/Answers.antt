@@ -1,7 +1,0 @@
-use Rattle.std.proofs.Common.{refl}
-use Rattle.std.specs.Fmt.{digits}
-use Rattle.gate_poll.proofs.bearer.challenge_head.Goals as goal
-
-pub returns : goal.returns
-unfolding digits
-returns c = refl
