@@ -1,4 +1,4 @@
-use Rattle.std.proofs.Common.{ℕ, ◌<◌, length, arith}
+use Rattle.std.proofs.Common.{◌<◌, arith}
 use Rattle.std.proofs.lemmas.List.{ext_get_or}
 use Rattle.gate_limits.proofs.bearer.count_differences.Goals as goal
 

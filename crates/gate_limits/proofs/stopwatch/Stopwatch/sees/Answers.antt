@@ -1,4 +1,4 @@
-use Rattle.std.proofs.Common.{◌≡◌, ℕ, Bool, true, false, ◌==◌, List, [], ◌∷◌, length, Option, Some, None, ap, rules}
+use Rattle.std.proofs.Common.{◌≡◌, ℕ, true, false, ◌==◌, List, [], ◌∷◌, length, Option, Some, None, ap, rules}
 use Rattle.std.specs.Option.{is_none}
 use Rattle.std.specs.declared.time.Instant.{Instant}
 use Rattle.gate_limits.specs.declared.latencies.RequestKind.{RequestKind}
