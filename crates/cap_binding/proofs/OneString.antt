@@ -15,7 +15,7 @@ use Rattle.share_codec.specs.Meets.{Meets}
 use Rattle.share_codec.specs.GoodShare.{GoodShare, IsReadFrom, good_share}
 use Rattle.share_codec.specs.Uses.{share_uses, meets_uses}
 use Rattle.caps.specs.Fields.{ReadValue}
-use Rattle.chk_file.specs.Numbers.{params_of}
+use Rattle.file_shares.specs.Numbers.{params_of}
 use Rattle.cap_binding.specs.Binds.{Binds}
 use Rattle.cap_binding.specs.Found.{bound_uses}
 use Rattle.cap_binding.proofs.Members.{All-range, range_apart}

@@ -4,7 +4,7 @@ use Rattle.aes_ctr.specs.Crypt.{crypt}
 use Rattle.tag_hash.specs.Use.{Use}
 use Rattle.share_codec.specs.Uses.{share_uses}
 use Rattle.caps.specs.Fields.{ReadValue}
-use Rattle.chk_file.specs.Numbers.{params_of}
+use Rattle.file_shares.specs.Numbers.{params_of}
 use Rattle.chk_file.specs.Collide.{Collide}
 
 -- two of these uses collide

@@ -14,10 +14,11 @@ use Rattle.grid.proofs.Views.{honest_tell, sees_honest, sees_whole, tell_on_none
 use Rattle.caps.specs.Fields.{ReadValue}
 use Rattle.caps.specs.StorageIndex.{index_of}
 use Rattle.share_codec.specs.Params.{ParamsValue}
-use Rattle.chk_file.specs.Row.{ShareTable, table_of, places, good_shares}
+use Rattle.file_shares.specs.Row.{ShareTable, places, good_shares}
+use Rattle.chk_file.specs.Tables.{table_of}
 use Rattle.chk_file.specs.Reached.{IsReachedIn, OfReachedIn, OfReached}
-use Rattle.chk_file.specs.Gathered.{Found, of_number, by_number, good_below}
-use Rattle.chk_file.specs.Fit.{fit_in, fit}
+use Rattle.file_shares.specs.Gathered.{Found, of_number, by_number, good_below}
+use Rattle.file_shares.specs.Fit.{fit_in, fit}
 use Rattle.chk_file.specs.Cached.{CacheEntry, IsWithin, IsWithinOr}
 use Rattle.chk_file.specs.Amid.{SeesReached, AreKeptSeen, IsKeptOrSeen}
 use Rattle.chk_file.proofs.Reached.{IsGathered, gathered_is_reached, IsGatheredBelow, low_is_reached}

@@ -15,7 +15,7 @@ use Rattle.share_codec.specs.Params.{ParamsValue}
 use Rattle.share_codec.specs.Segments.{segment_size, segment_count, segment_length, segments, with_padding, primary_blocks}
 use Rattle.share_codec.specs.Shares.{blocks, roots_of}
 use Rattle.share_codec.specs.GoodShare.{GoodShare}
-use Rattle.chk_file.specs.Fit.{blocks_at, has_zeros, has_padding, segment_from, crypttext_from}
+use Rattle.file_shares.specs.Fit.{blocks_at, has_zeros, has_padding, segment_from, crypttext_from}
 
 -- what the laws of the code and of segments say
 abbrev pub TrueBlocks : Type 0

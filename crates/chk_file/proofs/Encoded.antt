@@ -19,8 +19,9 @@ use Rattle.aes_ctr.specs.Crypt.{crypt}
 use Rattle.share_codec.specs.Params.{ParamsValue}
 use Rattle.share_codec.specs.Shares.{share, ueb_hash}
 use Rattle.caps.specs.Fields.{ReadValue}
-use Rattle.chk_file.specs.Upload.{Upload, params, key_tag, key_of, crypttext_of, fields, share_of, shares_of}
-use Rattle.chk_file.proofs.Goods.{from_images}
+use Rattle.chk_file.specs.Upload.{Upload, params, key_of, crypttext_of, fields, share_of, shares_of}
+use Rattle.file_shares.specs.KeyTag.{key_tag}
+use Rattle.file_shares.proofs.Goods.{from_images}
 
 -- what a law of shares says
 abbrev pub SharesSome : Type 0

@@ -23,16 +23,16 @@ use Rattle.share_codec.specs.Segments.{block_size, segment_count, segment_length
 use Rattle.share_codec.specs.Texts.{ShareTexts, share_text}
 use Rattle.share_codec.specs.Shares.{blocks, roots_of}
 use Rattle.share_codec.specs.GoodShare.{GoodShare, good_share}
-use Rattle.chk_file.specs.Row.{ShareTable, ServerShare, places, first_good, good_at, good_shares}
-use Rattle.chk_file.specs.Taken.{AreTaken}
-use Rattle.chk_file.specs.Fit.{blocks_at, decoded_at, segment_from, has_zeros, has_padding, has_root, are_shares_of, crypttext_from, given_by, fit_in}
+use Rattle.file_shares.specs.Row.{ShareTable, ServerShare, places, first_good, good_at, good_shares}
+use Rattle.file_shares.specs.Taken.{AreTaken}
+use Rattle.file_shares.specs.Fit.{blocks_at, decoded_at, segment_from, has_zeros, has_padding, has_root, are_shares_of, crypttext_from, given_by, fit_in}
 use Rattle.chk_file.specs.IsFit.{IsByteRow, IsGivenBy}
-use Rattle.chk_file.proofs.Tools.{true_or_false, All-filter_map}
-use Rattle.chk_file.proofs.Pieces.{not_all}
-use Rattle.chk_file.proofs.Sealed.{ReadFrom, GoodIsCut}
-use Rattle.chk_file.proofs.Goods.{of_first, all_taken, numbers-blocks_at, contents-blocks_at, first_long, same_lengths}
-use Rattle.chk_file.proofs.Lengths.{DecodedCount, DecodedBlocks, JoinedCut, length-decoded, length-segment_from, length-crypttext, segments-crypttext}
-use Rattle.chk_file.proofs.Sound.{Twice, CryptIs, CryptLength, crypt-twice, length-crypt}
+use Rattle.file_shares.proofs.Tools.{true_or_false, All-filter_map}
+use Rattle.file_shares.proofs.Pieces.{not_all}
+use Rattle.file_shares.proofs.Sealed.{ReadFrom, GoodIsCut}
+use Rattle.file_shares.proofs.Goods.{of_first, all_taken, numbers-blocks_at, contents-blocks_at, first_long, same_lengths}
+use Rattle.file_shares.proofs.Lengths.{DecodedCount, DecodedBlocks, JoinedCut, length-decoded, length-segment_from, length-crypttext, segments-crypttext}
+use Rattle.file_shares.proofs.Sound.{Twice, CryptIs, CryptLength, crypt-twice, length-crypt}
 
 -- ---- the blocks of good shares are bytes
 

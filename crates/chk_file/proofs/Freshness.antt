@@ -9,8 +9,9 @@ use Rattle.grid.specs.Leaves.{Leaves}
 use Rattle.grid.specs.Stamped.{IsStamped}
 use Rattle.caps.specs.Fields.{ReadValue}
 use Rattle.caps.specs.StorageIndex.{index_of}
-use Rattle.chk_file.specs.Row.{ShareTable, table_of}
-use Rattle.chk_file.specs.Fit.{fit}
+use Rattle.file_shares.specs.Row.{ShareTable}
+use Rattle.chk_file.specs.Tables.{table_of}
+use Rattle.file_shares.specs.Fit.{fit}
 use Rattle.chk_file.specs.Cached.{CacheEntry, IsWithin, IsWithinOr, IsCurrent, IsCacheCurrent}
 
 -- what stands under an index whose stamp stayed is what stood

@@ -15,15 +15,15 @@ use Rattle.octets.specs.Sharing.{IsSharing}
 use Rattle.share_codec.specs.Segments.{segment_count, segment_length}
 use Rattle.share_codec.specs.Shares.{blocks, roots_of}
 use Rattle.share_codec.specs.GoodShare.{GoodShare}
-use Rattle.chk_file.specs.Row.{ShareTable, good_shares}
-use Rattle.chk_file.specs.Fit.{blocks_at, segment_from, has_zeros, has_padding, has_root, are_shares_of, crypttext_from, given_by, fit_in}
+use Rattle.file_shares.specs.Row.{ShareTable, good_shares}
+use Rattle.file_shares.specs.Fit.{blocks_at, segment_from, has_zeros, has_padding, has_root, are_shares_of, crypttext_from, given_by, fit_in}
 use Rattle.chk_file.specs.IsFit.{IsGivenBy}
-use Rattle.chk_file.proofs.Tools.{pairs_taken}
+use Rattle.file_shares.proofs.Tools.{pairs_taken}
 use Rattle.chk_file.proofs.Decodes.{made_share}
-use Rattle.chk_file.proofs.Sealed.{ReadFrom, GoodIsCut}
-use Rattle.chk_file.proofs.Sound.{Twice, CryptIs, CryptLength, crypt-twice, length-crypt}
+use Rattle.file_shares.proofs.Sealed.{ReadFrom, GoodIsCut}
+use Rattle.file_shares.proofs.Sound.{Twice, CryptIs, CryptLength, crypt-twice, length-crypt}
 use Rattle.chk_file.proofs.Keys.{Decodes, Padded, CryptBytes}
-use Rattle.chk_file.proofs.Goods.{IsKnown, row_known, row_apart, any_share}
+use Rattle.file_shares.proofs.Goods.{IsKnown, row_known, row_apart, any_share}
 
 module _ (p : ParamsValue) (crypttext : List ℕ) where
   abbrev numbers_in : List GoodShare → List ℕ

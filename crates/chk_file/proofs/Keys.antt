@@ -22,18 +22,19 @@ use Rattle.share_codec.specs.Meets.{Meets}
 use Rattle.share_codec.specs.GoodShare.{GoodShare, IsReadFrom}
 use Rattle.share_codec.specs.Uses.{share_uses, meets_uses}
 use Rattle.share_codec.specs.GoodShare.{good_share}
-use Rattle.chk_file.specs.Upload.{Upload, params, key_tag, key_of, crypttext_of, fields, index, share_of, IsUpload}
+use Rattle.chk_file.specs.Upload.{Upload, params, key_of, crypttext_of, fields, index, share_of, IsUpload}
+use Rattle.file_shares.specs.KeyTag.{key_tag}
 use Rattle.chk_file.specs.Uses.{upload_uses}
-use Rattle.chk_file.specs.Row.{ServerShare, most_servers, first_good, good_at, good_shares, place_uses, row_uses}
-use Rattle.chk_file.specs.Fit.{crypttext_from, has_padding, has_root, are_shares_of, given_by, fit_in, fit}
+use Rattle.file_shares.specs.Row.{ServerShare, most_servers, first_good, good_at, good_shares, place_uses, row_uses}
+use Rattle.file_shares.specs.Fit.{crypttext_from, has_padding, has_root, are_shares_of, given_by, fit_in, fit}
 use Rattle.chk_file.specs.Marks.{Mark, MarkRow, stands, shown_row}
 use Rattle.chk_file.specs.Held.{has_none, is_untouched, stands_untouched, untouched_numbers, held_of}
 use Rattle.chk_file.specs.Sound.{IsMarkAt}
-use Rattle.chk_file.proofs.Tools.{true_or_false, Contains-flat_map, Contains-range, All-range, filtered_apart, kept_alike, kept_range, pairs_taken}
+use Rattle.file_shares.proofs.Tools.{true_or_false, Contains-flat_map, Contains-range, All-range, filtered_apart, kept_alike, kept_range, pairs_taken}
 use Rattle.chk_file.proofs.Uploads.{shares_hashed}
 use Rattle.chk_file.proofs.Decodes.{made_share}
-use Rattle.chk_file.proofs.Sealed.{ReadFrom}
-use Rattle.chk_file.proofs.Sound.{Twice, CryptIs, CryptLength, crypt-twice}
+use Rattle.file_shares.proofs.Sealed.{ReadFrom}
+use Rattle.file_shares.proofs.Sound.{Twice, CryptIs, CryptLength, crypt-twice}
 use Rattle.chk_file.proofs.Sizes.{some-size, size-crypttext}
 
 -- what the laws of shares say

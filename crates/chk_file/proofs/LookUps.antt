@@ -6,7 +6,7 @@ use Rattle.std.specs.Prelude.{MatchOption}
 use Rattle.std.specs.Option.{ForSome, option_to_list}
 use Rattle.lru.proofs.Splits.{Contains-head, Contains-tail, Contains-cons, Contains-nil}
 use Rattle.caps.specs.Fields.{ReadValue}
-use Rattle.chk_file.specs.Bound.{Bound}
+use Rattle.file_shares.specs.Bound.{Bound}
 use Rattle.chk_file.specs.Cached.{CacheEntry, AreBound, IsWithin, IsWithinOr}
 use Rattle.chk_file.proofs.CacheEntries.{within_or_beside, within_behind, within_or_behind, bound_within, bound_within_or}
 

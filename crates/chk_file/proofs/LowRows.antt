@@ -3,12 +3,12 @@ use Rattle.std.proofs.Common.{◌≡◌, ℕ, List, Some, ap, ◌∙◌}
 use Rattle.share_store.specs.Shares.{Shares}
 use Rattle.grid.specs.GridState.{GridState}
 use Rattle.share_codec.specs.Params.{ParamsValue}
-use Rattle.chk_file.specs.Gathered.{Found, by_number, good_below}
-use Rattle.chk_file.specs.Row.{good_shares}
-use Rattle.chk_file.specs.Fit.{fit_in}
-use Rattle.chk_file.proofs.Gathered.{low_are_first}
+use Rattle.file_shares.specs.Gathered.{Found, by_number, good_below}
+use Rattle.file_shares.specs.Row.{good_shares}
+use Rattle.file_shares.specs.Fit.{fit_in}
+use Rattle.file_shares.proofs.ByNumber.{low_are_first}
 use Rattle.chk_file.proofs.Reached.{IsGatheredBelow}
-use Rattle.chk_file.proofs.Fitting.{given_by_all}
+use Rattle.file_shares.proofs.Fitting.{given_by_all}
 
 -- what was gathered of low numbers gives, where it gives anything, what the row gives of which it is
 pub in_row : (p : ParamsValue) (key ueb : List ℕ) (limit : ℕ) (maps : List Shares) (old new : GridState) (index : List ℕ) (found : List Found) (bytes : List ℕ)

@@ -12,10 +12,10 @@ use Rattle.grid.specs.Found.{found_below}
 use Rattle.grid.specs.FoundLaws.{FoundLaws}
 use Rattle.grid.specs.GridState.{GridState, failures_at}
 use Rattle.grid.specs.Standing.{standing}
-use Rattle.chk_file.specs.Row.{ShareTable, most_servers, ServerShare, places}
+use Rattle.file_shares.specs.Row.{ShareTable, most_servers, ServerShare, places}
 use Rattle.chk_file.specs.Reached.{IsReachedIn}
-use Rattle.chk_file.specs.Gathered.{Found, of_number}
-use Rattle.chk_file.proofs.Tools.{none_past}
+use Rattle.file_shares.specs.Gathered.{Found, of_number}
+use Rattle.file_shares.proofs.Tools.{none_past}
 
 -- ---- all but some
 

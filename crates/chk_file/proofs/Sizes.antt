@@ -1,7 +1,7 @@
 -- The size of an upload's crypttext.
 use Rattle.std.proofs.Common.{◌≡◌, ◌<◌, length}
 use Rattle.chk_file.specs.Upload.{Upload, IsUpload, params, key_of, crypttext_of}
-use Rattle.chk_file.proofs.Sound.{CryptIs, CryptLength, length-crypt}
+use Rattle.file_shares.proofs.Sound.{CryptIs, CryptLength, length-crypt}
 
 pub some-size : (u : Upload) → IsUpload u → 0 < (params u).size
 some-size u is = is.some

@@ -25,12 +25,12 @@ use Rattle.grid.specs.Changes.{without, spoiled}
 use Rattle.caps.specs.Fields.{ReadValue}
 use Rattle.caps.specs.StorageIndex.{index_of}
 use Rattle.chk_file.specs.Upload.{Upload, fields, index, share_of, shares_of, IsUpload}
-use Rattle.chk_file.specs.Fit.{fit}
+use Rattle.file_shares.specs.Fit.{fit}
 use Rattle.chk_file.specs.Marks.{Mark, Marks, MarkRow, untouched, stands, marks_of, shown, shown_row, put_marks, lost_mark, spoiled_at, spoiled_mark}
 use Rattle.chk_file.specs.World.{World, empty, same_fields, with_file, after_upload, after_lose, after_spoil}
 use Rattle.chk_file.specs.Held.{held_of, held_in, uploaded_bytes}
 use Rattle.chk_file.specs.Sound.{IsFileAt, IsMarkAt, IsSoundWorld, IsCovered}
-use Rattle.chk_file.proofs.Tools.{true_or_false}
+use Rattle.file_shares.proofs.Tools.{true_or_false}
 use Rattle.chk_file.proofs.Keys.{IsRowOf}
 
 -- ---- what stands after each change

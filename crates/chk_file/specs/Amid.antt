@@ -5,9 +5,10 @@ use Rattle.grid.specs.GridState.{GridState, raised_at}
 use Rattle.grid.specs.Views.{Sees}
 use Rattle.caps.specs.Fields.{ReadValue}
 use Rattle.caps.specs.StorageIndex.{index_of}
-use Rattle.chk_file.specs.Row.{ShareTable, table_of}
+use Rattle.file_shares.specs.Row.{ShareTable}
+use Rattle.chk_file.specs.Tables.{table_of}
 use Rattle.chk_file.specs.Reached.{OfReachedIn}
-use Rattle.chk_file.specs.Fit.{fit}
+use Rattle.file_shares.specs.Fit.{fit}
 use Rattle.chk_file.specs.Cached.{CacheEntry}
 
 -- this is said of a row that was reached of what the call saw

@@ -4,9 +4,9 @@ use Rattle.grid.specs.Stamps.{last_count}
 use Rattle.grid.specs.GridState.{GridState, stood, raised_at, IsHonest}
 use Rattle.caps.specs.Fields.{ReadValue}
 use Rattle.caps.specs.StorageIndex.{index_of}
-use Rattle.chk_file.specs.Row.{table_of}
-use Rattle.chk_file.specs.Fit.{fit}
-use Rattle.chk_file.specs.Bound.{Bound}
+use Rattle.chk_file.specs.Tables.{table_of}
+use Rattle.file_shares.specs.Fit.{fit}
+use Rattle.file_shares.specs.Bound.{Bound}
 
 -- the fields of a file, the stamp of its storage index when it was read, and its bytes
 abbrev pub CacheEntry : Type 0

@@ -5,8 +5,8 @@ use Rattle.std.specs.List.{list_any, range_with_len}
 use Rattle.caps.specs.Fields.{ReadValue}
 use Rattle.caps.specs.StorageIndex.{index_of}
 use Rattle.chk_file.specs.Upload.{Upload}
-use Rattle.chk_file.specs.Row.{most_servers}
-use Rattle.chk_file.specs.Fit.{fit}
+use Rattle.file_shares.specs.Row.{most_servers}
+use Rattle.file_shares.specs.Fit.{fit}
 use Rattle.chk_file.specs.Marks.{Mark, MarkRow, marks_of, shown_row}
 use Rattle.chk_file.specs.World.{World}
 

@@ -6,8 +6,8 @@ use Rattle.share_codec.specs.Params.{ParamsValue}
 use Rattle.share_codec.specs.Shares.{blocks, roots_of}
 use Rattle.share_codec.specs.GoodShare.{GoodShare}
 use Rattle.caps.specs.Fields.{ReadValue}
-use Rattle.chk_file.specs.Numbers.{params_of}
-use Rattle.chk_file.specs.Row.{ShareTable, good_shares}
+use Rattle.file_shares.specs.Numbers.{params_of}
+use Rattle.file_shares.specs.Row.{ShareTable, good_shares}
 
 -- bytes of the size whose crypttext has, in the first k of these shares, the blocks that stand there, and whose
 -- crypttext root is that of the first

@@ -3,8 +3,9 @@ use Rattle.std.specs.Prelude.{ℕ, List, Option}
 use Rattle.grid.specs.Standing.{Standing}
 use Rattle.caps.specs.Fields.{ReadValue}
 use Rattle.caps.specs.StorageIndex.{index_of}
-use Rattle.chk_file.specs.Row.{ShareTable, table_of}
-use Rattle.chk_file.specs.Fit.{fit}
+use Rattle.file_shares.specs.Row.{ShareTable}
+use Rattle.chk_file.specs.Tables.{table_of}
+use Rattle.file_shares.specs.Fit.{fit}
 use Rattle.chk_file.specs.Marks.{shown}
 use Rattle.chk_file.specs.World.{World}
 use Rattle.chk_file.specs.Held.{uploaded_bytes}

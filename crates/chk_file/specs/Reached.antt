@@ -2,7 +2,8 @@
 use Rattle.std.specs.Prelude.{◌≡◌, ◌<◌, ◌≤◌, ◌⊎◌, ℕ, List, None}
 use Rattle.grid.specs.GridState.{GridState, stood, failures_at, NoneFailed}
 use Rattle.grid.specs.Standing.{Standing}
-use Rattle.chk_file.specs.Row.{ShareTable, table_of}
+use Rattle.file_shares.specs.Row.{ShareTable}
+use Rattle.chk_file.specs.Tables.{table_of}
 
 -- all that stands under the index, but for some shares at servers whose store failed in between
 pub record IsReachedIn (stands : Standing) (old new : GridState) (index : List ℕ) (row : ShareTable) : Type 0 where

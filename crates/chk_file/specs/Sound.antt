@@ -4,10 +4,10 @@ use Rattle.tag_hash.specs.Collisions.{Includes}
 use Rattle.tag_hash.specs.Use.{Use}
 use Rattle.caps.specs.Fields.{ReadValue}
 use Rattle.caps.specs.StorageIndex.{index_of}
-use Rattle.chk_file.specs.Numbers.{params_of}
+use Rattle.file_shares.specs.Numbers.{params_of}
 use Rattle.chk_file.specs.Upload.{Upload, fields, index, share_of, IsUpload}
 use Rattle.chk_file.specs.Uses.{upload_uses}
-use Rattle.chk_file.specs.Row.{row_uses}
+use Rattle.file_shares.specs.Row.{row_uses}
 use Rattle.chk_file.specs.Marks.{Mark, marks_of, shown_row}
 use Rattle.chk_file.specs.World.{World}
 

@@ -5,9 +5,9 @@ use Rattle.caps.specs.Fields.{ReadValue}
 use Rattle.caps.specs.StorageIndex.{index_of}
 use Rattle.dir_codec.specs.declared.finder.Sought.{Sought}
 use Rattle.dir_codec.specs.Sought.{sought_in}
-use Rattle.chk_file.specs.Row.{table_of}
-use Rattle.chk_file.specs.Fit.{fit}
-use Rattle.chk_file.specs.Bound.{Bound}
+use Rattle.chk_file.specs.Tables.{table_of}
+use Rattle.file_shares.specs.Fit.{fit}
+use Rattle.file_shares.specs.Bound.{Bound}
 use Rattle.chk_file.specs.Cached.{CacheEntry, IsCacheCurrent}
 
 -- What is known of a name that was looked up in a directory: it is of bytes that the cache has with the present stamp, which are bound to its

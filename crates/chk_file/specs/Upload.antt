@@ -1,20 +1,18 @@
 -- Uploads: how bytes become a cap and shares (Tahoe-LAFS, file encoding).
-use Rattle.std.specs.Prelude.{ℕ, ◌<◌, List, ◌∷◌, ◌++◌, length, map, codes, nat_lt, if◌then◌else◌}
+use Rattle.std.specs.Prelude.{ℕ, ◌<◌, List, length, map, nat_lt, if◌then◌else◌}
 use Rattle.std.specs.List.{range_with_len}
-use Rattle.tag_hash.specs.Decimal.{decimal_text}
-use Rattle.tag_hash.specs.Netstring.{netstring}
 use Rattle.tag_hash.specs.Tagged.{tagged16}
 use Rattle.aes_ctr.specs.Crypt.{crypt}
 use Rattle.erasure.specs.Code.{AreBytes}
 use Rattle.share_codec.specs.Params.{ParamsValue}
-use Rattle.share_codec.specs.Segments.{segment_size}
 use Rattle.share_codec.specs.Shares.{share, ueb_hash}
 use Rattle.octets.specs.Sharing.{IsSharing}
 use Rattle.caps.specs.Fields.{ReadValue}
 use Rattle.caps.specs.declared.cap.Cap.{Cap}
 use Rattle.caps.specs.declared.cap.Cap.TheVariants.{Chk, Lit}
 use Rattle.caps.specs.StorageIndex.{index_of}
-use Rattle.chk_file.specs.Numbers.{params_of}
+use Rattle.file_shares.specs.Numbers.{params_of}
+use Rattle.file_shares.specs.KeyTag.{key_tag}
 
 -- bytes and the secret under which they are uploaded; any k of the n shares give them back
 pub record Upload : Type 0 where
@@ -28,14 +26,6 @@ uploaded k n secret bytes = record { k = k; n = n; secret = secret; bytes = byte
 
 abbrev pub params : Upload → ParamsValue
 params u = params_of u.k u.n (length u.bytes)
-
--- `k,n,segment size`
-unfoldable pub numbers_text : ParamsValue → List ℕ
-numbers_text p = decimal_text p.k ++ 44 ∷ (decimal_text p.n ++ 44 ∷ decimal_text (segment_size p))
-
--- the tag of the convergent key
-unfoldable pub key_tag : ParamsValue → List ℕ → List ℕ
-key_tag p secret = codes "webgate_content_to_key_v1+" ++ (netstring secret ++ netstring (numbers_text p))
 
 -- the convergent key
 unfoldable pub key_of : Upload → List ℕ

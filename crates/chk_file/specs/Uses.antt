@@ -4,7 +4,8 @@ use Rattle.tag_hash.specs.Tagged.{tagged16_use}
 use Rattle.tag_hash.specs.Use.{Use}
 use Rattle.share_codec.specs.Uses.{share_uses}
 use Rattle.caps.specs.StorageIndex.{index_use}
-use Rattle.chk_file.specs.Upload.{Upload, params, key_tag, key_of, crypttext_of}
+use Rattle.chk_file.specs.Upload.{Upload, params, key_of, crypttext_of}
+use Rattle.file_shares.specs.KeyTag.{key_tag}
 
 -- for its key
 abbrev pub key_use : Upload → Use

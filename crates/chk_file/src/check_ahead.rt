@@ -1,9 +1,9 @@
 //! Checks of long files that are prepared: the strings that stores have in memory, while their blocks are hashed.
 ghost use Rattle.std.specs.Prelude.{◌≡◌, IfOk};
-ghost use Rattle.chk_file.specs.Numbers.{params_of};
+ghost use Rattle.file_shares.specs.Numbers.{params_of};
 
-use crate::readings::Readings;
 use caps::VerifyFields;
+use file_shares::Readings;
 use grid::Grid;
 use share_codec::Params;
 use share_store::Store;

@@ -2,9 +2,9 @@
 ghost use Rattle.std.specs.Prelude.{◌≡◌, IfOk, option_map};
 ghost use Rattle.dir_codec.specs.TextMakers.{IsTextMaker, text_made};
 
-use crate::awaited::next_piece;
 use crate::cache::Cache;
 use dir_codec::{TextMaker, TextMaking, make_text};
+use file_shares::next_piece;
 use std::alloc::{AllocError, Global};
 use std::marker::Model;
 

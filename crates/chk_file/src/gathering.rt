@@ -4,16 +4,14 @@ ghost use Rattle.grid.specs.GridState.{IsHonest};
 ghost use Rattle.grid.specs.Leaves.{Leaves, IsUnchanged};
 ghost use Rattle.grid.specs.Views.{AllTell, StandStill, TellOn};
 ghost use Rattle.caps.specs.StorageIndex.{index_of};
-ghost use Rattle.chk_file.specs.Fit.{fit};
+ghost use Rattle.file_shares.specs.Fit.{fit};
 ghost use Rattle.chk_file.specs.Cached.{IsCacheCurrent};
 ghost use Rattle.chk_file.specs.Amid.{AreKeptSeen, SeesReached};
-ghost use Rattle.chk_file.specs.Seen.{given_by};
+ghost use Rattle.chk_file.specs.Seen.{gathered_file};
 
 use crate::cache::{Cache, MOST_KEPT};
-use crate::judging::has_each;
-use crate::kept_strings::Gathered;
-use crate::read_ahead::ReadAhead;
 use caps::{ReadFields, storage_index};
+use file_shares::{Gathered, ReadAhead, has_each};
 use grid::Grid;
 use grid::laws::found_laws;
 use share_store::Store;
@@ -156,7 +154,7 @@ fn gathered_at<S: Store>(grid: &mut Grid<S>, fields: &ReadFields, stamp: u64) ->
     ensures told { TellOn grid.old grid.new }
     ensures fields { IfSome result (λ gathered. gathered.fields ≡ fields.now) }
     ensures stamp { IfSome result (λ gathered. gathered.stamp ≡ stamp) }
-    ensures seen { AllTell grid.old → IfSome result (λ gathered. IfSome (given_by gathered) (λ bytes.
+    ensures seen { AllTell grid.old → IfSome result (λ gathered. IfSome (gathered_file gathered) (λ bytes.
         SeesReached grid.old grid.new (index_of fields.now.key) (λ row.
         fit row fields.now ≡ Some bytes))) }
 {

@@ -3,15 +3,14 @@ ghost use Rattle.std.specs.Prelude.{◌≡◌, Contains, IfOk, IfSome};
 ghost use Rattle.grid.specs.GridState.{IsHonest};
 ghost use Rattle.grid.specs.Leaves.{Leaves, IsUnchanged};
 ghost use Rattle.grid.specs.Views.{AllTell, StandStill, TellOn};
-ghost use Rattle.chk_file.specs.Bound.{Bound};
+ghost use Rattle.file_shares.specs.Bound.{Bound};
 ghost use Rattle.chk_file.specs.Cached.{IsCacheCurrent, IsWithin};
 ghost use Rattle.chk_file.specs.Amid.{AreKeptSeen};
 
 use crate::cache::{Cache, MOST_KEPT};
-use crate::download::Download;
-use crate::fault::ReadFault;
 use crate::reader::{begin, whole};
 use caps::{ReadFields, storage_index};
+use file_shares::{Download, ReadFault};
 use grid::Grid;
 use share_store::Store;
 use std::alloc::{AllocError, Global};

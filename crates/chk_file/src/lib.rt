@@ -8,22 +8,8 @@
 
 /// Uploads.
 mod uploader;
-/// How bytes become a cap and shares.
-mod encode;
-/// Uploads that are prepared.
-mod preparation;
 /// Directories that are prepared: the text of the directory that children JSON names.
 mod directory_ahead;
-/// Uploads that are awaited.
-mod awaited;
-/// Bytes that are copied and hashed.
-mod hashing;
-/// Shares that are made of them.
-mod coding;
-/// The shares of bytes under a key, made step by step.
-mod encoder;
-/// What was made.
-mod made;
 /// Files that were read and are kept, and what is prepared.
 mod cache;
 /// What was found under names in directories.
@@ -44,58 +30,20 @@ mod reader;
 mod long_reader;
 /// Preparing long files to be read.
 mod gathering;
-/// Strings of them that stores gave.
-mod kept_strings;
-/// Long files that are prepared to be read.
-mod read_ahead;
-/// Strings that stores lent or gave, while they are hashed.
-mod readings;
-/// Strings that are judged as shares of them.
-mod judging;
-/// Good shares of them.
-mod picked;
-/// Good shares that are decoded.
-mod decoding;
-/// Crypttexts whose root is compared.
-mod root_check;
-/// Files that are prepared.
-mod ready;
-/// Downloads.
-mod download;
-/// Bytes that are held whole.
-mod whole;
-/// Files of which shares are held.
-mod share_reader;
 /// What the stores have of a file, verified.
 mod verify;
-/// What was gathered or told, number by number.
-mod rows;
-/// Which of the shares that were gathered are read.
-mod chosen;
-/// The crypttext that good shares are of.
-mod crypttext;
-/// Segments that are decoded.
-mod segment;
-/// Bytes under a key.
-mod cipher;
 /// Checks of long files that are prepared.
 mod check_ahead;
 /// Checking files.
 mod checker;
-/// How healthy a file is.
-mod health;
-/// Why a file isn't read.
-mod fault;
 /// Laws of the definitions.
 pub mod laws;
 
 pub use cache::Cache;
 pub use checker::check;
 pub use directory_ahead::directory_text_of;
-pub use download::Download;
-pub use fault::ReadFault;
+pub use file_shares::{Download, Health, ReadFault};
 pub use gathering::lends;
-pub use health::Health;
 pub use listing_ahead::read_counted;
 pub use look_ahead::sought;
 pub use reader::{begin, read};

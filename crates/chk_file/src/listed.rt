@@ -4,8 +4,8 @@ ghost use Rattle.std.specs.Rc.{rc_slice_items};
 ghost use Rattle.json_view.specs.Counts.{count_text};
 ghost use Rattle.chk_file.specs.Seen.{stage_text};
 
-use crate::download::Download;
 use caps::ReadFields;
+use file_shares::Download;
 use json_view::{Count, Counted, Counting};
 use std::alloc::{AllocError, Global};
 use std::marker::Model;

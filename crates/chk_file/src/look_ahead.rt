@@ -3,7 +3,7 @@ ghost use Rattle.std.specs.Prelude.{◌≡◌, Contains, IfOk, IfSome};
 ghost use Rattle.grid.specs.GridState.{IsHonest};
 ghost use Rattle.grid.specs.Leaves.{Leaves, IsUnchanged};
 ghost use Rattle.grid.specs.Views.{AllTell, StandStill, TellOn};
-ghost use Rattle.chk_file.specs.Bound.{Bound};
+ghost use Rattle.file_shares.specs.Bound.{Bound};
 ghost use Rattle.chk_file.specs.Cached.{IsCacheCurrent, IsWithin, IsWithinOr};
 ghost use Rattle.chk_file.specs.Amid.{AreKeptSeen};
 ghost use Rattle.chk_file.specs.Seen.{step_entry};

@@ -3,10 +3,10 @@ ghost use Rattle.std.specs.Prelude.{◌≡◌, [], IfOk};
 ghost use Rattle.dir_codec.specs.Sought.{IsFinding};
 ghost use Rattle.chk_file.specs.Seen.{looked_entry};
 
-use crate::download::Download;
 use crate::steps::Step;
 use caps::ReadFields;
 use dir_codec::{Finder, Finding};
+use file_shares::Download;
 use octets::{Bytes, Text};
 use std::alloc::{AllocError, Global};
 use std::marker::Model;

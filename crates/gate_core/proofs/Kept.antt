@@ -8,8 +8,8 @@ use Rattle.caps.specs.Fields.{ReadValue}
 use Rattle.caps.specs.StorageIndex.{index_of}
 use Rattle.chk_file.specs.Upload.{Upload, index}
 use Rattle.chk_file.specs.Uses.{upload_uses}
-use Rattle.chk_file.specs.Numbers.{params_of}
-use Rattle.chk_file.specs.Row.{row_uses}
+use Rattle.file_shares.specs.Numbers.{params_of}
+use Rattle.file_shares.specs.Row.{row_uses}
 use Rattle.chk_file.specs.Marks.{MarkRow, marks_of, shown_row}
 use Rattle.chk_file.specs.World.{World, after_upload}
 use Rattle.chk_file.specs.Look.{by_held}

@@ -2,7 +2,7 @@
 use Rattle.std.proofs.Common.{◌≡◌, List, [], ◌∷◌, Bool, true, false, cond, Option, Some, None, refl, sym, ap, subst, ◌∙◌, arith, ⊎_elim}
 use Rattle.std.specs.Prelude.{◌||◌, filter, Contains, option_to_list}
 use Rattle.std.proofs.lemmas.Option.{none-some, same_Some}
-use Rattle.chk_file.proofs.Tools.{Contains-here, Contains-there, Contains-cons_cases}
+use Rattle.file_shares.proofs.Tools.{Contains-here, Contains-there, Contains-cons_cases}
 use Rattle.gate_core.proofs.Local.{true_or_false}
 
 pub or_first : (a b : Bool) → a ≡ true → (a || b) ≡ true

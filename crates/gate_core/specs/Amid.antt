@@ -7,8 +7,8 @@ use Rattle.http_edge.specs.Reply.{rendered}
 use Rattle.grid.specs.GridState.{GridState}
 use Rattle.caps.specs.Fields.{ReadValue}
 use Rattle.caps.specs.StorageIndex.{index_of}
-use Rattle.chk_file.specs.Bound.{Bound}
-use Rattle.chk_file.specs.Fit.{fit}
+use Rattle.file_shares.specs.Bound.{Bound}
+use Rattle.file_shares.specs.Fit.{fit}
 use Rattle.chk_file.specs.Amid.{SeesReached}
 use Rattle.web_ops.specs.declared.reply.Reply.{Reply as WebReply}
 use Rattle.web_ops.specs.Amid.{IsReplyBy}

@@ -8,9 +8,9 @@ use Rattle.caps.specs.declared.cap.VerifyCap.{VerifyCap}
 use Rattle.caps.specs.StorageIndex.{index_use}
 use Rattle.caps.specs.Weakening.{weakened}
 use Rattle.chk_file.specs.Upload.{Upload, index}
-use Rattle.chk_file.specs.Numbers.{params_of}
+use Rattle.file_shares.specs.Numbers.{params_of}
 use Rattle.chk_file.specs.Uses.{upload_uses}
-use Rattle.chk_file.specs.Row.{row_uses}
+use Rattle.file_shares.specs.Row.{row_uses}
 use Rattle.chk_file.specs.Marks.{marks_of, shown_row}
 use Rattle.chk_file.specs.World.{World}
 use Rattle.chk_file.specs.Look.{by_held}

@@ -8,7 +8,7 @@ use Rattle.serde_json.specs.Read.{read}
 use Rattle.serde_json.specs.Written.{comma_if, items_text, members_text, compact_text}
 use Rattle.serde_json.proofs.OnLiterals.{serde_json_on_literals}
 use Rattle.base32_text.specs.Base32.{spelling}
-use Rattle.chk_file.specs.Check.{HealthValue}
+use Rattle.file_shares.specs.Check.{HealthValue}
 use Rattle.json_view.specs.Strings.{quoted}
 use Rattle.health_json.specs.Checks.{truth, bad_share_text, counts_text, with_place, sharemap, servers_text, sharemap_text, mapped_check_text}
 use Rattle.health_json.specs.Values.{shares_value, servers_value, sharemap_value, mapped_check_value, in_key_order, IsCounted}

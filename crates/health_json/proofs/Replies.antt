@@ -2,7 +2,7 @@
 use Rattle.std.proofs.Common.{◌≡◌, ℕ, ◌==◌, nat_le, List, [], ◌∷◌, ◌++◌, length, map, codes, decimal, ap, ◌∙◌, append_assoc}
 use Rattle.std.specs.List.{concat, join_with_byte}
 use Rattle.base32_text.specs.Base32.{spelling}
-use Rattle.chk_file.specs.Check.{HealthValue}
+use Rattle.file_shares.specs.Check.{HealthValue}
 use Rattle.json_view.specs.Strings.{quoted}
 use Rattle.json_view.proofs.Pushed.{three_put}
 use Rattle.health_json.specs.Checks.{truth, bad_share_text, counts_text, check_text, sharemap_text, mapped_check_text}

@@ -2,7 +2,7 @@
 use Rattle.std.specs.Prelude.{ℕ, Bool, ◌==◌, nat_le, if◌then◌else◌, List, [], ◌∷◌, ◌++◌, length, map, codes, decimal, Option, Some, None}
 use Rattle.std.specs.List.{concat, join_with_byte}
 use Rattle.base32_text.specs.Base32.{spelling}
-use Rattle.chk_file.specs.Check.{HealthValue}
+use Rattle.file_shares.specs.Check.{HealthValue}
 use Rattle.json_view.specs.Strings.{quoted}
 
 abbrev pub truth : Bool → List ℕ

@@ -2,7 +2,7 @@
 use Rattle.std.specs.Prelude.{ℕ, ◌^◌, ◌<◌, ◌==◌, nat_le, true, List, [], ◌∷◌, length, codes, decimal, All}
 use Rattle.serde_json.specs.Data.{Data, null, boolean, number, unsigned, string, array, object, Items, item, no_items, Members, no_members, member, put}
 use Rattle.base32_text.specs.Base32.{spelling}
-use Rattle.chk_file.specs.Check.{HealthValue}
+use Rattle.file_shares.specs.Check.{HealthValue}
 use Rattle.health_json.specs.Checks.{sharemap}
 
 -- a share that isn't good: its server, the storage index and its number

@@ -3,7 +3,7 @@ ghost use Rattle.std.specs.Prelude.{◌≡◌, ◌<◌, ◌^◌, ℕ, List, [], 
 ghost use Rattle.std.specs.List.{flat_map};
 ghost use Rattle.serde_json.specs.Read.{read};
 ghost use Rattle.serde_json.specs.Written.{compact_text};
-ghost use Rattle.chk_file.specs.Check.{HealthValue};
+ghost use Rattle.file_shares.specs.Check.{HealthValue};
 ghost use Rattle.health_json.specs.Checks.{check_text, sharemap, servers_places, sharemap_text, mapped_check_text, literal_check_text};
 ghost use Rattle.health_json.specs.Values.{check_value, mapped_check_value, literal_check_value, in_key_order, IsCounted};
 

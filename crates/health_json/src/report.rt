@@ -6,7 +6,7 @@ ghost use Rattle.json_view.specs.Strings.{quoted};
 ghost use Rattle.health_json.specs.Checks.{truth, bad_share_text, counts_text, check_text, sharemap_text, mapped_check_text, place_text, end_text, literal_check_text};
 
 use base32_text::push_encoded;
-use chk_file::Health;
+use file_shares::Health;
 use itoa::Buffer;
 use json_view::text::{put_all, put_comma, put_string};
 use std::alloc::{AllocError, Global};

@@ -10,9 +10,10 @@ use Rattle.caps.specs.Fields.{ReadValue}
 use Rattle.caps.specs.StorageIndex.{index_of}
 use Rattle.caps.specs.declared.cap.Cap.{Cap}
 use Rattle.caps.specs.declared.cap.Cap.TheVariants.{Chk, Lit, DirChk, DirLit, ChkVerify, DirChkVerify}
-use Rattle.chk_file.specs.Row.{ShareTable, table_of}
+use Rattle.file_shares.specs.Row.{ShareTable}
+use Rattle.chk_file.specs.Tables.{table_of}
 use Rattle.chk_file.specs.Reached.{OfReachedIn}
-use Rattle.chk_file.specs.Fit.{fit}
+use Rattle.file_shares.specs.Fit.{fit}
 use Rattle.chk_file.specs.Cached.{CacheEntry}
 use Rattle.chk_file.specs.Amid.{SeesReached, IsKeptOrSeen, AreKeptSeen}
 use Rattle.chk_file.proofs.Amid.{seen_so}

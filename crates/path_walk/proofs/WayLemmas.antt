@@ -3,7 +3,7 @@ use Rattle.std.proofs.Common.{◌≡◌, inl, inr, ℕ, suc, List, [], ◌∷◌
 use Rattle.caps.specs.Fields.{ReadValue}
 use Rattle.caps.specs.declared.cap.Cap.{Cap}
 use Rattle.caps.specs.declared.cap.Cap.TheVariants.{Chk, Lit, DirChk, DirLit, ChkVerify, DirChkVerify}
-use Rattle.chk_file.specs.Bound.{Bound}
+use Rattle.file_shares.specs.Bound.{Bound}
 use Rattle.path_walk.specs.Walk.{FileLookup, or_walk_fault, then_on, child_in, child_below, listed_below, walked, met}
 use Rattle.path_walk.specs.Way.{IsChild, NamesLeadTo, IsStop, WalkStops}
 use Rattle.path_walk.specs.declared.fault.WalkFault.{WalkFault}

@@ -1,7 +1,7 @@
 -- What is below a walk as the walk's own; for private clauses.
 use Rattle.std.specs.Prelude.{ℕ, List, Result, Ok, Err}
-use Rattle.chk_file.specs.declared.fault.ReadFault.{ReadFault}
-use Rattle.chk_file.specs.declared.fault.ReadFault.TheVariants.{NotEnoughShares as ReadNotEnough, NoMemory as ReadNoMemory}
+use Rattle.file_shares.specs.declared.fault.ReadFault.{ReadFault}
+use Rattle.file_shares.specs.declared.fault.ReadFault.TheVariants.{NotEnoughShares as ReadNotEnough, NoMemory as ReadNoMemory}
 use Rattle.caps.specs.declared.cap.Cap.{Cap}
 use Rattle.dir_codec.specs.declared.finder.Sought.{Sought}
 use Rattle.dir_codec.specs.declared.finder.Sought.TheVariants.{Child, NoChild as SoughtNone, NoDirectory}

@@ -2,7 +2,7 @@
 ghost use Rattle.std.specs.Prelude.{◌≡◌, ◌↔◌, ℕ, List, Result, Ok, Err, IfSome, Contains};
 ghost use Rattle.caps.specs.declared.cap.Cap.{Cap};
 ghost use Rattle.caps.specs.Fields.{ReadValue};
-ghost use Rattle.chk_file.specs.Bound.{Bound};
+ghost use Rattle.file_shares.specs.Bound.{Bound};
 ghost use Rattle.path_walk.specs.Walk.{FileLookup, walked, met};
 ghost use Rattle.path_walk.specs.Way.{NamesLeadTo, WalkStops};
 ghost use Rattle.path_walk.specs.declared.fault.WalkFault.{WalkFault};

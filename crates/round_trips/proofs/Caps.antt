@@ -10,7 +10,8 @@ use Rattle.caps.specs.Fields.{ReadValue}
 use Rattle.caps.specs.CapTexts.{IsStoredCap, IsCap, IsCapText, cap_text}
 use Rattle.caps.specs.declared.cap.Cap.{Cap}
 use Rattle.caps.specs.declared.cap.Cap.TheVariants.{Chk, Lit, DirChk, DirLit, ChkVerify, DirChkVerify}
-use Rattle.chk_file.specs.Upload.{Upload, params, key_tag, key_of, crypttext_of, fields, upload_cap}
+use Rattle.chk_file.specs.Upload.{Upload, params, key_of, crypttext_of, fields, upload_cap}
+use Rattle.file_shares.specs.KeyTag.{key_tag}
 use Rattle.web_ops.specs.Uploads.{as_directory}
 use Rattle.client_core.specs.declared.exchange.Answer.{Answer}
 use Rattle.round_trips.specs.Trips.{IsBody, NamesCap}

@@ -10,7 +10,8 @@ use Rattle.caps.specs.declared.cap.Cap.TheVariants.{Chk, DirChk}
 use Rattle.dir_codec.specs.Children.{made}
 use Rattle.dir_codec.specs.DirectoryText.{directory_text}
 use Rattle.dir_codec.specs.declared.entry.Entry.{Entry as Child}
-use Rattle.chk_file.specs.Upload.{Upload, IsUpload, params, key_tag, key_of, fields, upload_cap}
+use Rattle.chk_file.specs.Upload.{Upload, IsUpload, params, key_of, fields, upload_cap}
+use Rattle.file_shares.specs.KeyTag.{key_tag}
 use Rattle.chk_file.specs.Held.{uploaded_bytes}
 use Rattle.chk_file.specs.Look.{by_held}
 use Rattle.chk_file.specs.Sound.{IsSoundWorld}

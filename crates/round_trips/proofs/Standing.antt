@@ -15,7 +15,7 @@ use Rattle.erasure.specs.Code.{AreBytes}
 use Rattle.caps.specs.Fields.{ReadValue}
 use Rattle.caps.specs.StorageIndex.{index_of}
 use Rattle.chk_file.specs.Upload.{Upload, IsUpload, fields, index}
-use Rattle.chk_file.specs.Row.{most_servers}
+use Rattle.file_shares.specs.Row.{most_servers}
 use Rattle.chk_file.specs.Marks.{Mark, MarkRow, untouched, marks_of, put_marks}
 use Rattle.chk_file.specs.Held.{has_none, is_untouched, stands_untouched, untouched_numbers, held_in, uploaded_bytes}
 use Rattle.chk_file.specs.World.{World, empty, same_fields, with_file, after_upload, after_lose, after_spoil}

@@ -18,7 +18,7 @@ use Rattle.grid.proofs.Turns.{leaves_none}
 use Rattle.grid.proofs.Views.{tell_on_none, tell_on_both, still_none, still_both}
 use Rattle.chk_file.specs.Cached.{CacheEntry}
 use Rattle.chk_file.specs.Amid.{SeesReached, IsKeptOrSeen, AreKeptSeen}
-use Rattle.chk_file.specs.Check.{HealthValue, check}
+use Rattle.file_shares.specs.Check.{HealthValue, check}
 use Rattle.chk_file.specs.Reached.{OfReachedIn}
 use Rattle.chk_file.proofs.Amid.{kept_both, seen_so}
 use Rattle.path_walk.specs.Walk.{FileLookup}

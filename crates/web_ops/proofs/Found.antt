@@ -10,11 +10,11 @@ use Rattle.grid.specs.Standing.{standing}
 use Rattle.grid.specs.GridState.{GridState, stood, IsHonest, NoneFailed}
 use Rattle.grid.specs.Leaves.{Leaves, IsUnchanged}
 use Rattle.grid.proofs.Turns.{leaves_none, leaves_both, unchanged_none, unchanged_both, calm_first, calm_second}
-use Rattle.chk_file.specs.Bound.{Bound}
-use Rattle.chk_file.specs.Check.{HealthValue, check}
-use Rattle.chk_file.specs.Fit.{fit}
+use Rattle.file_shares.specs.Bound.{Bound}
+use Rattle.file_shares.specs.Check.{HealthValue, check}
+use Rattle.file_shares.specs.Fit.{fit}
 use Rattle.chk_file.specs.Look.{Look, look_in}
-use Rattle.chk_file.specs.Row.{table_of}
+use Rattle.chk_file.specs.Tables.{table_of}
 use Rattle.path_walk.specs.Walk.{walked}
 use Rattle.path_walk.specs.Way.{NamesLeadTo, WalkStops}
 use Rattle.path_walk.specs.declared.fault.WalkFault.{WalkFault}

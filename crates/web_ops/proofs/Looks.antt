@@ -6,8 +6,8 @@ use Rattle.caps.specs.declared.cap.Cap.{Cap}
 use Rattle.caps.specs.declared.cap.Cap.TheVariants.{Chk, Lit, DirChk, DirLit, ChkVerify, DirChkVerify}
 use Rattle.caps.specs.Fields.{VerifyValue}
 use Rattle.caps.specs.Weakening.{verify_fields}
-use Rattle.chk_file.specs.Row.{ShareTable}
-use Rattle.chk_file.specs.Check.{check}
+use Rattle.file_shares.specs.Row.{ShareTable}
+use Rattle.file_shares.specs.Check.{check}
 use Rattle.chk_file.specs.Look.{Look}
 use Rattle.path_walk.specs.Walk.{FileLookup, walked, met as met_on_walk}
 use Rattle.path_walk.specs.Agree.{GivesSameAt as GivesAgreeAt, GiveSameOn as GivesAgreeOn}

@@ -8,7 +8,7 @@ use Rattle.caps.specs.Fields.{ReadValue}
 use Rattle.caps.specs.Kinds.{is_verify_cap}
 use Rattle.caps.specs.Weakening.{weakened}
 use Rattle.chk_file.specs.Amid.{SeesReached}
-use Rattle.chk_file.specs.Check.{check}
+use Rattle.file_shares.specs.Check.{check}
 use Rattle.path_walk.specs.Walk.{FileLookup}
 use Rattle.path_walk.specs.Amid.{WalksBy}
 use Rattle.path_walk.specs.declared.fault.WalkFault.{WalkFault}

@@ -9,7 +9,7 @@ use Rattle.dir_codec.specs.declared.entry.Entry.{Entry}
 use Rattle.dir_codec.specs.Reading.{children}
 use Rattle.dir_codec.specs.Children.{made}
 use Rattle.chk_file.specs.Upload.{upload_cap}
-use Rattle.chk_file.specs.Check.{HealthValue, check}
+use Rattle.file_shares.specs.Check.{HealthValue, check}
 use Rattle.chk_file.specs.Look.{Look}
 use Rattle.path_walk.specs.Walk.{FileLookup, walked}
 use Rattle.path_walk.specs.declared.fault.WalkFault.{WalkFault}

@@ -7,8 +7,8 @@ use Rattle.caps.specs.Fields.{ReadValue, VerifyValue}
 use Rattle.caps.specs.Weakening.{verify_fields, weakened}
 use Rattle.dir_codec.specs.declared.entry.Entry.{Entry}
 use Rattle.dir_codec.specs.Children.{made}
-use Rattle.chk_file.specs.Bound.{Bound}
-use Rattle.chk_file.specs.Check.{HealthValue}
+use Rattle.file_shares.specs.Bound.{Bound}
+use Rattle.file_shares.specs.Check.{HealthValue}
 use Rattle.chk_file.specs.Upload.{upload_cap}
 use Rattle.path_walk.specs.Way.{NamesLeadTo, WalkStops}
 use Rattle.path_walk.specs.declared.fault.WalkFault.{WalkFault}

@@ -1,5 +1,6 @@
 use Rattle.erasure.specs.Code.{AreBytes}
-use Rattle.chk_file.specs.Upload.{key_of, key_tag, fields, params}
+use Rattle.chk_file.specs.Upload.{key_of, fields, params}
+use Rattle.file_shares.specs.KeyTag.{key_tag}
 use Rattle.cap_binding.proofs.laws.what_is_bound_was_uploaded.Goals as goal
 
 pub returns : goal.returns

@@ -1,4 +1,4 @@
-use Rattle.chk_file.specs.Numbers.{params_of}
+use Rattle.file_shares.specs.Numbers.{params_of}
 use Rattle.chk_file.proofs.Decodes.{padding_is, crypttext_is}
 use Rattle.chk_file.proofs.Keys.{Decodes, Padded}
 use Rattle.chk_file.proofs.Given.{given_is_fit}

@@ -3,8 +3,8 @@ use Rattle.grid.specs.Stamps.{stamp_of}
 use Rattle.grid.specs.GridState.{stood, raised_at}
 use Rattle.caps.specs.Fields.{ReadValue}
 use Rattle.caps.specs.StorageIndex.{index_of}
-use Rattle.chk_file.specs.Row.{table_of}
-use Rattle.chk_file.specs.Fit.{fit}
+use Rattle.chk_file.specs.Tables.{table_of}
+use Rattle.file_shares.specs.Fit.{fit}
 use Rattle.chk_file.proofs.Freshness.{stamp_tells, found_fits}
 use Rattle.chk_file.proofs.LookUps.{some_so}
 use Rattle.chk_file.proofs.listing_ahead.counted_now.Goals as goal

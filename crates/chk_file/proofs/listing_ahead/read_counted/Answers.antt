@@ -1,9 +1,9 @@
 use Rattle.std.proofs.Common.{◌≡◌, List, ℕ, Err, Some, sym, ap, subst, ◌∙◌}
 use Rattle.caps.specs.StorageIndex.{index_of}
-use Rattle.chk_file.specs.Fit.{fit}
+use Rattle.file_shares.specs.Fit.{fit}
 use Rattle.chk_file.specs.Reached.{OfReached}
 use Rattle.chk_file.specs.Amid.{IsKeptOrSeen}
-use Rattle.chk_file.specs.declared.fault.ReadFault.TheVariants.{NotEnoughShares}
+use Rattle.file_shares.specs.declared.fault.ReadFault.TheVariants.{NotEnoughShares}
 use Rattle.chk_file.proofs.Encoded.{same_error}
 use Rattle.chk_file.proofs.Freshness.{fresh_within}
 use Rattle.grid.proofs.Views.{tell_on_none, still_none}

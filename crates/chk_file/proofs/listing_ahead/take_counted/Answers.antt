@@ -1,5 +1,5 @@
 use Rattle.std.proofs.Common.{Contains, sym, subst}
-use Rattle.chk_file.specs.Bound.{Bound}
+use Rattle.file_shares.specs.Bound.{Bound}
 use Rattle.chk_file.specs.Cached.{CacheEntry}
 use Rattle.chk_file.proofs.LookUps.{put_back}
 use Rattle.chk_file.proofs.listing_ahead.take_counted.Goals as goal

@@ -4,7 +4,7 @@ use Rattle.grid.specs.GridState.{raised_at, failures_in}
 use Rattle.grid.proofs.Turns.{stamped_unchanged, none_failed}
 use Rattle.caps.specs.Fields.{ReadValue}
 use Rattle.caps.specs.StorageIndex.{index_of}
-use Rattle.chk_file.specs.Fit.{fit}
+use Rattle.file_shares.specs.Fit.{fit}
 use Rattle.chk_file.specs.Cached.{CacheEntry, IsCacheCurrent, IsWithin}
 use Rattle.chk_file.proofs.Freshness.{fresh_stays, fresh_kept_if}
 use Rattle.chk_file.proofs.Amid.{stood_honest, kept_within, kept_after, kept_found}

@@ -2,8 +2,8 @@ use Rattle.std.proofs.Common.{◌≡◌, None, Some}
 use Rattle.grid.proofs.Turns.{leaves_both, unchanged_both}
 use Rattle.grid.proofs.Views.{tell_on_both, still_both}
 use Rattle.caps.specs.StorageIndex.{index_of}
-use Rattle.chk_file.specs.Fit.{fit}
-use Rattle.chk_file.specs.Ahead.{plain_from}
+use Rattle.file_shares.specs.Fit.{fit}
+use Rattle.file_shares.specs.Ahead.{plain_from}
 use Rattle.chk_file.proofs.Amid.{seen_second, found_second}
 use Rattle.chk_file.proofs.long_reader.good_shares.Goals as goal
 

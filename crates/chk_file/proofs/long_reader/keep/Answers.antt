@@ -1,7 +1,7 @@
 use Rattle.std.proofs.Common.{◌≡◌, List, sym, subst}
 use Rattle.std.specs.Prelude.{MatchOption}
 use Rattle.chk_file.specs.Cached.{CacheEntry, IsWithinOr}
-use Rattle.chk_file.specs.Downloads.{DownloadValue}
+use Rattle.file_shares.specs.Downloads.{DownloadValue}
 use Rattle.chk_file.proofs.long_reader.keep.Goals as goal
 
 pub returns : goal.returns

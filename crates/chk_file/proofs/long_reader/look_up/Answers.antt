@@ -3,9 +3,9 @@ use Rattle.grid.specs.Stamps.{stamp_of}
 use Rattle.grid.specs.GridState.{stood, raised_at}
 use Rattle.caps.specs.Fields.{ReadValue}
 use Rattle.caps.specs.StorageIndex.{index_of}
-use Rattle.chk_file.specs.Row.{table_of}
-use Rattle.chk_file.specs.Fit.{fit}
-use Rattle.chk_file.specs.Downloads.{DownloadValue}
+use Rattle.chk_file.specs.Tables.{table_of}
+use Rattle.file_shares.specs.Fit.{fit}
+use Rattle.file_shares.specs.Downloads.{DownloadValue}
 use Rattle.chk_file.proofs.Freshness.{stamp_tells, found_fits, found_all}
 use Rattle.chk_file.proofs.long_reader.look_up.Goals as goal
 

@@ -3,9 +3,9 @@ use Rattle.aes_ctr.specs.Crypt.{crypt}
 use Rattle.share_codec.specs.Segments.{segment_size}
 use Rattle.caps.specs.Fields.{ReadValue}
 use Rattle.chk_file.specs.Cached.{CacheEntry}
-use Rattle.chk_file.specs.Downloads.{DownloadValue, download_left}
-use Rattle.chk_file.specs.Fit.{crypttext_from}
-use Rattle.chk_file.specs.Ahead.{file_params, plain_from}
+use Rattle.file_shares.specs.Downloads.{DownloadValue, download_left}
+use Rattle.file_shares.specs.Fit.{crypttext_from}
+use Rattle.file_shares.specs.Ahead.{file_params, plain_from}
 use Rattle.chk_file.proofs.LookUps.{put_back}
 use Rattle.chk_file.proofs.long_reader.prepared_at.Goals as goal
 

@@ -3,8 +3,8 @@ use Rattle.std.specs.Rc.{rc_slice_items}
 use Rattle.grid.specs.Found.{found_bytes}
 use Rattle.caps.specs.Fields.{ReadValue}
 use Rattle.caps.specs.StorageIndex.{index_of}
-use Rattle.chk_file.specs.Gathered.{Found}
-use Rattle.chk_file.specs.Ahead.{file_params, plain_from, AreVerified}
+use Rattle.file_shares.specs.Gathered.{Found}
+use Rattle.file_shares.specs.Ahead.{file_params, plain_from, AreVerified}
 use Rattle.chk_file.proofs.Amid.{low_seen}
 use Rattle.chk_file.proofs.long_reader.verify_ready.Goals as goal
 

@@ -2,8 +2,8 @@ use Rattle.std.proofs.Common.{◌≡◌, inr, None, Some}
 use Rattle.std.specs.Rc.{rc_slice_items}
 use Rattle.std.proofs.lemmas.Result.{IfOk-weaker}
 use Rattle.caps.specs.StorageIndex.{index_of}
-use Rattle.chk_file.specs.Row.{ShareTable}
-use Rattle.chk_file.specs.Fit.{fit}
+use Rattle.file_shares.specs.Row.{ShareTable}
+use Rattle.file_shares.specs.Fit.{fit}
 use Rattle.chk_file.specs.Amid.{IsKeptOrSeen, SeesReached}
 use Rattle.chk_file.proofs.Freshness.{fresh_within}
 use Rattle.chk_file.proofs.Amid.{kept_after, reached_honest, stood_honest, found_reached, found_stood}

@@ -3,7 +3,7 @@ use Rattle.aes_ctr.specs.Crypt.{crypt}
 use Rattle.grid.proofs.Turns.{leaves_both, unchanged_both}
 use Rattle.grid.proofs.Views.{tell_on_both, still_both}
 use Rattle.caps.specs.StorageIndex.{index_of}
-use Rattle.chk_file.specs.Fit.{fit}
+use Rattle.file_shares.specs.Fit.{fit}
 use Rattle.chk_file.proofs.Amid.{seen_second, found_second}
 use Rattle.chk_file.proofs.verify.verify.Goals as goal
 

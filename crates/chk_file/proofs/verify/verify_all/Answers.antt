@@ -5,11 +5,11 @@ use Rattle.grid.specs.Found.{found_bytes}
 use Rattle.caps.specs.Fields.{ReadValue}
 use Rattle.caps.specs.StorageIndex.{index_of}
 use Rattle.share_codec.specs.Params.{ParamsValue}
-use Rattle.chk_file.specs.Numbers.{params_of}
-use Rattle.chk_file.specs.Gathered.{Found, of_number, by_number, good_below}
-use Rattle.chk_file.specs.Row.{ShareTable, places, good_shares}
-use Rattle.chk_file.specs.Fit.{fit, fit_in}
-use Rattle.chk_file.proofs.Gathered.{rows_are_good}
+use Rattle.file_shares.specs.Numbers.{params_of}
+use Rattle.file_shares.specs.Gathered.{Found, of_number, by_number, good_below}
+use Rattle.file_shares.specs.Row.{ShareTable, places, good_shares}
+use Rattle.file_shares.specs.Fit.{fit, fit_in}
+use Rattle.file_shares.proofs.ByNumber.{rows_are_good}
 use Rattle.chk_file.proofs.Amid.{gathered_seen}
 use Rattle.chk_file.proofs.verify.verify_all.Goals as goal
 

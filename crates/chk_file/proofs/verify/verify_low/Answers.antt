@@ -4,8 +4,8 @@ use Rattle.aes_ctr.specs.Crypt.{crypt}
 use Rattle.grid.specs.Found.{found_bytes}
 use Rattle.caps.specs.Fields.{ReadValue}
 use Rattle.caps.specs.StorageIndex.{index_of}
-use Rattle.chk_file.specs.Numbers.{params_of}
-use Rattle.chk_file.specs.Gathered.{Found}
+use Rattle.file_shares.specs.Numbers.{params_of}
+use Rattle.file_shares.specs.Gathered.{Found}
 use Rattle.chk_file.proofs.Amid.{low_seen}
 use Rattle.chk_file.proofs.verify.verify_low.Goals as goal
 

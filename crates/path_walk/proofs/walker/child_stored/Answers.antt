@@ -4,8 +4,8 @@ use Rattle.dir_codec.specs.declared.finder.Sought.{Sought}
 use Rattle.caps.specs.declared.cap.Cap.{Cap}
 use Rattle.chk_file.specs.Steps.{IsSought}
 use Rattle.chk_file.specs.Amid.{IsKeptOrSeen}
-use Rattle.chk_file.specs.declared.fault.ReadFault.{ReadFault}
-use Rattle.chk_file.specs.declared.fault.ReadFault.TheVariants.{NotEnoughShares as ReadNotEnough, NoMemory as ReadNoMemory}
+use Rattle.file_shares.specs.declared.fault.ReadFault.{ReadFault}
+use Rattle.file_shares.specs.declared.fault.ReadFault.TheVariants.{NotEnoughShares as ReadNotEnough, NoMemory as ReadNoMemory}
 use Rattle.path_walk.specs.Faults.{fault_of_read}
 use Rattle.path_walk.specs.declared.fault.WalkFault.{WalkFault}
 use Rattle.path_walk.specs.declared.fault.WalkFault.TheVariants.{NotEnoughShares, NoMemory}

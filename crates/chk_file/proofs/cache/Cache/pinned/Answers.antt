@@ -1,7 +1,7 @@
 use Rattle.std.proofs.Common.{List, ◌++◌, Contains, subst, sym, ap, ◌∙◌}
 use Rattle.std.specs.Option.{option_to_list}
 use Rattle.chk_file.specs.Cached.{CacheEntry}
-use Rattle.chk_file.specs.Downloads.{DownloadValue}
+use Rattle.file_shares.specs.Downloads.{DownloadValue}
 use Rattle.chk_file.specs.Seen.{cache_entries, gathered_entries}
 use Rattle.chk_file.proofs.CacheEntries.{pinned_there}
 use Rattle.chk_file.proofs.cache.Cache.pinned.Goals as goal

@@ -1,7 +1,7 @@
 use Rattle.std.proofs.Common.{List, ◌++◌, IfSome, Contains, subst}
 use Rattle.std.specs.Option.{option_to_list}
 use Rattle.std.specs.Borrow.{Bor}
-use Rattle.chk_file.specs.Bound.{Bound}
+use Rattle.file_shares.specs.Bound.{Bound}
 use Rattle.chk_file.specs.Cached.{CacheEntry}
 use Rattle.chk_file.specs.Seen.{cache_entries, pinned_entries, step_entry, gathered_entries}
 use Rattle.chk_file.specs.declared.steps.Step.{Step}

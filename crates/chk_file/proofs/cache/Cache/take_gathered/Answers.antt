@@ -2,8 +2,8 @@ use Rattle.std.proofs.Common.{◌≡◌, ℕ, List, ◌++◌, Option, Some, IfSo
 use Rattle.std.specs.Option.{option_to_list}
 use Rattle.caps.specs.Fields.{ReadValue}
 use Rattle.chk_file.specs.Cached.{CacheEntry, AreBound}
-use Rattle.chk_file.specs.Seen.{cache_entries, pinned_entries, gathered_entries, given_by}
-use Rattle.chk_file.specs.declared.kept_strings.Gathered.{Gathered}
+use Rattle.chk_file.specs.Seen.{cache_entries, pinned_entries, gathered_entries, gathered_file}
+use Rattle.file_shares.specs.declared.kept_strings.Gathered.{Gathered}
 use Rattle.chk_file.proofs.CacheEntries.{bound_within}
 use Rattle.chk_file.proofs.LookUps.{none_gathered_within, given_there}
 use Rattle.chk_file.proofs.cache.Cache.take_gathered.Goals as goal
@@ -55,7 +55,7 @@ returns-then-is_of-clause-there c =
     let listed : List CacheEntry = option_to_list c.self.inside.listed in
     let f : ReadValue = c.in-Some.gathered.fields in
     let stamp : ℕ = c.in-Some.gathered.stamp in
-    let given : Option (List ℕ) = given_by c.in-Some.gathered in
+    let given : Option (List ℕ) = gathered_file c.in-Some.gathered in
     let is : c.self.inside.gathered ≡ Some c.in-Some.gathered = sym c.take.ensures.value ∙ c.in-Some.is in
     subst (λ (entries : List CacheEntry). IfSome given (λ bytes. Contains entries (f, (stamp, bytes)))) c.self.view_is
     (subst (λ (o : Option Gathered). IfSome given (λ bytes. Contains (kept ++ (pinned ++ (steps ++ (looking ++ (listed ++ gathered_entries o))))) (f, (stamp, bytes)))) (sym is)

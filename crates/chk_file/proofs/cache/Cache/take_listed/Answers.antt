@@ -1,6 +1,6 @@
 use Rattle.std.proofs.Common.{List, ◌++◌, Option, IfSome, Contains, sym, subst}
 use Rattle.std.specs.Option.{option_to_list}
-use Rattle.chk_file.specs.Bound.{Bound}
+use Rattle.file_shares.specs.Bound.{Bound}
 use Rattle.chk_file.specs.Cached.{CacheEntry, AreBound}
 use Rattle.chk_file.specs.Seen.{cache_entries, pinned_entries, gathered_entries}
 use Rattle.chk_file.proofs.CacheEntries.{bound_within}

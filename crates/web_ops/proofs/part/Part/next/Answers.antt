@@ -1,6 +1,6 @@
 use Rattle.std.proofs.Common.{◌≡◌, ◌<◌, ◌-◌, ◌++◌, length, take, min, arith, ap, sym, subst, ◌∙◌, length-take}
 use Rattle.std.specs.Prelude.{MatchOption}
-use Rattle.chk_file.specs.Downloads.{IsDone, IsGiven}
+use Rattle.file_shares.specs.Downloads.{IsDone, IsGiven}
 use Rattle.web_ops.proofs.Parts.{found, part_given, some_given}
 use Rattle.web_ops.proofs.part.Part.next.Goals as goal
 

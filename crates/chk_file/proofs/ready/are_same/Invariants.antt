@@ -1,7 +1,0 @@
-use Rattle.std.proofs.Common.{◌≡◌, map, take}
-use Rattle.std.specs.Rc.{rc_slice_items}
-use Rattle.grid.specs.Found.{found_bytes}
-use Rattle.chk_file.proofs.ready.are_same.Given as goal
-
-abbrev pub invariant-loop-at : goal.invariant-loop-at
-invariant-loop-at l = map (found_bytes rc_slice_items) (take l.at l.some) ≡ map (found_bytes rc_slice_items) (take l.at l.others)

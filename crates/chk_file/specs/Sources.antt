@@ -1,8 +1,0 @@
--- Where a download's bytes come from.
-use Rattle.chk_file.specs.Downloads.{DownloadValue}
-use Rattle.chk_file.specs.declared.download.Source.{Source}
-use Rattle.chk_file.specs.declared.download.Source.TheVariants.{Whole, Pinned}
-
-abbrev pub download_of : Source → DownloadValue
-download_of (Whole whole) = whole
-download_of (Pinned shares) = shares
