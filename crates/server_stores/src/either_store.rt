@@ -7,12 +7,21 @@ use std::rc::RcSlice;
 
 /// A store of one of two kinds, so that one grid may have servers of both. It is what the store inside is: each call is
 /// passed on.
-#[derive(Drop)]
 pub enum EitherStore<K: Store, D: Store> {
     /// One of the first kind.
     First(K),
     /// One of the second kind.
     Second(D),
+}
+
+// Its own, so that what owns one calls it: a derived drop is spelled out wherever a value may be dropped.
+impl<K: Store + Drop, D: Store + Drop> Drop for EitherStore<K, D> {
+    fn drop(self) {
+        match self {
+            EitherStore::First(_) => {}
+            EitherStore::Second(_) => {}
+        }
+    }
 }
 
 impl<K: Store, D: Store> Store for EitherStore<K, D> {
