@@ -91,7 +91,7 @@ if test -n "$remove"; then
     exit 0
 fi
 
-test -x "$program" || fail "there is no program $program: build it by \`rt run --cpu=x86-64-v3 -- help\` in crates/wozhinnam"
+test -x "$program" || fail "there is no program $program: build it by \`bench/tools/build.sh wozhinnam\`"
 "$program" --version > /dev/null || fail "$program doesn't run here"
 curl=$(command -v curl) || fail 'there is no curl, by which the unit stops the program'
 tail=$(command -v tail) || fail 'there is no tail, by which the unit waits for its end'

@@ -1,11 +1,11 @@
 #!/bin/sh
 # Writes the manual page of a built program, made from what its own `help` says of each command, and from the table of
-# exit statuses in crates/wozhinnam/README.md.
+# exit statuses in docs/OPERATING.md.
 # usage: install/manual.sh PROGRAM > wozhinnam.1
 set -eu
 program=${1:?usage: install/manual.sh PROGRAM > wozhinnam.1}
 here=$(cd "$(dirname "$0")" && pwd)
-page=$here/../crates/wozhinnam/README.md
+page=$here/../docs/OPERATING.md
 
 # Text as roff wants it: no word of it is a request, and a hyphen is one that can be searched for.
 as_roff() {
@@ -43,7 +43,7 @@ for command in $commands; do
     options "$command"
 done
 printf '.SH "EXIT STATUS"\n'
-sed -n '/^## Exit statuses/,/^## Promises/p' "$page" | awk -F'|' '
+sed -n '/^## Exit statuses/,/^## /p' "$page" | awk -F'|' '
     /^\| *[0-9]/ || /^\| *\|/ { for (at = 2; at < NF; at += 2) if ($at ~ /[0-9]/) print $at "|" $(at + 1) }' |
     sed -e 's/^ *//' -e 's/ *| */|/' -e 's/ *$//' -e 's/`//g' | sort -n | as_roff |
     awk -F'|' '{ print ".TP\n\\fB" $1 "\\fR\n" $2 }'
@@ -52,5 +52,5 @@ cat << 'END'
 SIGTERM and SIGINT end it at once, and cut replies.
 POST /stop at the control address lets replies that are under way go out, for ten seconds at most.
 .SH "SEE ALSO"
-crates/wozhinnam/README.md and install/README.md of its source: stores, what to do when one is lost, and proxies.
+docs/OPERATING.md and install/README.md of its source: stores, what to do when one is lost, and proxies.
 END

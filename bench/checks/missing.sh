@@ -1,5 +1,5 @@
 #!/bin/sh
-# What crates/wozhinnam/README.md says of `serve --missing PATH`, by the built program over five folders, one of which is
+# What docs/OPERATING.md says of `serve --missing PATH`, by the built program over five folders, one of which is
 # gone: no start without `--missing`, and one with it; each file and directory is read, a check counts the shares that are
 # left, an upload is 503 `store down`, the log and the control requests tell it, and nothing is made in its place, also
 # where an empty folder stands there. The folder comes back: with `--missing` it is left alone, which is told, and without

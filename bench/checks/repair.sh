@@ -1,5 +1,5 @@
 #!/bin/sh
-# What crates/wozhinnam/README.md says, under "Running it", of a folder that is lost and of repair by hand: a lost folder
+# What docs/OPERATING.md says of a folder that is lost and of repair by hand: a lost folder
 # gives way to an empty one, which `--new` has to name, or to `mem:1` for as long as there is none; the same bytes put again bring missing and
 # rotten shares back under the same cap, and a directory its own by its JSON; a file that became rotten meanwhile and wasn't
 # read since wants a start.

@@ -3,6 +3,7 @@ pub mod ByteLemmas
 pub mod CircuitLemmas
 pub mod CounterLemmas
 pub mod CryptLemmas
+pub mod Examples
 pub mod ExchangeLemmas
 pub mod MixLemmas
 pub mod RoundLemmas

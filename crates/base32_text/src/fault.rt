@@ -4,23 +4,31 @@ ghost use Rattle.std.specs.Prelude.{◌≡◌};
 ghost use Rattle.base32_text.specs.declared.fault.B32Fault.TheVariants.{NoMemory};
 
 use std::alloc::{AllocError, AllocFailed};
-use thiserror::Error;
+use std::fmt;
 
 /// Why a text was refused. Of several causes the first in this order is given.
-#[derive(Clone, Copy, Debug, PartialEq, Eq, Error)]
+#[derive(Clone, Copy, PartialEq, Eq)]
 pub enum B32Fault {
     /// At this place, counted from 0, stands the first byte that is neither `a` to `z` nor `2` to `7`.
-    #[error("no base32 letter at place {0}")]
     BadCharacter(usize),
     /// The number of letters is 1, 3 or 6 modulo 8, which no bytes have.
-    #[error("no bytes have so many base32 letters")]
     BadLength,
     /// The unused low bits of the last letter are not zero.
-    #[error("loose bits in the last base32 letter")]
     LooseBits,
     /// Memory for the bytes was refused.
-    #[error("out of memory")]
     NoMemory,
+}
+
+impl fmt::Display for B32Fault {
+    fn fmt<W: fmt::Write>(&self, f: &mut fmt::Formatter<W>) -> fmt::Result {
+        let words = match self {
+            B32Fault::BadCharacter(place) => return write!(f, "no base32 letter at place {place}"),
+            B32Fault::BadLength => "no bytes have so many base32 letters",
+            B32Fault::LooseBits => "loose bits in the last base32 letter",
+            B32Fault::NoMemory => "out of memory",
+        };
+        f.write_str(words)
+    }
 }
 
 impl From<AllocError> for B32Fault {

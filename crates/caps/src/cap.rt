@@ -7,7 +7,7 @@ use octets::Bytes;
 use std::alloc::{AllocError, Global};
 
 /// A cap: holding it is the whole authority over what it names.
-#[derive(Debug, Drop)]
+#[derive(Drop)]
 pub enum Cap {
     /// Reads a stored file.
     Chk(ReadFields),
@@ -24,7 +24,7 @@ pub enum Cap {
 }
 
 /// A verify cap: holding it is the authority to fetch and verify the shares of a file, and to read nothing of it.
-#[derive(Clone, Copy, Debug, PartialEq, Eq, Hash)]
+#[derive(Clone, Copy, PartialEq, Eq, Hash)]
 pub struct VerifyCap {
     /// Whether the file is a directory's.
     pub directory: bool,

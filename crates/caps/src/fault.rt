@@ -1,27 +1,37 @@
 //! Why a text is no cap's.
 
 use base32_text::B32Fault;
-use thiserror::Error;
+use std::error::Error;
+use std::fmt;
 
 /// Why a text was refused. Of several causes the first in this order is given.
-#[derive(Clone, Copy, Debug, PartialEq, Eq, Error)]
+#[derive(Clone, Copy, Debug, PartialEq, Eq)]
 pub enum CapFault {
     /// The text begins like no cap.
-    #[error("unknown kind of cap")]
     UnknownKind,
     /// The text begins like the cap of a mutable file or directory.
-    #[error("a cap of what can change")]
     Mutable,
     /// A wrong number of fields, or a field that is no base32 or has a wrong number of bytes.
-    #[error("bad field in a cap")]
     BadField,
     /// A number that is not decimal without leading zeros, or not in its range.
-    #[error("bad number in a cap")]
     BadNumber,
     /// Memory for the cap was refused.
-    #[error("out of memory")]
     NoMemory,
 }
+
+impl fmt::Display for CapFault {
+    fn fmt<W: fmt::Write>(&self, f: &mut fmt::Formatter<W>) -> fmt::Result {
+        f.write_str(match self {
+            CapFault::UnknownKind => "unknown kind of cap",
+            CapFault::Mutable => "a cap of what can change",
+            CapFault::BadField => "bad field in a cap",
+            CapFault::BadNumber => "bad number in a cap",
+            CapFault::NoMemory => "out of memory",
+        })
+    }
+}
+
+impl Error for CapFault {}
 
 impl From<B32Fault> for CapFault {
     ghost use Rattle.std.specs.Prelude.{◌≡◌};

@@ -2,7 +2,7 @@
 use std::marker::Model;
 
 /// The fields of a read cap.
-#[derive(Clone, Copy, Debug, PartialEq, Eq, Hash)]
+#[derive(Clone, Copy, PartialEq, Eq, Hash)]
 pub struct ReadFields {
     /// The key of the cipher, from which the storage index is made.
     pub key: [u8; 16],
@@ -30,7 +30,7 @@ impl Model for ReadFields {
 }
 
 /// The fields of a verify cap.
-#[derive(Clone, Copy, Debug, PartialEq, Eq, Hash)]
+#[derive(Clone, Copy, PartialEq, Eq, Hash)]
 pub struct VerifyFields {
     /// The storage index, under which the shares lie.
     pub si: [u8; 16],

@@ -1,20 +1,27 @@
 //! Why a case has no answer, or a run no end.
 use std::alloc::{AllocError, AllocFailed};
-use std::io;
-use thiserror::Error;
+use std::{fmt, io};
 
 /// Why a case has no answer: what stands in its line is no question. Such a case failed.
-#[derive(Clone, Copy, Debug, PartialEq, Eq, Error)]
+#[derive(Clone, Copy, PartialEq, Eq)]
 pub enum NoAnswer {
     /// The word at this place, from 0, is missing, or isn't of the kind that is asked for there.
-    #[error("bad word {0}")]
     Word(usize),
     /// The first word is none of those that are answered.
-    #[error("bad question")]
     Question,
     /// Memory was refused.
-    #[error("out of memory")]
     NoMemory,
+}
+
+impl fmt::Display for NoAnswer {
+    fn fmt<W: fmt::Write>(&self, f: &mut fmt::Formatter<W>) -> fmt::Result {
+        let words = match self {
+            NoAnswer::Word(place) => return write!(f, "bad word {place}"),
+            NoAnswer::Question => "bad question",
+            NoAnswer::NoMemory => "out of memory",
+        };
+        f.write_str(words)
+    }
 }
 
 impl From<AllocError> for NoAnswer {
@@ -30,17 +37,25 @@ impl<T: Drop> From<AllocFailed<T>> for NoAnswer {
 }
 
 /// Why a run of cases ended before its end, or was no success.
-#[derive(Clone, Copy, Debug, PartialEq, Eq, Error)]
+#[derive(Clone, Copy, Debug, PartialEq, Eq)]
 pub enum CaseFault {
     /// The cases could not be read.
-    #[error("the cases could not be read")]
     NotRead,
     /// What was found could not be written.
-    #[error("standard output could not be written")]
     NotWritten,
     /// So many cases had another answer than the one that is wanted.
-    #[error("cases that failed: {0}")]
     Failed(u64),
+}
+
+impl fmt::Display for CaseFault {
+    fn fmt<W: fmt::Write>(&self, f: &mut fmt::Formatter<W>) -> fmt::Result {
+        let words = match self {
+            CaseFault::NotRead => "the cases could not be read",
+            CaseFault::NotWritten => "standard output could not be written",
+            CaseFault::Failed(count) => return write!(f, "cases that failed: {count}"),
+        };
+        f.write_str(words)
+    }
 }
 
 impl From<io::Error> for CaseFault {

@@ -6,32 +6,43 @@ use crate::exchange::LinkFault;
 use caps::CapFault;
 use octets::Text;
 use std::alloc::{AllocError, AllocFailed};
-use thiserror::Error;
+use std::fmt;
 
 /// Why a call is refused. None of these holds a cap.
-#[derive(Debug, Drop, Error)]
+#[derive(Debug, Drop)]
 pub enum ClientFault {
     /// There is no answer.
-    #[error("{0}")]
     Link(LinkFault),
     /// The gateway answered with this status, which isn't 200.
-    #[error("the gateway refused it with status {0}")]
     Refused(u16),
     /// The bytes that came aren't those that the cap was made for, or the cap that came isn't of the bytes that went.
-    #[error("what the gateway gave is not what was asked for")]
     NotBound,
     /// What was asked for as a file is none: it is a directory's cap, or one that reads nothing.
-    #[error("not a file")]
     NotFile,
     /// What was to be walked through or listed is no directory.
-    #[error("not a directory")]
     NotDirectory,
     /// A directory on the way has no child of this name, which the message has in quotes, its control characters escaped.
-    #[error("no such child: {:?}", .0.as_str())]
     NoChild(Text),
     /// Memory was refused.
-    #[error("out of memory")]
     NoMemory,
+}
+
+impl fmt::Display for ClientFault {
+    fn fmt<W: fmt::Write>(&self, f: &mut fmt::Formatter<W>) -> fmt::Result {
+        let words = match self {
+            ClientFault::Link(fault) => return write!(f, "{fault}"),
+            ClientFault::Refused(status) => return write!(
+                f,
+                "the gateway refused it with status {status}"
+            ),
+            ClientFault::NotBound => "what the gateway gave is not what was asked for",
+            ClientFault::NotFile => "not a file",
+            ClientFault::NotDirectory => "not a directory",
+            ClientFault::NoChild(name) => return write!(f, "no such child: {:?}", name.as_str()),
+            ClientFault::NoMemory => "out of memory",
+        };
+        f.write_str(words)
+    }
 }
 
 impl From<AllocError> for ClientFault {

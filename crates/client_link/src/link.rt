@@ -25,7 +25,7 @@ pub struct Link<'a, S> {
 }
 
 /// A request that is under way: what was asked, with a body of so many bytes, and whether all of it was written.
-#[derive(Clone, Copy, Debug)]
+#[derive(Clone, Copy)]
 struct Begun {
     ask: Ask,
     count: usize,

@@ -25,7 +25,7 @@ pub fn are_too_few(bytes: u64, milliseconds: u64, patience: u64) -> bool
 }
 
 /// The bytes that passed, in one direction, since a time.
-#[derive(Clone, Copy, Debug)]
+#[derive(Clone, Copy)]
 struct Passed {
     /// In milliseconds.
     since: u64,

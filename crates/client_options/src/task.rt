@@ -12,7 +12,7 @@ use clap::{ArgMatches, Error};
 use std::alloc::{AllocError, Global};
 
 /// What the client is asked for, and of whom.
-#[derive(Debug, Drop)]
+#[derive(Drop)]
 pub struct Options<'a> {
     /// The gateway's URL, if it was given.
     pub gateway: Option<&'a str>,
@@ -25,7 +25,7 @@ pub struct Options<'a> {
 }
 
 /// A cap as it was given, and the path below it.
-#[derive(Clone, Copy, Debug)]
+#[derive(Clone, Copy)]
 pub struct Node<'a> {
     /// The cap's text, or `@` and the name of the file that it stands in.
     pub cap: &'a str,
@@ -34,7 +34,7 @@ pub struct Node<'a> {
 }
 
 /// What is to be done.
-#[derive(Debug, Drop)]
+#[derive(Drop)]
 pub enum Task<'a> {
     /// To store a file or a folder.
     Put {

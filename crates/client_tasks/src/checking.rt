@@ -19,7 +19,7 @@ use std::alloc::{AllocError, Global};
 const MOST_OF_A_REPORT: u64 = 1_048_576;
 
 /// What a gateway says of shares.
-#[derive(Clone, Copy, Debug, PartialEq, Eq)]
+#[derive(Clone, Copy, PartialEq, Eq)]
 struct Report {
     good: u64,
     expected: u64,

@@ -5,56 +5,66 @@ ghost use Rattle.client_tasks.specs.Causes.{client_cause, tree_cause, cause};
 use client_core::ClientFault;
 use client_tree::{LocalFault, TreeFault};
 use std::alloc::{AllocError, AllocFailed};
-use thiserror::Error;
+use std::fmt;
 
 /// Why a task isn't done. None of these holds a cap, so no message tells one.
-#[derive(Debug, Drop, Error)]
+#[derive(Drop)]
 pub enum TaskFault {
     /// A word of the command line is none of the program's: it was told already.
-    #[error("bad arguments")]
     Words,
     /// The gateway's URL is none that can be asked.
-    #[error("the gateway's URL is to be http://HOST or http://HOST:PORT")]
     BadUrl,
     /// The number of connections is none that there can be.
-    #[error("--jobs is to be a number from 1 to 64")]
     BadJobs,
     /// The number of seconds is none for which the gateway may be slow.
-    #[error("--patience is to be a number from 1 to 3600")]
     BadPatience,
     /// A state was named, or `--verify` given, where nothing can be skipped.
-    #[error("--skip-existing is for put -r, and --verify for --skip-existing")]
     BadSkips,
     /// What was named as a state is none.
-    #[error("the file of --skip-existing is no state that a put wrote")]
     BadState,
     /// What was given as a cap is none.
-    #[error("no cap")]
     NoCap,
     /// The gateway's side, or a tree's.
-    #[error("{0}")]
     Tree(TreeFault),
     /// A check found shares that are missing or not good: it was told already.
-    #[error("not all is well")]
     NotWell,
     /// What was stored again for a repair has another cap: it was stored under another secret or other numbers.
-    #[error("it was stored under another secret or other numbers, and can't be repaired here")]
     OtherCap,
     /// Something was passed over: it was told already.
-    #[error("not all was stored")]
     PassedOver,
     /// A file couldn't be read.
-    #[error("the file can't be read")]
     Unread,
     /// A file or a folder couldn't be written.
-    #[error("it can't be written")]
     Unwritten,
     /// Standard output is closed.
-    #[error("standard output is closed")]
     NotPrinted,
     /// Memory was refused.
-    #[error("out of memory")]
     NoMemory,
+}
+
+impl fmt::Display for TaskFault {
+    fn fmt<W: fmt::Write>(&self, f: &mut fmt::Formatter<W>) -> fmt::Result {
+        let words = match self {
+            TaskFault::Words => "bad arguments",
+            TaskFault::BadUrl => "the gateway's URL is to be http://HOST or http://HOST:PORT",
+            TaskFault::BadJobs => "--jobs is to be a number from 1 to 64",
+            TaskFault::BadPatience => "--patience is to be a number from 1 to 3600",
+            TaskFault::BadSkips =>
+                "--skip-existing is for put -r, and --verify for --skip-existing",
+            TaskFault::BadState => "the file of --skip-existing is no state that a put wrote",
+            TaskFault::NoCap => "no cap",
+            TaskFault::Tree(fault) => return write!(f, "{fault}"),
+            TaskFault::NotWell => "not all is well",
+            TaskFault::OtherCap =>
+                "it was stored under another secret or other numbers, and can't be repaired here",
+            TaskFault::PassedOver => "not all was stored",
+            TaskFault::Unread => "the file can't be read",
+            TaskFault::Unwritten => "it can't be written",
+            TaskFault::NotPrinted => "standard output is closed",
+            TaskFault::NoMemory => "out of memory",
+        };
+        f.write_str(words)
+    }
 }
 
 impl TaskFault {

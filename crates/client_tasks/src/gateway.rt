@@ -12,7 +12,7 @@ use std::rt::Clock;
 use std::time::Duration;
 
 /// Where a gateway is.
-#[derive(Debug, Drop)]
+#[derive(Drop)]
 pub struct Place {
     /// As it stands in the URL, for the field `Host`.
     pub host: String,

@@ -9,7 +9,7 @@ use std::alloc::{AllocError, Global};
 const PAUSE: u64 = 250;
 
 /// What is told of files that pass, on standard error: how many, their bytes, and how many bytes a second.
-#[derive(Debug, Drop)]
+#[derive(Drop)]
 pub struct Progress {
     /// Whether anything is told.
     told: bool,

@@ -23,7 +23,7 @@ pub const FIRST_LINE: &[u8] = b"woz state 1\n";
 const ESCAPED: AsciiSet = ascii_set!(CONTROLS.add(b' ').add(b'%'));
 
 /// By what a file is taken for unchanged.
-#[derive(Clone, Copy, Debug, PartialEq, Eq)]
+#[derive(Clone, Copy, PartialEq, Eq)]
 pub struct Stamp {
     /// How many bytes it has.
     pub size: u64,
@@ -32,7 +32,7 @@ pub struct Stamp {
 }
 
 /// What is known of a file that was stored.
-#[derive(Debug, Drop)]
+#[derive(Drop)]
 pub struct Known {
     /// As it was when it was read.
     pub stamp: Stamp,
@@ -41,7 +41,7 @@ pub struct Known {
 }
 
 /// The fields of a line.
-#[derive(Clone, Copy, Debug)]
+#[derive(Clone, Copy)]
 struct Fields<'a> {
     size: u64,
     time: u64,

@@ -29,7 +29,7 @@ use std::rt::{Clock, Env, Files};
 const DEFAULT_URL: &str = "http://127.0.0.1:3456";
 
 /// Which of a program's streams are terminals.
-#[derive(Clone, Copy, Debug)]
+#[derive(Clone, Copy)]
 pub struct Terminals {
     /// Standard output.
     pub output: bool,

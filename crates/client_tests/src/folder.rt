@@ -6,7 +6,7 @@ use octets::Text;
 use std::alloc::{AllocError, Global};
 
 /// A file that was written.
-#[derive(Debug, Drop)]
+#[derive(Drop)]
 pub struct Written {
     /// The names of its path, with `/` between them.
     pub path: String,
@@ -15,7 +15,7 @@ pub struct Written {
 }
 
 /// A folder that files are written into, and that has none under a path of which there is one.
-#[derive(Debug, Drop)]
+#[derive(Drop)]
 pub struct Kept {
     alloc: Global,
     /// What was written.
@@ -74,7 +74,7 @@ impl Folder for Kept {
 }
 
 /// A folder that files are read from: each file's path and bytes. It knows no caps.
-#[derive(Debug, Drop)]
+#[derive(Drop)]
 pub struct Held<'a> {
     /// For what is read.
     pub alloc: Global,

@@ -10,7 +10,7 @@ use std::io::{self, Read, Write};
 use tag_hash::Decimal;
 
 /// A request, by how it begins and what stands in it, and the body of the honest reply.
-#[derive(Clone, Copy, Debug)]
+#[derive(Clone, Copy)]
 pub struct Row<'a> {
     /// How the request begins.
     pub begins: &'a [u8],
@@ -44,7 +44,7 @@ pub enum Lie<'a> {
 }
 
 /// A gateway that answers by a table, and lies at one row of it.
-#[derive(Clone, Copy, Debug)]
+#[derive(Clone, Copy)]
 pub struct Gateway<'a> {
     /// What it answers.
     pub rows: &'a [Row<'a>],

@@ -14,7 +14,7 @@ use tag_hash::push_netstring;
 use unicode_normalization::to_nfc;
 
 /// What stands under a name, stored.
-#[derive(Debug, Drop)]
+#[derive(Drop)]
 pub struct Child {
     /// The name as it was given.
     pub name: Text,

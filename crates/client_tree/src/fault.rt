@@ -5,40 +5,61 @@ ghost use Rattle.client_tree.specs.declared.fault.TreeFault.TheVariants as fault
 use client_core::ClientFault;
 use octets::Text;
 use std::alloc::{AllocError, AllocFailed};
-use thiserror::Error;
+use std::fmt;
 
 /// A folder or a file that can't be written or read; what is known of it was told where it came.
-#[derive(Clone, Copy, Debug, PartialEq, Eq, Error)]
-#[error("a file or a folder failed")]
+#[derive(Clone, Copy, Debug, PartialEq, Eq)]
 pub struct LocalFault;
 
+impl fmt::Display for LocalFault {
+    fn fmt<W: fmt::Write>(&self, f: &mut fmt::Formatter<W>) -> fmt::Result {
+        f.write_str("a file or a folder failed")
+    }
+}
+
 /// Why a tree isn't written whole.
-#[derive(Debug, Drop, Error)]
+#[derive(Debug, Drop)]
 pub enum TreeFault {
     /// The gateway's side.
-    #[error("{0}")]
     Client(ClientFault),
     /// No file can have this name in a folder. The message has it in quotes, its control characters escaped.
-    #[error("a name that no file can have: {:?}", .0.as_str())]
     BadName(Text),
     /// Two names are one in NFC, of which this is one. The message has it in quotes, its control characters escaped.
-    #[error("two names are one, but for how they are composed: {:?}", .0.as_str())]
     SameName(Text),
     /// What was to be a directory's children is none.
-    #[error("bad children")]
     BadChildren,
     /// The folder's side.
-    #[error("{0}")]
     Local(LocalFault),
     /// There are more files and folders than were to be taken.
-    #[error("too many files and folders")]
     TooMany,
     /// A folder stands deeper than was to be gone.
-    #[error("folders stand too deep")]
     TooDeep,
     /// Memory was refused.
-    #[error("out of memory")]
     NoMemory,
+}
+
+impl fmt::Display for TreeFault {
+    fn fmt<W: fmt::Write>(&self, f: &mut fmt::Formatter<W>) -> fmt::Result {
+        let words = match self {
+            TreeFault::Client(fault) => return write!(f, "{fault}"),
+            TreeFault::BadName(name) => return write!(
+                f,
+                "a name that no file can have: {:?}",
+                name.as_str()
+            ),
+            TreeFault::SameName(name) => return write!(
+                f,
+                "two names are one, but for how they are composed: {:?}",
+                name.as_str()
+            ),
+            TreeFault::BadChildren => "bad children",
+            TreeFault::Local(fault) => return write!(f, "{fault}"),
+            TreeFault::TooMany => "too many files and folders",
+            TreeFault::TooDeep => "folders stand too deep",
+            TreeFault::NoMemory => "out of memory",
+        };
+        f.write_str(words)
+    }
 }
 
 impl From<ClientFault> for TreeFault {

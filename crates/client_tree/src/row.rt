@@ -8,7 +8,7 @@ use dir_codec::Entry;
 const MOST_BESIDE: u64 = 262_144;
 
 /// A place among a directory's entries, and where the row of small files ends that it stands in.
-#[derive(Clone, Copy, Debug)]
+#[derive(Clone, Copy)]
 pub(crate) struct Row {
     /// The place behind it.
     after: usize,

@@ -7,7 +7,7 @@ use caps::Cap;
 use octets::Text;
 
 /// What stands in a folder.
-#[derive(Debug, Drop)]
+#[derive(Drop)]
 pub struct Item {
     /// Its name.
     pub name: Text,

@@ -20,7 +20,7 @@ use std::alloc::Global;
 use unicode_normalization::to_nfc;
 
 /// What an entry has besides its name.
-#[derive(Debug, Drop)]
+#[derive(Drop)]
 pub(crate) struct Child {
     /// The cap that reads the child.
     pub(crate) cap: Cap,

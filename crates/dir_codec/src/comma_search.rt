@@ -8,7 +8,7 @@ use json_seams::Scanner;
 pub(crate) const STEP_BYTES: usize = 65_536;
 
 /// A search for a comma outside strings, from a place of a text on.
-#[derive(Clone, Copy, Debug, Drop)]
+#[derive(Clone, Copy, Drop)]
 pub(crate) struct CommaSearch {
     /// The place up to which the text was looked through.
     pub(crate) reached: usize,

@@ -11,7 +11,7 @@ use std::marker::Model;
 
 /// A directory: entries in strictly rising order of the bytes of their names. Each name is UTF-8, not empty and in NFC,
 /// each cap reads a file or a directory that can't change, and all metadata are within their limits.
-#[derive(Debug, Drop)]
+#[derive(Drop)]
 pub struct Directory {
     entries: Vec<Entry>,
 }

@@ -4,7 +4,7 @@ use caps::Cap;
 use octets::Text;
 
 /// An entry of a directory: a child under its name.
-#[derive(Debug, Drop)]
+#[derive(Drop)]
 pub struct Entry {
     /// The name: UTF-8, not empty, in NFC.
     pub name: Text,

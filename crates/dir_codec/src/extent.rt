@@ -6,7 +6,7 @@ ghost use Rattle.dir_codec.specs.Spelled.{IsExtent};
 pub(crate) const MOST_LEVELS: usize = 100;
 
 /// What metadata are measured by.
-#[derive(Clone, Copy, Debug, Drop)]
+#[derive(Clone, Copy, Drop)]
 pub(crate) struct Extent {
     /// Levels of arrays and objects; 0 of a value that is neither.
     pub(crate) levels: usize,

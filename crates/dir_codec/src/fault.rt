@@ -4,48 +4,55 @@ ghost use Rattle.dir_codec.specs.declared.fault.DirFault.TheVariants.{NoMemory};
 
 use caps::CapFault;
 use std::alloc::{AllocError, AllocFailed};
-use thiserror::Error;
+use std::fmt;
 
 /// Why a text is no directory's, or children JSON names none.
-#[derive(Clone, Copy, Debug, PartialEq, Eq, Error)]
+#[derive(Clone, Copy, Debug, PartialEq, Eq)]
 pub enum DirFault {
     /// An entry is not one netstring of four, or is cut short.
-    #[error("a directory text is torn")]
     Torn,
     /// A name is not above the one before it.
-    #[error("names are not in order")]
     NotSorted,
     /// A name that is not UTF-8, is empty or is not in NFC.
-    #[error("bad name")]
     BadName,
     /// A text that is no cap's.
-    #[error("bad cap")]
     BadCap,
     /// A verify cap, or a cap of what can change.
-    #[error("not a read cap of what can't change")]
     NotImmutable,
     /// An entry has a write cap.
-    #[error("a write cap")]
     WriteCap,
     /// Metadata that are no JSON object, nest deeper than 100 levels, or have a number that is not a whole one of 64
     /// bits.
-    #[error("bad metadata")]
     BadMetadata,
     /// The bytes are no JSON.
-    #[error("no json")]
     NotJson,
     /// The JSON is of another shape than children have.
-    #[error("not the shape of children")]
     BadShape,
     /// Two names are one in NFC.
-    #[error("two children of one name")]
     SameName,
     /// Metadata in children JSON have a number that is not a whole one of 64 bits.
-    #[error("a number that is not whole")]
     FractionalNumber,
     /// Memory was refused.
-    #[error("out of memory")]
     NoMemory,
+}
+
+impl fmt::Display for DirFault {
+    fn fmt<W: fmt::Write>(&self, f: &mut fmt::Formatter<W>) -> fmt::Result {
+        f.write_str(match self {
+            DirFault::Torn => "a directory text is torn",
+            DirFault::NotSorted => "names are not in order",
+            DirFault::BadName => "bad name",
+            DirFault::BadCap => "bad cap",
+            DirFault::NotImmutable => "not a read cap of what can't change",
+            DirFault::WriteCap => "a write cap",
+            DirFault::BadMetadata => "bad metadata",
+            DirFault::NotJson => "no json",
+            DirFault::BadShape => "not the shape of children",
+            DirFault::SameName => "two children of one name",
+            DirFault::FractionalNumber => "a number that is not whole",
+            DirFault::NoMemory => "out of memory",
+        })
+    }
 }
 
 impl From<AllocError> for DirFault {

@@ -6,7 +6,7 @@ ghost use Rattle.dir_codec.specs.Kept.{IsField, AreChildFields};
 use crate::spelling::Spelled;
 
 /// The value of a field.
-#[derive(Debug, Drop)]
+#[derive(Drop)]
 pub(crate) enum Field {
     /// Null.
     Null,
@@ -19,7 +19,7 @@ pub(crate) enum Field {
 }
 
 /// The fields of a child that have a meaning, each as far as it is there.
-#[derive(Debug, Drop)]
+#[derive(Drop)]
 pub(crate) struct Fields {
     /// The cap that reads the child.
     pub(crate) ro_uri: Option<Field>,

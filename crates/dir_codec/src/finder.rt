@@ -12,7 +12,7 @@ use octets::Text;
 use std::alloc::{AllocError, Global};
 
 /// What is found under a name in bytes that are to be a directory text.
-#[derive(Debug, Drop)]
+#[derive(Drop)]
 pub enum Sought {
     /// The cap of the child of that name.
     Child(Cap),
@@ -24,7 +24,6 @@ pub enum Sought {
 
 /// A name that is looked for in a directory text, some entries at a time, and in long metadata some of their text at a
 /// time. The whole text is judged, also behind the child.
-#[derive(Debug)]
 pub struct Finder {
     /// The name that is looked for.
     name: Text,
@@ -52,7 +51,7 @@ impl Drop for Finder {
 }
 
 /// How far a finder is.
-#[derive(Debug, Drop)]
+#[derive(Drop)]
 pub enum Finding {
     /// More of the text is to be read.
     Going(Finder),

@@ -23,7 +23,7 @@ use std::collections::BTreeSet;
 /// What is known of a JSON value, as far as its tokens came. A value in it is unfit where metadata can't have it there: a
 /// number that is no whole one of 64 bits, or an array or object below 100 others; and so is an array or object with such
 /// an item or such a last value of a key.
-#[derive(Debug, Drop)]
+#[derive(Drop)]
 pub(crate) struct Judge {
     /// What is open, the innermost last.
     opened: Vec<Bracket>,
@@ -32,7 +32,7 @@ pub(crate) struct Judge {
 }
 
 /// An array or object that is open.
-#[derive(Debug, Drop)]
+#[derive(Drop)]
 enum Bracket {
     /// An array, and whether an item in it is unfit.
     Array(bool),
@@ -43,7 +43,7 @@ enum Bracket {
 }
 
 /// What is kept of an open object's members.
-#[derive(Debug, Drop)]
+#[derive(Drop)]
 struct Noted {
     /// The keys whose last values are unfit.
     unfit: BTreeSet<String>,

@@ -11,7 +11,7 @@ use crate::spelling::Keys;
 use std::alloc::{AllocError, Global};
 
 /// Metadata that are judged, some of their text at a time.
-#[derive(Debug, Drop)]
+#[derive(Drop)]
 pub(crate) struct Judging {
     /// What was read, and what is known of it.
     reader: PieceReader<Judge>,

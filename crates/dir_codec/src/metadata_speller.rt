@@ -21,7 +21,6 @@ use octets::Text;
 use std::alloc::{AllocError, Global};
 
 /// The one spelling of metadata, as far as it is made of their text, some 65,536 bytes at a time.
-#[derive(Debug)]
 pub struct MetadataSpeller {
     stage: SpellingStage,
 }
@@ -34,7 +33,7 @@ impl Drop for MetadataSpeller {
 }
 
 /// How far a speller of metadata is.
-#[derive(Debug, Drop)]
+#[derive(Drop)]
 pub(crate) enum SpellingStage {
     /// So far the keys of each object rise: what is read is written as it comes.
     Rising(PieceReader<Speller>),
@@ -47,7 +46,7 @@ pub(crate) enum SpellingStage {
 }
 
 /// How a speller of metadata goes on.
-#[derive(Debug, Drop)]
+#[derive(Drop)]
 pub enum MetadataSpelling {
     /// It has more to do.
     Going(MetadataSpeller),

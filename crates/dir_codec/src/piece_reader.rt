@@ -8,7 +8,7 @@ use crate::token_pieces::{TakesTokens, push_tokens};
 use std::alloc::{AllocError, Global};
 
 /// JSON that is read a piece of its text at a time, by what takes its tokens.
-#[derive(Debug, Drop)]
+#[derive(Drop)]
 pub(crate) struct PieceReader<T> {
     /// How many bytes of the text were read: none, or those up to a value and a comma.
     at: usize,

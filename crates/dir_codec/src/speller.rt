@@ -20,7 +20,7 @@ use octets::Text;
 use std::alloc::{AllocError, Global};
 
 /// The spelling of a JSON value, as far as its tokens came.
-#[derive(Debug, Drop)]
+#[derive(Drop)]
 pub(crate) struct Speller {
     /// What is written.
     out: Vec<u8>,
@@ -35,7 +35,7 @@ pub(crate) struct Speller {
 }
 
 /// An array or object that is open.
-#[derive(Debug, Drop)]
+#[derive(Drop)]
 pub(crate) enum Opened {
     /// An array, and whether an item stands in it.
     Array(bool),

@@ -27,7 +27,7 @@ use std::collections::BTreeMap;
 pub(crate) const READ_LEVELS: usize = 127;
 
 /// Why no spelling was made.
-#[derive(Clone, Copy, Debug, Drop)]
+#[derive(Clone, Copy, Drop)]
 pub(crate) enum Stop {
     /// The tokens are no JSON.
     NotJson,
@@ -38,7 +38,7 @@ pub(crate) enum Stop {
 }
 
 /// How an object's members may come.
-#[derive(Clone, Copy, Debug, Drop)]
+#[derive(Clone, Copy, Drop)]
 pub(crate) enum Keys {
     /// Each key is above the one before it, so members are written as they come.
     Rising,
@@ -80,7 +80,7 @@ impl From<Invalid> for Stop {
 }
 
 /// A value, spelled.
-#[derive(Debug, Drop)]
+#[derive(Drop)]
 pub(crate) struct Spelled {
     /// `serde_json`'s compact text, in which a number that isn't whole leaves nothing.
     pub(crate) text: Vec<u8>,

@@ -7,3 +7,4 @@ pub mod Places
 pub mod Combining
 pub mod Coding
 pub mod Decoding
+pub mod Refused

@@ -15,7 +15,7 @@ use std::alloc::{AllocError, Global};
 use std::marker::Model;
 
 /// A code of n blocks, of which any k give the k primary ones.
-#[derive(Debug, Drop)]
+#[derive(Drop)]
 pub struct Code {
     k: u16,
     n: u16,

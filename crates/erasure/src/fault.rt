@@ -3,27 +3,37 @@ ghost use Rattle.std.specs.Prelude.{◌≡◌};
 ghost use Rattle.erasure.specs.declared.fault.CodeFault.TheVariants.{NoMemory};
 
 use std::alloc::{AllocError, AllocFailed};
-use thiserror::Error;
+use std::error::Error;
+use std::fmt;
 
 /// Why a code isn't made, or blocks aren't decoded.
-#[derive(Debug, PartialEq, Eq, Drop, Error)]
+#[derive(Debug, PartialEq, Eq, Drop)]
 pub enum CodeFault {
     /// A code needs 1 <= k <= n <= 256.
-    #[error("bad parameters")]
     BadParameters,
     /// Fewer than k blocks were given.
-    #[error("too few blocks")]
     TooFew,
     /// A number stands twice among the first k.
-    #[error("a block number is repeated")]
     Repeated,
     /// The first k blocks are not of one length.
-    #[error("blocks of unequal length")]
     UnequalLength,
     /// Memory was refused.
-    #[error("out of memory")]
     NoMemory,
 }
+
+impl fmt::Display for CodeFault {
+    fn fmt<W: fmt::Write>(&self, f: &mut fmt::Formatter<W>) -> fmt::Result {
+        f.write_str(match self {
+            CodeFault::BadParameters => "bad parameters",
+            CodeFault::TooFew => "too few blocks",
+            CodeFault::Repeated => "a block number is repeated",
+            CodeFault::UnequalLength => "blocks of unequal length",
+            CodeFault::NoMemory => "out of memory",
+        })
+    }
+}
+
+impl Error for CodeFault {}
 
 impl From<AllocError> for CodeFault {
     ghost from_gives = { λ _ e. e ≡ NoMemory };

@@ -8,7 +8,7 @@ use std::alloc::{AllocError, Global};
 use std::marker::Model;
 
 /// Where the bytes come from.
-#[derive(Debug, Drop)]
+#[derive(Drop)]
 pub(crate) enum Source {
     /// The whole file is held.
     Whole(Whole),
@@ -17,7 +17,7 @@ pub(crate) enum Source {
 }
 
 /// The bytes of a file that are left, which are given a segment at a time. No store is asked for them.
-#[derive(Debug, Drop)]
+#[derive(Drop)]
 pub struct Download {
     alloc: Global,
     source: Source,

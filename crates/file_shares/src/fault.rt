@@ -3,17 +3,24 @@ ghost use Rattle.std.specs.Prelude.{◌≡◌};
 ghost use Rattle.file_shares.specs.declared.fault.ReadFault.TheVariants.{NoMemory};
 
 use std::alloc::{AllocError, AllocFailed};
-use thiserror::Error;
+use std::fmt;
 
 /// Why a file isn't read.
-#[derive(Clone, Copy, Debug, PartialEq, Eq, Error)]
+#[derive(Clone, Copy, Debug, PartialEq, Eq)]
 pub enum ReadFault {
     /// Fewer than k numbers have a good share, or these are not of the file.
-    #[error("not enough shares")]
     NotEnoughShares,
     /// There was no memory.
-    #[error("out of memory")]
     NoMemory,
+}
+
+impl fmt::Display for ReadFault {
+    fn fmt<W: fmt::Write>(&self, f: &mut fmt::Formatter<W>) -> fmt::Result {
+        f.write_str(match self {
+            ReadFault::NotEnoughShares => "not enough shares",
+            ReadFault::NoMemory => "out of memory",
+        })
+    }
 }
 
 impl From<AllocError> for ReadFault {

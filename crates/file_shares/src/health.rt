@@ -2,7 +2,7 @@
 use std::marker::Model;
 
 /// How healthy a file is, by what stands of it.
-#[derive(Debug, Drop)]
+#[derive(Drop)]
 pub struct Health {
     /// How many shares give the file back.
     pub needed: u16,

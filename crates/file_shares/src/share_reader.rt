@@ -16,7 +16,7 @@ use std::marker::Model;
 use std::rc::Rc;
 
 /// A file of which k good shares are held, from a segment on. No store is asked for its bytes.
-#[derive(Debug, Drop)]
+#[derive(Drop)]
 pub struct ShareReader {
     params: Params,
     code: Code,

@@ -8,7 +8,7 @@ use std::marker::Model;
 use std::rc::RcSlice;
 
 /// The bytes from a place on, in pieces of this size.
-#[derive(Debug, Drop)]
+#[derive(Drop)]
 pub struct Whole {
     bytes: RcSlice<u8>,
     at: usize,

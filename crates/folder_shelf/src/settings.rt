@@ -7,7 +7,7 @@ use sha2::{Digest, Sha256};
 const SECRET_TAG: &[u8; 23] = b"wozhinnam shelf secret:";
 
 /// Whose a folder is: a server's of a grid.
-#[derive(Clone, Copy, Debug, PartialEq, Eq)]
+#[derive(Clone, Copy, PartialEq, Eq)]
 pub struct StoreSettings {
     /// The place of the server among the grid's, counted from 0.
     pub place: u16,

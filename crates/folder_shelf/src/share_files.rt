@@ -54,7 +54,7 @@ pub fn paths_of(
 }
 
 /// Why a file gave no share.
-#[derive(Clone, Copy, Debug, PartialEq, Eq)]
+#[derive(Clone, Copy, PartialEq, Eq)]
 pub enum Unread {
     /// There is no file of this name.
     NotThere,

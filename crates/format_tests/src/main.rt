@@ -20,6 +20,8 @@ mod readings;
 mod redis_texts;
 /// Shares.
 mod shares;
+/// Codes by a key, and signatures.
+mod signatures;
 /// Netstrings and tagged hashes.
 mod tagged_hashes;
 /// Hash trees.
@@ -52,6 +54,8 @@ impl Answers for Questions {
             "reply" => redis_texts::answer(alloc, case),
             "share" => self.shares.answer(alloc, case),
             "hash" => tagged_hashes::answer(alloc, case),
+            "hmac" => signatures::code(alloc, case),
+            "s3" => signatures::answer(alloc, case),
             "tree" => trees::answer(alloc, case),
             _ => Err(NoAnswer::Question),
         }

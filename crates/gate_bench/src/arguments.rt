@@ -18,7 +18,7 @@ pub(crate) enum Command {
     Again,
 }
 
-#[derive(Debug, Drop)]
+#[derive(Drop)]
 pub(crate) enum ArgumentFault {
     /// An argument is no count.
     NotACount,

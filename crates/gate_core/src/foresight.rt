@@ -26,7 +26,7 @@ const LEAST: usize = 262_144;
 const MOST_STEPS: u32 = 100_000;
 
 /// The connections for which something is prepared: an upload for one, and a read for one, with its steps so far.
-#[derive(Clone, Copy, Debug)]
+#[derive(Clone, Copy)]
 pub struct PreparedFor {
     upload: Option<u64>,
     read: Option<(u64, u32)>,

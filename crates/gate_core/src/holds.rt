@@ -10,7 +10,7 @@ const PIECE: usize = 131_072;
 const MUCH: usize = 16_384;
 
 /// What a reply holds besides the bytes of it that are made, in bytes.
-#[derive(Clone, Copy, Debug, Drop, PartialEq, Eq)]
+#[derive(Clone, Copy, Drop, PartialEq, Eq)]
 pub struct Holds {
     /// Of a file, or of shares: they are held until its last byte is made.
     shares: usize,
@@ -19,7 +19,7 @@ pub struct Holds {
 }
 
 /// What is known of a connection's next request before it is carried out.
-#[derive(Clone, Copy, Debug, Drop, PartialEq, Eq)]
+#[derive(Clone, Copy, Drop, PartialEq, Eq)]
 pub enum Prospect {
     /// It had better wait: steps of its work are left, or others' come first.
     Waits,

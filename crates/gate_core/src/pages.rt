@@ -10,7 +10,7 @@ use web_ops::{MediaType, SharedBytes};
 use web_request::{WebFault, path_in};
 
 /// A page: the path at which it is read, as `/style.css`, what it is, and its bytes.
-#[derive(Debug, Drop)]
+#[derive(Drop)]
 pub struct Page {
     /// The path, as a target has it. One that names something of the web API is never read.
     pub path: Bytes,
@@ -21,7 +21,7 @@ pub struct Page {
 }
 
 /// Pages, which contracts see as a list. Of two at one path the first is read.
-#[derive(Debug, Drop)]
+#[derive(Drop)]
 pub struct Pages {
     pages: Vec<Page>,
 }

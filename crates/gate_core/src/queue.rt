@@ -8,7 +8,7 @@ use std::marker::Model;
 
 /// A queue of bytes, taken from its front. What was given stays in front of what waits until it is at least as long,
 /// so that each byte is moved at most once more for each byte given, however small the portions.
-#[derive(Debug, Drop)]
+#[derive(Drop)]
 pub struct Queue {
     alloc: Global,
     bytes: Vec<u8>,

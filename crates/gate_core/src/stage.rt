@@ -1,6 +1,6 @@
 //! How far a connection's calls went.
 
-#[derive(Clone, Copy, Debug, PartialEq, Eq)]
+#[derive(Clone, Copy, PartialEq, Eq)]
 pub enum Stage {
     /// It takes bytes.
     Open,

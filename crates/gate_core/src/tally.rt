@@ -6,7 +6,7 @@ use http_edge::Status;
 
 /// How many replies of each status were made so far (RFC 9110, section 15). A number that reached its largest value stays
 /// there.
-#[derive(Clone, Copy, Debug, PartialEq, Eq)]
+#[derive(Clone, Copy, PartialEq, Eq)]
 pub struct Tally {
     pub ok: u64,
     pub partial_content: u64,

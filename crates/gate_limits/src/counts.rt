@@ -7,7 +7,7 @@ use crate::latencies::{Latencies, RequestKind};
 use std::time::Duration;
 
 /// What happened so far. A number that reached its largest value stays there.
-#[derive(Clone, Copy, Debug, PartialEq, Eq)]
+#[derive(Clone, Copy, PartialEq, Eq)]
 pub struct Counts {
     /// Connections that are open now.
     pub open: u64,

@@ -12,7 +12,7 @@ use std::alloc::{AllocError, Global};
 use std::net::{IpAddr, Ipv4Addr, Ipv6Addr};
 
 /// Why a control request is refused, whatever it asks.
-#[derive(Clone, Copy, Debug, PartialEq, Eq)]
+#[derive(Clone, Copy, PartialEq, Eq)]
 pub enum Foreign {
     /// It has an Origin field, so a web page asks.
     Page,
@@ -21,7 +21,7 @@ pub enum Foreign {
 }
 
 /// An address that control requests came to.
-#[derive(Debug, Drop)]
+#[derive(Drop)]
 pub struct Here {
     /// Its text, with the port.
     pub address: Text,

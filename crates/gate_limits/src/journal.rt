@@ -12,7 +12,7 @@ const SECOND_MILLIS: u128 = 1000;
 
 /// Lines of connections that are cut: at most 20 a second, so that many connections which are reset make no flood of them.
 /// The others are counted.
-#[derive(Clone, Copy, Debug)]
+#[derive(Clone, Copy)]
 pub struct Journal {
     /// When the second began.
     began: Instant,

@@ -6,7 +6,7 @@ ghost use Rattle.gate_limits.specs.Latencies.{bucket_after, empty_bucket, empty_
 use std::time::Duration;
 
 /// What a request is, by the method that its first bytes name (RFC 9110, section 9).
-#[derive(Clone, Copy, Debug, PartialEq, Eq)]
+#[derive(Clone, Copy, PartialEq, Eq)]
 pub enum RequestKind {
     Get,
     Head,
@@ -36,7 +36,7 @@ impl RequestKind {
 }
 
 /// How many requests took a time up to a bound.
-#[derive(Clone, Copy, Debug, PartialEq, Eq)]
+#[derive(Clone, Copy, PartialEq, Eq)]
 pub struct Bucket {
     /// The bound, in nanoseconds.
     pub bound: u64,
@@ -68,7 +68,7 @@ impl Bucket {
 }
 
 /// How long requests took. A number that reached its largest value stays there.
-#[derive(Clone, Copy, Debug, PartialEq, Eq)]
+#[derive(Clone, Copy, PartialEq, Eq)]
 pub struct Histogram {
     /// By their bounds, which rise from 1 millisecond to 10 seconds. A request counts in each whose bound is no less than
     /// its time.
@@ -121,7 +121,7 @@ fn count_in(buckets: &mut [Bucket], nanos: u64)
 }
 
 /// How long requests took, by what they were.
-#[derive(Clone, Copy, Debug, PartialEq, Eq)]
+#[derive(Clone, Copy, PartialEq, Eq)]
 pub struct Latencies {
     pub get: Histogram,
     pub head: Histogram,

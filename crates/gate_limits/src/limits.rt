@@ -10,7 +10,7 @@ use std::time::Duration;
 const RATE_WHILE_FULL: u64 = 65_536;
 
 /// What is allowed to connections.
-#[derive(Clone, Copy, Debug)]
+#[derive(Clone, Copy)]
 pub struct Limits {
     /// How many may be open at once.
     pub most: usize,

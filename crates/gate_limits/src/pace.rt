@@ -7,7 +7,7 @@ use crate::limits::Limits;
 use std::time::{Duration, Instant};
 
 /// What a peer does.
-#[derive(Clone, Copy, Debug, PartialEq, Eq)]
+#[derive(Clone, Copy, PartialEq, Eq)]
 pub enum Way {
     /// It sends a request.
     Sends,
@@ -19,7 +19,7 @@ pub enum Way {
 /// one on. Those of a reply count once a write blocks: what went before may stand in the system's buffer. Of both the
 /// count begins anew where it lasted as long as a peer may be silent, so that bytes that were moved fast allow for no
 /// slow ones later.
-#[derive(Clone, Copy, Debug)]
+#[derive(Clone, Copy)]
 pub struct Pace {
     way: Way,
     /// Whether its bytes count.

@@ -6,7 +6,7 @@ use crate::latencies::RequestKind;
 use std::time::Instant;
 
 /// A request to which no reply was made yet.
-#[derive(Clone, Copy, Debug)]
+#[derive(Clone, Copy)]
 pub struct Begun {
     /// What it is.
     pub kind: RequestKind,
@@ -15,7 +15,7 @@ pub struct Begun {
 }
 
 /// How long the request takes that a connection sends, from its first byte until a reply to it is made.
-#[derive(Clone, Copy, Debug)]
+#[derive(Clone, Copy)]
 pub struct Stopwatch {
     begun: Option<Begun>,
 }

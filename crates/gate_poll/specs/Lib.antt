@@ -1,6 +1,5 @@
--- Read Secrets and Table first: what the loop does to the gateway; then Peers. Admitted is of the control listener.
+-- Read Secrets and Table first: what the loop does to the gateway; then Peers.
 pub mod Peers
 pub mod Secrets
 pub mod Table
-pub mod Admitted
 pub mod Events

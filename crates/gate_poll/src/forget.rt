@@ -20,7 +20,7 @@ pub trait Forget {
 }
 
 /// Forgets connections as a lobby does.
-#[derive(Clone, Copy, Debug, PartialEq, Eq)]
+#[derive(Clone, Copy, PartialEq, Eq)]
 pub struct Forgetter;
 
 impl Forget for Forgetter {

@@ -27,7 +27,7 @@ const HURRIED_REPLY: usize = 1_048_576;
 const LONG_MILLIS: u128 = 2;
 
 /// A time, and how much processor time the loop had used by then.
-#[derive(Clone, Copy, Debug)]
+#[derive(Clone, Copy)]
 pub struct Moment {
     pub now: Instant,
     used: Duration,
@@ -57,14 +57,14 @@ impl Moment {
 }
 
 /// What came of a turn, and the fault that ended it, if one did.
-#[derive(Clone, Copy, Debug, PartialEq, Eq)]
+#[derive(Clone, Copy, PartialEq, Eq)]
 pub struct Outcome {
     pub turned: Turned,
     pub fault: Option<FlowFault>,
 }
 
 /// What came of one call of a socket, and of the gateway after it.
-#[derive(Clone, Copy, Debug, PartialEq, Eq)]
+#[derive(Clone, Copy, PartialEq, Eq)]
 struct Stepped {
     /// How the turn ends. It goes on where this is `None`.
     end: Option<End>,

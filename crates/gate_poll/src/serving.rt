@@ -10,11 +10,11 @@ ghost use Rattle.gate_poll.specs.Events.{IsInformed, IsKnocked, wakes_reader, wa
 ghost use Rattle.gate_poll.specs.Secrets.{IsUnder, IsUnderSome, IsUnderOneOf};
 ghost use Rattle.gate_poll.specs.Table.{IsTableKept, IsHostedUnder, Serves, ServesUnder, LetsGo, IsLetGo, IsOverAt};
 
-use crate::control::{Control, ControlTable};
 use crate::fault::ServeFault;
 use crate::forget::{Forget, Forgetter};
 use crate::table::Table;
 use crate::watch::Watch;
+use gate_control::{Control, ControlTable};
 use gate_flow::Lobby;
 use gate_limits::{
     Arrival, Arrivals, CONTROL, Counts, Entrance, Limits, Listener, Listeners, place_of, register,

@@ -10,7 +10,7 @@ use std::alloc::Global;
 const QUIET_LOOKS: u32 = 20;
 
 /// What a look at a store has to tell.
-#[derive(Clone, Copy, Debug, PartialEq, Eq)]
+#[derive(Clone, Copy, PartialEq, Eq)]
 pub(crate) enum News {
     /// Nothing.
     Nothing,

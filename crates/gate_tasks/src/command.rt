@@ -14,7 +14,7 @@ use octets::{Bytes, read_number, split_at_byte};
 use std::alloc::{AllocError, Global};
 
 /// The parameters of a gateway.
-#[derive(Debug, Drop)]
+#[derive(Drop)]
 pub struct Grid {
     /// How many shares give a file back.
     pub k: u16,
@@ -29,7 +29,7 @@ pub struct Grid {
 }
 
 /// A share by where it is.
-#[derive(Clone, Copy, Debug)]
+#[derive(Clone, Copy)]
 pub struct Share {
     /// The server's number, from 0 on.
     pub server: u32,
@@ -40,7 +40,7 @@ pub struct Share {
 }
 
 /// A call of the gateway that there is.
-#[derive(Debug, Drop)]
+#[derive(Drop)]
 pub enum Call {
     /// A connection with this id begins, with a secret of its own or none.
     Open(u64, Option<Bytes>),
@@ -59,7 +59,7 @@ pub enum Call {
 }
 
 /// What a line asks.
-#[derive(Debug, Drop)]
+#[derive(Drop)]
 pub enum Command {
     /// A gateway with these parameters.
     Grid(Grid),

@@ -5,28 +5,36 @@ ghost use Rattle.gate_tasks.specs.declared.fault.ProgramFault.TheVariants as pro
 
 use octets::WriteFault;
 use std::alloc::{AllocError, AllocFailed};
-use thiserror::Error;
+use std::fmt;
 
 /// Why a script's run ended before its end. The answers of the lines before are written, save after `WriteFailed`,
 /// where a beginning of them is.
-#[derive(Clone, Copy, Debug, PartialEq, Eq, Error)]
+#[derive(Clone, Copy, PartialEq, Eq)]
 pub enum ScriptFault {
     /// The line of this number, counted from 1, is no command, or may not stand there, or asks for a gateway that
     /// there is none of.
-    #[error("line {0} is bad")]
     BadLine(u64),
     /// The script could not be read further.
-    #[error("the script could not be read")]
     ReadFailed,
     /// An answer could not be written.
-    #[error("an answer could not be written")]
     WriteFailed,
     /// Memory was refused.
-    #[error("out of memory")]
     NoMemory,
     /// The script has more than 268,435,456 bytes, or one of its lines more than 16,777,216.
-    #[error("the script or one of its lines is too long")]
     TooLong,
+}
+
+impl fmt::Display for ScriptFault {
+    fn fmt<W: fmt::Write>(&self, f: &mut fmt::Formatter<W>) -> fmt::Result {
+        let words = match self {
+            ScriptFault::BadLine(line) => return write!(f, "line {line} is bad"),
+            ScriptFault::ReadFailed => "the script could not be read",
+            ScriptFault::WriteFailed => "an answer could not be written",
+            ScriptFault::NoMemory => "out of memory",
+            ScriptFault::TooLong => "the script or one of its lines is too long",
+        };
+        f.write_str(words)
+    }
 }
 
 impl From<AllocError> for ScriptFault {
@@ -46,63 +54,92 @@ impl From<WriteFault> for ScriptFault {
 }
 
 /// Why no more connections are served.
-#[derive(Clone, Copy, Debug, PartialEq, Eq, Error)]
+#[derive(Clone, Copy, PartialEq, Eq)]
 pub enum ServeFault {
     /// The listener gave no further connection.
-    #[error("no connection could be accepted")]
     AcceptFailed = 5,
 }
 
+impl fmt::Display for ServeFault {
+    fn fmt<W: fmt::Write>(&self, f: &mut fmt::Formatter<W>) -> fmt::Result {
+        f.write_str(match self {
+            ServeFault::AcceptFailed => "no connection could be accepted",
+        })
+    }
+}
+
 /// Why arguments ask for nothing that there is: the first that is wrong, from left to right.
-#[derive(Clone, Copy, Debug, PartialEq, Eq, Error)]
+#[derive(Clone, Copy, PartialEq, Eq)]
 pub enum UsageFault {
     /// One of them is no text.
-    #[error("an argument is no UTF-8")]
     NoText,
     /// There is none.
-    #[error("there is no command")]
     NoCommand,
     /// The first is neither `replay` nor `serve`.
-    #[error("the command is neither replay nor serve")]
     OtherCommand,
     /// Some stand behind `replay`.
-    #[error("replay takes no argument: the script is its standard input")]
     ReplayCount,
     /// Neither two nor three stand behind `serve`.
-    #[error("serve takes ADDR, CONNS and at most a SECRET")]
     ServeCount,
     /// The first behind `serve` is no socket address.
-    #[error("ADDR is no IP address in numbers with a port, as 127.0.0.1:3456")]
     Address,
     /// The second behind `serve` is no number of connections.
-    #[error("CONNS is no number from 1 to 65535")]
     Connections,
     /// The third behind `serve` spells no secret.
-    #[error("SECRET is no base32 text of at most 256 bytes")]
     Secret,
 }
 
+impl fmt::Display for UsageFault {
+    fn fmt<W: fmt::Write>(&self, f: &mut fmt::Formatter<W>) -> fmt::Result {
+        f.write_str(match self {
+            UsageFault::NoText => "an argument is no UTF-8",
+            UsageFault::NoCommand => "there is no command",
+            UsageFault::OtherCommand => "the command is neither replay nor serve",
+            UsageFault::ReplayCount => "replay takes no argument: the script is its standard input",
+            UsageFault::ServeCount => "serve takes ADDR, CONNS and at most a SECRET",
+            UsageFault::Address =>
+                "ADDR is no IP address in numbers with a port, as 127.0.0.1:3456",
+            UsageFault::Connections => "CONNS is no number from 1 to 65535",
+            UsageFault::Secret => "SECRET is no base32 text of at most 256 bytes",
+        })
+    }
+}
+
 /// Why the program ended before its end.
-#[derive(Clone, Copy, Debug, PartialEq, Eq, Error)]
+#[derive(Clone, Copy, PartialEq, Eq)]
 pub enum ProgramFault {
     /// The arguments ask for nothing that there is.
-    #[error("{0}; usage: gate_main replay < SCRIPT, or gate_main serve ADDR CONNS [SECRET]")]
     Usage(UsageFault),
     /// The script's run ended before the script's end.
-    #[error("{0}")]
     Script(ScriptFault),
     /// The address could not be listened on.
-    #[error("the address could not be bound")]
     BindFailed,
     /// No more connections could be served.
-    #[error("{0}")]
     Serve(ServeFault),
     /// So many of the connections that were served had a fault.
-    #[error("connections that had a fault: {0}")]
     Connections(u16),
     /// Memory was refused.
-    #[error("out of memory")]
     NoMemory,
+}
+
+impl fmt::Display for ProgramFault {
+    fn fmt<W: fmt::Write>(&self, f: &mut fmt::Formatter<W>) -> fmt::Result {
+        let words = match self {
+            ProgramFault::Usage(fault) => return write!(
+                f,
+                "{fault}; usage: gate_main replay < SCRIPT, or gate_main serve ADDR CONNS [SECRET]"
+            ),
+            ProgramFault::Script(fault) => return write!(f, "{fault}"),
+            ProgramFault::BindFailed => "the address could not be bound",
+            ProgramFault::Serve(fault) => return write!(f, "{fault}"),
+            ProgramFault::Connections(count) => return write!(
+                f,
+                "connections that had a fault: {count}"
+            ),
+            ProgramFault::NoMemory => "out of memory",
+        };
+        f.write_str(words)
+    }
 }
 
 impl From<AllocError> for ProgramFault {

@@ -14,7 +14,7 @@ pub const LINE_LIMIT: usize = 16_777_216;
 pub const SCRIPT_LIMIT: usize = 268_435_456;
 
 /// How far one look at the reader's bytes led.
-#[derive(Debug, Drop)]
+#[derive(Drop)]
 pub enum Part {
     /// The line goes on.
     More,

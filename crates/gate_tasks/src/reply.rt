@@ -9,7 +9,7 @@ use octets::Bytes;
 use std::alloc::AllocError;
 
 /// What a line is answered.
-#[derive(Debug, Drop)]
+#[derive(Drop)]
 pub enum Reply {
     /// It is done.
     Done,

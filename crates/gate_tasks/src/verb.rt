@@ -4,7 +4,7 @@ ghost use Rattle.std.specs.Str.{bytes_eq};
 ghost use Rattle.gate_tasks.specs.Command.{name_of, verb_of};
 
 /// What a line asks for, said by its first word.
-#[derive(Clone, Copy, Debug)]
+#[derive(Clone, Copy)]
 pub enum Verb {
     /// `grid`
     Grid,

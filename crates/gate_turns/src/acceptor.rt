@@ -9,7 +9,7 @@ use std::time::Instant;
 const PAUSE_MILLIS: u128 = 500;
 
 /// What came of an attempt to accept a connection.
-#[derive(Clone, Copy, Debug, PartialEq, Eq)]
+#[derive(Clone, Copy, PartialEq, Eq)]
 pub enum Accepted {
     /// A socket, or one that is gone again.
     One,
@@ -20,7 +20,7 @@ pub enum Accepted {
 }
 
 /// Whether connections may be accepted.
-#[derive(Clone, Copy, Debug)]
+#[derive(Clone, Copy)]
 pub struct Acceptor {
     /// Whether connections may wait: none of the attempts since the last knock found that none does.
     pub waiting: bool,

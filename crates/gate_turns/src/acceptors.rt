@@ -10,7 +10,7 @@ use std::time::Instant;
 
 /// The acceptors of several listeners, in a circle. A connection is accepted at the first one, from the one behind the last
 /// attempt on, at which that may be: so an acceptor at which many wait keeps nobody out at another.
-#[derive(Debug, Drop)]
+#[derive(Drop)]
 pub struct Acceptors {
     acceptors: Vec<Acceptor>,
     first: usize,

@@ -5,7 +5,7 @@ ghost use Rattle.gate_turns.specs.Ending.{IsStopOver};
 use std::time::{Duration, Instant};
 
 /// Since when serving is to stop.
-#[derive(Clone, Copy, Debug)]
+#[derive(Clone, Copy)]
 pub struct Ending {
     pub since: Option<Instant>,
 }

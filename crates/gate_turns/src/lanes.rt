@@ -8,7 +8,7 @@ use std::collections::VecDeque;
 use std::marker::Model;
 
 /// A connection that has its turn, and the lane in which it stood.
-#[derive(Clone, Copy, Debug, PartialEq, Eq)]
+#[derive(Clone, Copy, PartialEq, Eq)]
 pub struct Chosen {
     pub id: u64,
     pub lane: Lane,

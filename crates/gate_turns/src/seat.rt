@@ -7,7 +7,7 @@ ghost use Rattle.gate_turns.specs.declared.seat.Place.TheVariants as place;
 const SLOW_TURNS: u8 = 255;
 
 /// Which turns a connection waits for.
-#[derive(Clone, Copy, Debug, PartialEq, Eq)]
+#[derive(Clone, Copy, PartialEq, Eq)]
 pub enum Lane {
     /// Those of connections whose last steps were quick.
     Quick,
@@ -18,7 +18,7 @@ pub enum Lane {
 }
 
 /// Which side of a socket is waited for.
-#[derive(Clone, Copy, Debug, PartialEq, Eq)]
+#[derive(Clone, Copy, PartialEq, Eq)]
 pub enum Side {
     /// Bytes of the peer.
     Read,
@@ -27,7 +27,7 @@ pub enum Side {
 }
 
 /// Where an open connection is. It is always in exactly one place.
-#[derive(Clone, Copy, Debug, PartialEq, Eq)]
+#[derive(Clone, Copy, PartialEq, Eq)]
 pub enum Place {
     /// It stands in a lane, and has a turn to come.
     Queued(Lane),
@@ -38,7 +38,7 @@ pub enum Place {
 }
 
 /// How a turn ended.
-#[derive(Clone, Copy, Debug, PartialEq, Eq)]
+#[derive(Clone, Copy, PartialEq, Eq)]
 pub enum End {
     /// Its socket lets it go on, and others come first.
     Again,
@@ -49,7 +49,7 @@ pub enum End {
 }
 
 /// What came of a turn.
-#[derive(Clone, Copy, Debug, PartialEq, Eq)]
+#[derive(Clone, Copy, PartialEq, Eq)]
 pub struct Turned {
     pub end: End,
     /// Whether a step of the gateway was long.
@@ -61,7 +61,7 @@ pub struct Turned {
 }
 
 /// One connection's place, and what is known of its socket.
-#[derive(Clone, Copy, Debug, PartialEq, Eq)]
+#[derive(Clone, Copy, PartialEq, Eq)]
 pub struct Seat {
     pub place: Place,
     /// Whether its socket was reported readable, and hasn't blocked since.

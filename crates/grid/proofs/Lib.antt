@@ -1,4 +1,5 @@
 pub mod Calls
+pub mod Downs
 pub mod EmptyStores
 pub mod Entries
 pub mod FaultReads

@@ -1,8 +1,9 @@
 -- What calls see of a grid whose stores are honest, or changed by others too.
-use Rattle.std.proofs.Common.{◌≡◌, ◌⊎◌, inl, inr, ◌<◌, ◌+◌, ℕ, zero, suc, Bool, false, IsTrue, List, [], ◌∷◌, ◌++◌, map, length, Option, Some, option_and_then, slice_get, slice_set, get_or, Result, OnOk, All, refl, sym, ap, subst, ◌∙◌, arith}
+use Rattle.std.proofs.Common.{◌≡◌, ◌⊎◌, inl, inr, ◌<◌, ◌≤◌, ◌+◌, ℕ, zero, suc, Bool, false, IsTrue, List, [], ◌∷◌, ◌++◌, map, length, Option, Some, option_and_then, slice_get, slice_set, get_or, Result, OnOk, All, refl, sym, ap, subst, ◌∙◌, arith}
 use Rattle.std.proofs.lemmas.List.Elements.{All-cons, All-nil, All-head, All-tail}
-use Rattle.std.proofs.lemmas.Option.{get_or_from_slice_get, slice_get-get_or, slice_get_within}
+use Rattle.std.proofs.lemmas.Option.{get_or_from_slice_get, slice_get-get_or, slice_get_within, same_Some, none-some}
 use Rattle.std.proofs.lemmas.Result.{on_ok_weaker}
+use Rattle.std.proofs.Math.Numerals.{suc-eq-add-one}
 use Rattle.std.specs.FinMap.{get, entries}
 use Rattle.std.specs.Option.{option_map_or}
 use Rattle.share_store.specs.Shares.{Shares, ShareKey, ShareEntry}
@@ -20,6 +21,33 @@ use Rattle.grid.specs.Found.{entries_at, found_in, found_below}
 use Rattle.grid.specs.Views.{AllTell, IsViewOf, AreViews, Sees, EachStore, TellsStill, TellOn, StandsStill, StandStill}
 use Rattle.grid.proofs.Calls.{IsCall, seen_as, rose_after}
 use Rattle.grid.proofs.Gather.{all_stand}
+
+-- ---- numbers: apart, since a tactic reads all that is in scope, and stores with their shares are long
+
+none_below : (n : ℕ) → n < 0 → ⊥
+none_below n lt = absurd (omega arith)
+
+below_both : (m n : ℕ) → suc m < suc n → m < n
+below_both m n lt = omega arith
+
+same_both : (m n : ℕ) → suc m ≡ suc n → m ≡ n
+same_both m n same = omega arith
+
+some_none : (n : ℕ) → suc n ≡ 0 → ⊥
+some_none n same = absurd (omega arith)
+
+below_suc : (r n : ℕ) → r < n → r < suc n
+below_suc r n lt = omega arith
+
+just_below : (n : ℕ) → n < suc n
+just_below n = omega arith
+
+-- a count that rose in one of two calls rose in both together
+rose_before : (a b c : ℕ) → a < b → b ≤ c → a < c
+rose_before a b c rose rises = omega arith
+
+rose_behind : (a b c : ℕ) → a ≤ b → b < c → a < c
+rose_behind a b c rises rose = omega arith
 
 -- ---- server by server
 
@@ -46,7 +74,7 @@ each_both Went (t ∷ ts) (u ∷ us) [] both a b = absurd b
 -- one store went from one state to another, and the others stayed
 pub each_set : (Went : StoreState → StoreState → Type 0) (ts : List StoreState) (s : ℕ) (t u : StoreState) → ((x : StoreState) → Went x x) → slice_get ts s ≡ Some t → Went t u → EachStore Went ts (slice_set ts s u)
 each_set Went [] s t u same at went = cc
-each_set Went (x ∷ ts) zero t u same at went = let is : x ≡ t = cc in (subst (λ (y : StoreState). Went y u) (sym is) went, each_same Went ts same)
+each_set Went (x ∷ ts) zero t u same at went = (subst (λ (y : StoreState). Went y u) (sym (same_Some x t at)) went, each_same Went ts same)
 each_set Went (x ∷ ts) (suc s) t u same at went = (same x, each_set Went ts s t u same at went)
 
 -- what is said of each store is said of this one: `told.each` and `stand_still` of one server
@@ -54,23 +82,21 @@ pub each_at : (Went : StoreState → StoreState → Type 0) (ts us : List StoreS
 each_at Went [] us s t u was is each = cc
 each_at Went (x ∷ ts) [] s t u was is each = cc
 each_at Went (x ∷ ts) (y ∷ us) zero t u was is each =
-    let old : x ≡ t = cc in
-    let new : y ≡ u = cc in
-    subst (Went t) new (subst (λ (z : StoreState). Went z y) old each.0)
+    subst (Went t) (same_Some y u is) (subst (λ (z : StoreState). Went z y) (same_Some x t was) each.0)
 each_at Went (x ∷ ts) (y ∷ us) (suc s) t u was is each = each_at Went ts us s t u was is each.1
 
 -- and the state that it went to is there
 pub each_after : (Went : StoreState → StoreState → Type 0) (ts us : List StoreState) (s : ℕ) (t : StoreState) → slice_get ts s ≡ Some t → EachStore Went ts us → (u : StoreState) × (slice_get us s ≡ Some u) × Went t u
 each_after Went [] us s t was each = cc
 each_after Went (x ∷ ts) [] s t was each = absurd each
-each_after Went (x ∷ ts) (y ∷ us) zero t was each = let old : x ≡ t = cc in (y, refl, subst (λ (z : StoreState). Went z y) old each.0)
+each_after Went (x ∷ ts) (y ∷ us) zero t was each = (y, refl, subst (λ (z : StoreState). Went z y) (same_Some x t was) each.0)
 each_after Went (x ∷ ts) (y ∷ us) (suc s) t was each = each_after Went ts us s t was each.1
 
 -- as is the state that it came from
 pub each_before : (Went : StoreState → StoreState → Type 0) (ts us : List StoreState) (s : ℕ) (u : StoreState) → slice_get us s ≡ Some u → EachStore Went ts us → (t : StoreState) × (slice_get ts s ≡ Some t) × Went t u
 each_before Went ts [] s u is each = cc
 each_before Went [] (y ∷ us) s u is each = absurd each
-each_before Went (x ∷ ts) (y ∷ us) zero u is each = let new : y ≡ u = cc in (x, refl, subst (Went x) new each.0)
+each_before Went (x ∷ ts) (y ∷ us) zero u is each = (x, refl, subst (Went x) (same_Some y u is) each.0)
 each_before Went (x ∷ ts) (y ∷ us) (suc s) u is each = each_before Went ts us s u is each.1
 
 -- ---- what stays
@@ -117,8 +143,13 @@ still_both old mid new a b = each_both StandsStill old.stores mid.stores new.sto
 
 lengths : (ts us : List StoreState) (views : List Shares) → AreViews ts us views → length views ≡ length ts
 lengths [] [] [] are = refl
-lengths (t ∷ ts) (u ∷ us) (view ∷ views) are = let more = lengths ts us views are.1 in omega (arith, more)
-lengths ts us views are = absurd are
+lengths (t ∷ ts) (u ∷ us) (view ∷ views) are = ap suc (lengths ts us views are.1)
+lengths [] [] (view ∷ views) are = absurd are
+lengths [] (u ∷ us) [] are = absurd are
+lengths [] (u ∷ us) (view ∷ views) are = absurd are
+lengths (t ∷ ts) [] [] are = absurd are
+lengths (t ∷ ts) [] (view ∷ views) are = absurd are
+lengths (t ∷ ts) (u ∷ us) [] are = absurd are
 
 -- there is a view of each call
 views_of : (ts us : List StoreState) → All Tells ts → EachStore TellsStill ts us → (views : List Shares) × AreViews ts us views
@@ -138,11 +169,14 @@ views_of (t ∷ ts) [] all each = absurd each
 views_with : (ts us : List StoreState) (views : List Shares) (s : ℕ) (t u : StoreState) (view : Shares) → slice_get ts s ≡ Some t → slice_get us s ≡ Some u → IsViewOf t u view → AreViews ts us views → AreViews ts us (slice_set views s view)
 views_with [] [] [] s t u view was is one are = are
 views_with (x ∷ ts) (y ∷ us) (v ∷ views) zero t u view was is one are =
-    let old : x ≡ t = cc in
-    let new : y ≡ u = cc in
-    (subst (λ (z : StoreState). IsViewOf z y view) (sym old) (subst (λ (z : StoreState). IsViewOf t z view) (sym new) one), are.1)
+    (subst (λ (z : StoreState). IsViewOf z y view) (sym (same_Some x t was)) (subst (λ (z : StoreState). IsViewOf t z view) (sym (same_Some y u is)) one), are.1)
 views_with (x ∷ ts) (y ∷ us) (v ∷ views) (suc s) t u view was is one are = (are.0, views_with ts us views s t u view was is one are.1)
-views_with ts us views s t u view was is one are = absurd are
+views_with [] [] (v ∷ views) s t u view was is one are = absurd are
+views_with [] (y ∷ us) [] s t u view was is one are = absurd are
+views_with [] (y ∷ us) (v ∷ views) s t u view was is one are = absurd are
+views_with (x ∷ ts) [] [] s t u view was is one are = absurd are
+views_with (x ∷ ts) [] (v ∷ views) s t u view was is one are = absurd are
+views_with (x ∷ ts) (y ∷ us) [] s t u view was is one are = absurd are
 
 -- what is seen in a part of a call is seen in the whole
 view_whole : (t u w x : StoreState) (view : Shares) → TellsStill t u → StandsStill t u → TellsStill w x → TellsStill u w → IsViewOf u w view → IsViewOf t x view
@@ -183,12 +217,12 @@ views_joined (t ∷ ts) (u ∷ us) (w ∷ ws) n (view ∷ views) [] told still t
 
 joined_before : (n : ℕ) (views others : List Shares) (r : ℕ) → length others ≡ length views → r < n → slice_get (joined n views others) r ≡ slice_get views r
 unfolding joined
-joined_before zero views others r long lt = absurd (omega arith)
+joined_before zero views others r long lt = absurd (none_below r lt)
 joined_before (suc n) [] [] r long lt = refl
 joined_before (suc n) (view ∷ views) (other ∷ others) zero long lt = refl
-joined_before (suc n) (view ∷ views) (other ∷ others) (suc r) long lt = joined_before n views others r (omega (arith, long)) (omega (arith, lt))
-joined_before (suc n) [] (other ∷ others) r long lt = absurd (omega (arith, long))
-joined_before (suc n) (view ∷ views) [] r long lt = absurd (omega (arith, long))
+joined_before (suc n) (view ∷ views) (other ∷ others) (suc r) long lt = joined_before n views others r (same_both (length others) (length views) long) (below_both r n lt)
+joined_before (suc n) [] (other ∷ others) r long lt = absurd (some_none (length others) long)
+joined_before (suc n) (view ∷ views) [] r long lt = absurd (some_none (length views) (sym long))
 
 joined_here : (n : ℕ) (views others : List Shares) → slice_get (joined n views others) n ≡ slice_get others n
 unfolding joined
@@ -201,8 +235,8 @@ joined_here (suc n) (view ∷ views) [] = refl
 found_same : (xs ys : List Shares) (index : List ℕ) (n : ℕ) → ((r : ℕ) → r < n → slice_get xs r ≡ slice_get ys r) → found_below xs index n ≡ found_below ys index n
 found_same xs ys index zero same = refl
 found_same xs ys index (suc n) same =
-    let before = found_same xs ys index n (λ r lt. same r (omega (arith, lt))) in
-    let here : entries_at xs n ≡ entries_at ys n = ap (λ (o : Option Shares). option_map_or entries o []) (same n (omega arith)) in
+    let before = found_same xs ys index n (λ r lt. same r (below_suc r n lt)) in
+    let here : entries_at xs n ≡ entries_at ys n = ap (λ (o : Option Shares). option_map_or entries o []) (same n (just_below n)) in
     λ i. before i ++ found_in n index (here i)
 
 -- ---- a call of one server's store
@@ -213,9 +247,9 @@ set_there (x ∷ ts) zero t u at = refl
 set_there (x ∷ ts) (suc s) t u at = set_there ts s t u at
 
 set_view : (views : List Shares) (s : ℕ) (view : Shares) → s < length views → slice_get (slice_set views s view) s ≡ Some view
-set_view [] s view lt = absurd (omega arith)
+set_view [] s view lt = absurd (none_below s lt)
 set_view (v ∷ views) zero view lt = refl
-set_view (v ∷ views) (suc s) view lt = set_view views s view (omega (arith, lt))
+set_view (v ∷ views) (suc s) view lt = set_view views s view (below_both s (length views) lt)
 
 module _ {old new : GridState} {s : ℕ} {t u : StoreState} (call : IsCall old new s t u) where
   pub tell_on_by : TellsStill t u → TellOn old new
@@ -232,7 +266,7 @@ module _ {old new : GridState} {s : ℕ} {t u : StoreState} (call : IsCall old n
   sees_by all told view one Says says =
       let any = views_of old.stores new.stores all told.each in
       let is : slice_get new.stores s ≡ Some u = ap (λ (g : GridState). slice_get g.stores s) call.is ∙ set_there old.stores s t u call.at in
-      let within : s < length any.0 = omega (arith, lengths old.stores new.stores any.0 any.1, call.in_range) in (
+      let within : s < length any.0 = subst (λ (n : ℕ). s < n) (sym (lengths old.stores new.stores any.0 any.1)) call.in_range in (
         slice_set any.0 s view,
         views_with old.stores new.stores any.0 s t u view call.at is one any.1,
         subst Says (sym (ap (λ (o : Option Shares). option_map_or entries o []) (set_view any.0 s view within))) says,
@@ -298,7 +332,7 @@ seen_next index limit old mid new n given more left then told still tells first 
     let M : Found → Type 0 = λ f. failures_at mid f.0 < failures_at new f.0 in
     let Q : Found → Type 0 = λ f. failures_at old f.0 < failures_at new f.0 in
     let views : List Shares = joined n first.0 second.0 in
-    let long : length second.0 ≡ length first.0 = omega (arith, lengths old.stores mid.stores first.0 first.1, lengths mid.stores new.stores second.0 second.1, left.servers) in
+    let long : length second.0 ≡ length first.0 = lengths mid.stores new.stores second.0 second.1 ∙ left.servers ∙ sym (lengths old.stores mid.stores first.0 first.1) in
     let before : found_below views index n ≡ found_below first.0 index n = found_same views first.0 index n (λ r lt. joined_before n first.0 second.0 r long lt) in
     let here : entries_at views n ≡ entries_at second.0 n = ap (λ (o : Option Shares). option_map_or entries o []) (joined_here n first.0 second.0) in
     let low_before = below_limit number limit (found_below first.0 index n) in
@@ -306,14 +340,14 @@ seen_next index limit old mid new n given more left then told still tells first 
     let low : below_limit number limit (found_below views index (suc n)) ≡ low_before ++ low_here =
     within_append number limit (found_below views index n) (found_in n index (entries_at views n))
     ∙ (λ i. below_limit number limit (before i) ++ below_limit number limit (found_in n index (here i))) in
-    let next : suc n ≡ n + 1 = omega arith in (
+    let next : suc n ≡ n + 1 = suc-eq-add-one n in (
       views,
       views_joined old.stores mid.stores new.stores n first.0 second.0 told.each still tells.each first.1 second.1,
       subst (λ k. AllBut Q (below_limit number limit (found_below views index k)) (given ++ more)) next
           (subst (λ l. AllBut Q l (given ++ more)) (sym low)
           (all_but_both Q low_before low_here given more
-          (more_may_miss P Q low_before given (λ f lt. omega (arith, lt, then.rises f.0)) first.2)
-          (more_may_miss M Q low_here more (λ f lt. omega (arith, lt, left.rises f.0)) second.2))),
+          (more_may_miss P Q low_before given (λ f lt. rose_before (failures_at old f.0) (failures_at mid f.0) (failures_at new f.0) lt (then.rises f.0)) first.2)
+          (more_may_miss M Q low_here more (λ f lt. rose_behind (failures_at old f.0) (failures_at mid f.0) (failures_at new f.0) (left.rises f.0) lt) second.2))),
     )
 
 -- ---- for the layers above
@@ -327,7 +361,12 @@ views_honest (t ∷ ts) (u ∷ us) (view ∷ views) all are =
     let here = are.0.honest (All-head (λ (x : StoreState). IsTrue x.honest) t ts all) in
     let more = views_honest ts us views (All-tail (λ (x : StoreState). IsTrue x.honest) t ts all) are.1 in
     λ i. here i ∷ more i
-views_honest ts us views all are = absurd are
+views_honest [] [] (view ∷ views) all are = absurd are
+views_honest [] (u ∷ us) [] all are = absurd are
+views_honest [] (u ∷ us) (view ∷ views) all are = absurd are
+views_honest (t ∷ ts) [] [] all are = absurd are
+views_honest (t ∷ ts) [] (view ∷ views) all are = absurd are
+views_honest (t ∷ ts) (u ∷ us) [] all are = absurd are
 
 -- of honest stores what stands there is seen
 pub sees_honest : (old new : GridState) (Says : List Shares → Type 0) → IsHonest old → Sees old new Says → Says (maps_of old)
@@ -358,19 +397,16 @@ given_seen index limit views n P given =
 
 -- the view of one server
 view_at : (ts us : List StoreState) (views : List Shares) (s : ℕ) (t u : StoreState) (view : Shares) → slice_get ts s ≡ Some t → slice_get us s ≡ Some u → slice_get views s ≡ Some view → AreViews ts us views → IsViewOf t u view
-view_at [] us views s t u view was is at are = cc
+view_at [] us views s t u view was is at are = absurd (none-some t was)
 view_at (x ∷ ts) (y ∷ us) (v ∷ views) zero t u view was is at are =
-    let old : x ≡ t = cc in
-    let new : y ≡ u = cc in
-    let here : v ≡ view = cc in
-    subst (IsViewOf t u) here (subst (λ (z : StoreState). IsViewOf z u v) old (subst (λ (z : StoreState). IsViewOf x z v) new are.0))
+    subst (IsViewOf t u) (same_Some v view at) (subst (λ (z : StoreState). IsViewOf z u v) (same_Some x t was) (subst (λ (z : StoreState). IsViewOf x z v) (same_Some y u is) are.0))
 view_at (x ∷ ts) (y ∷ us) (v ∷ views) (suc s) t u view was is at are = view_at ts us views s t u view was is at are.1
-view_at (x ∷ ts) [] views s t u view was is at are = cc
-view_at (x ∷ ts) (y ∷ us) [] s t u view was is at are = cc
+view_at (x ∷ ts) [] views s t u view was is at are = absurd (none-some u is)
+view_at (x ∷ ts) (y ∷ us) [] s t u view was is at are = absurd (none-some view at)
 
 -- there is one of each server
 a_view : (ts us : List StoreState) (views : List Shares) (s : ℕ) (t : StoreState) → slice_get ts s ≡ Some t → AreViews ts us views → slice_get views s ≡ Some (get_or views s t.shares)
-a_view ts us views s t was are = slice_get-get_or views s t.shares (omega (arith, slice_get_within ts s t was, lengths ts us views are))
+a_view ts us views s t was are = slice_get-get_or views s t.shares (subst (λ (n : ℕ). s < n) (sym (lengths ts us views are)) (slice_get_within ts s t was))
 
 module _ (old new : GridState) (views : List Shares) (s : ℕ) (t u : StoreState) (was : slice_get old.stores s ≡ Some t) (is : slice_get new.stores s ≡ Some u) (are : AreViews old.stores new.stores views) where
   abbrev there : Shares

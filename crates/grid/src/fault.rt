@@ -6,34 +6,45 @@ ghost use Rattle.grid.specs.declared.fault.GridFault.TheVariants.{NoMemory, Writ
 use octets::WriteFault;
 use share_store::StoreFault;
 use std::alloc::{AllocError, AllocFailed};
-use thiserror::Error;
+use std::error::Error;
+use std::fmt;
 
 /// Why a call of a grid was refused. A server is given by its place among the stores, from 0.
-#[derive(Clone, Copy, Debug, PartialEq, Eq, Error)]
+#[derive(Clone, Copy, Debug, PartialEq, Eq)]
 pub enum GridFault {
     /// A share is longer than the room of this server's store, and none stands in its place.
-    #[error("the store of server {0} is full")]
     Full(usize),
     /// This server's store failed in the call.
-    #[error("the store of server {0} is down")]
     Down(usize),
     /// There is no such server.
-    #[error("there is no such server")]
     NoServer,
     /// The image has its first fault at this place, counted in bytes from 0; or an image can't hold what stands, and
     /// the field at this place is the first whose range is passed.
-    #[error("the image has a fault at byte {0}")]
     BadImage(u64),
     /// The reader failed, or was asked too often.
-    #[error("the image could not be read")]
     ReadFailed,
     /// The writer failed, took no byte, or was asked too often.
-    #[error("the image could not be written")]
     WriteFailed,
     /// There was no memory for the call.
-    #[error("out of memory")]
     NoMemory,
 }
+
+impl fmt::Display for GridFault {
+    fn fmt<W: fmt::Write>(&self, f: &mut fmt::Formatter<W>) -> fmt::Result {
+        let words = match self {
+            GridFault::Full(server) => return write!(f, "the store of server {server} is full"),
+            GridFault::Down(server) => return write!(f, "the store of server {server} is down"),
+            GridFault::NoServer => "there is no such server",
+            GridFault::BadImage(place) => return write!(f, "the image has a fault at byte {place}"),
+            GridFault::ReadFailed => "the image could not be read",
+            GridFault::WriteFailed => "the image could not be written",
+            GridFault::NoMemory => "out of memory",
+        };
+        f.write_str(words)
+    }
+}
+
+impl Error for GridFault {}
 
 impl From<WriteFault> for GridFault {
     ghost from_gives = { λ _ e. e ≡ WriteFailed };

@@ -2,7 +2,7 @@
 use Rattle.std.proofs.Common.{◌≡◌, ℕ, List, [], ◌∷◌, length, drop, Option, Some, None, sym, ap, ◌∙◌, arith}
 use Rattle.std.specs.Prelude.{Result, Ok, Err, IfOk, IfNone, MatchOption}
 use Rattle.std.proofs.lemmas.List.{drop_all}
-use Rattle.http_edge.specs.FirstHead.{HasHeadFirst, HasNoHeadFirst}
+use Rattle.http_edge.specs.FirstHead.{HasNoHeadFirst}
 use Rattle.http_edge.specs.FramingState.{frame_read}
 use Rattle.http_edge.specs.Places.{read, resume}
 use Rattle.http_edge.specs.declared.item.Item.{Item}

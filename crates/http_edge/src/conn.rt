@@ -1,5 +1,5 @@
 //! A connection's bytes, as they come in pieces.
-ghost use Rattle.std.specs.Prelude.{◌≡◌, ◌≢◌, ◌<◌, ◌≤◌, ◌⊎◌, ℕ, List, not, [], ◌++◌, length, Ok, None, IfOk, IfSome, IfNone, IsFalse, MatchOption, OnOk, OnErr, IsOk};
+ghost use Rattle.std.specs.Prelude.{◌≡◌, ◌≢◌, ◌<◌, ◌≤◌, ◌⊎◌, ℕ, List, not, [], ◌++◌, length, Ok, None, IfOk, IfSome, IfNone, IsTrue, IsFalse, MatchOption, OnOk, OnErr, IsOk};
 ghost use Rattle.std.specs.List.{list_any};
 ghost use Rattle.http_edge.specs.Judge.{closes};
 ghost use Rattle.http_edge.specs.Frame.{frame};
@@ -7,6 +7,7 @@ ghost use Rattle.http_edge.specs.Kept.{kept_bytes, bytes_of_body};
 ghost use Rattle.http_edge.specs.FirstHead.{HasHeadFirst, HasNoHeadFirst};
 ghost use Rattle.http_edge.specs.BodyEnd.{IsBodyEnd};
 ghost use Rattle.http_edge.specs.FramingState.{part_of, body_of, chunks_of, closed, is_closed, rest, frame_from, rest_from};
+ghost use Rattle.http_edge.specs.Places.{IsFramingPlace};
 ghost use Rattle.http_edge.specs.State.{IsSettled, IsWaiting, Takes, item_list, left_of};
 ghost use Rattle.http_edge.specs.declared.place.Place.{Place};
 ghost use Rattle.http_edge.specs.declared.verdict.Awaited.{Awaited};
@@ -15,7 +16,7 @@ ghost use Rattle.http_edge.specs.declared.verdict.Chunked.{Chunked};
 use crate::chunks::read_chunks;
 use crate::item::{Head, Item};
 use crate::line::split_line;
-use crate::place::Step;
+use crate::place::{Place, Step};
 use crate::state::{State, after_body, after_chunks, after_line};
 use crate::verdict::{Awaited, Chunked};
 use std::alloc::{AllocError, Global};
@@ -261,31 +262,85 @@ impl Conn {
         ensures { IfOk result (λ step.
             Takes self.old bytes.now (item_list step.0) self.new step.1.now) }
     {
-        match mem::replace(&mut self.state, State::Closed) {
-            State::Head(part) => {
-                let (line, more) = split_line(bytes);
-                let (state, item) = after_line(self.alloc, part, line)?;
-                self.state = state;
-                Ok((item, more))
-            }
-            State::Body(awaited, body) => {
-                let missing = awaited.length - body.len();
-                let (next, more) = bytes.split_at(missing.min(bytes.len()));
-                let (state, item) = after_body(self.alloc, awaited, body, next)?;
-                self.state = state;
-                Ok((item, more))
-            }
-            State::Chunks(awaited, content, place) => {
-                let (state, item, taken) = after_chunks(
-                    self.alloc, awaited, content, place, bytes,
-                )?;
-                self.state = state;
-                let (_, more) = bytes.split_at(taken);
-                Ok((item, more))
-            }
-            State::Closed => Ok((None, &[])),
-        }
+        let state = mem::replace(&mut self.state, State::Closed);
+        let (state, item, more) = after_bytes(self.alloc, state, bytes)?;
+        self.state = state;
+        Ok((item, more))
     }
+}
+
+/// The state after the bytes up to the end of the next line or of the body, the item that they complete, and the bytes
+/// after them. Each arm hands on what it owns: so no arm spells out how the others' parts are let go of.
+fn after_bytes<'a>(
+    alloc: Global,
+    state: State,
+    bytes: &'a [u8],
+) -> Result<(State, Option<Item>, &'a [u8]), AllocError>
+    requires waits { IsWaiting (left_of state) }
+    requires some { 0 < length bytes.now }
+    ensures takes { IfOk result (λ step. Takes (left_of state) bytes.now (item_list step.1) (left_of step.0) step.2.now) }
+    ensures waits { IfOk result (λ step. IsWaiting (left_of step.0)) }
+{
+    match state {
+        State::Head(part) => after_head_bytes(alloc, part, bytes),
+        State::Body(awaited, body) => after_body_bytes(alloc, awaited, body, bytes),
+        State::Chunks(awaited, content, place) => {
+            after_chunk_bytes(alloc, awaited, content, place, bytes)
+        }
+        State::Closed => Ok((State::Closed, None, &[])),
+    }
+}
+
+/// What [`after_bytes`] gives where a head block is under way.
+fn after_head_bytes<'a>(
+    alloc: Global,
+    part: Vec<u8>,
+    bytes: &'a [u8],
+) -> Result<(State, Option<Item>, &'a [u8]), AllocError>
+    requires waits { IsWaiting (part_of part.items) }
+    requires some { 0 < length bytes.now }
+    ensures takes { IfOk result (λ step. Takes (part_of part.items) bytes.now (item_list step.1) (left_of step.0) step.2.now) }
+    ensures waits { IfOk result (λ step. IsWaiting (left_of step.0)) }
+{
+    let (line, more) = split_line(bytes);
+    let (state, item) = after_line(alloc, part, line)?;
+    Ok((state, item, more))
+}
+
+/// What [`after_bytes`] gives where a body is under way whose length is known.
+fn after_body_bytes<'a>(
+    alloc: Global,
+    awaited: Awaited,
+    body: Vec<u8>,
+    bytes: &'a [u8],
+) -> Result<(State, Option<Item>, &'a [u8]), AllocError>
+    requires waits { IsWaiting (body_of awaited body.items) }
+    requires some { 0 < length bytes.now }
+    ensures takes { IfOk result (λ step. Takes (body_of awaited body.items) bytes.now (item_list step.1) (left_of step.0) step.2.now) }
+    ensures waits { IfOk result (λ step. IsWaiting (left_of step.0)) }
+{
+    let missing = awaited.length - body.len();
+    let (next, more) = bytes.split_at(missing.min(bytes.len()));
+    let (state, item) = after_body(alloc, awaited, body, next)?;
+    Ok((state, item, more))
+}
+
+/// What [`after_bytes`] gives where a body in chunks is under way.
+fn after_chunk_bytes<'a>(
+    alloc: Global,
+    awaited: Chunked,
+    content: Vec<u8>,
+    place: Place,
+    bytes: &'a [u8],
+) -> Result<(State, Option<Item>, &'a [u8]), AllocError>
+    requires waits { IsWaiting (chunks_of awaited content.items place) }
+    requires some { 0 < length bytes.now }
+    ensures takes { IfOk result (λ step. Takes (chunks_of awaited content.items place) bytes.now (item_list step.1) (left_of step.0) step.2.now) }
+    ensures waits { IfOk result (λ step. IsWaiting (left_of step.0)) }
+{
+    let (state, item, taken) = after_chunks(alloc, awaited, content, place, bytes)?;
+    let (_, more) = bytes.split_at(taken);
+    Ok((state, item, more))
 }
 
 /// The head of the request whose body the bytes end, if one is under way and they do.
@@ -297,22 +352,68 @@ fn ended_head(alloc: Global, state: State, bytes: &[u8]) -> Result<Option<Head>,
         (λ head. HasHeadFirst (frame_from (left_of state) bytes.now) head)) }
 {
     match state {
-        State::Body(awaited, body) => {
-            if awaited.length - body.len() > bytes.len() {
-                return Ok(None);
-            }
-            Ok(Some(awaited.head))
-        }
+        State::Body(awaited, body) => head_of_body(awaited, body, bytes),
         State::Chunks(request, content, place) => {
-            let mut added = Vec::with_capacity(alloc, bytes.len())?;
-            let (step, _) = read_chunks(content.len(), &mut added, place, bytes)?;
-            match step {
-                Step::Ended => Ok(Some(request.head)),
-                Step::Next(_) => Ok(None),
-                Step::Broken(_) => Ok(None),
-            }
+            head_of_chunks(alloc, request, content, place, bytes)
         }
         State::Head(_) => Ok(None),
         State::Closed => Ok(None),
+    }
+}
+
+/// What [`ended_head`] gives where a body is under way whose length is known.
+fn head_of_body(awaited: Awaited, body: Vec<u8>, bytes: &[u8]) -> Result<Option<Head>, AllocError>
+    requires waits { length body.items < awaited.length }
+    ensures { IfOk result (λ found. MatchOption found
+        (HasNoHeadFirst (frame_from (body_of awaited body.items) bytes.now))
+        (λ head. HasHeadFirst (frame_from (body_of awaited body.items) bytes.now) head)) }
+{
+    if awaited.length - body.len() > bytes.len() {
+        return Ok(None);
+    }
+    Ok(Some(awaited.head))
+}
+
+/// What [`ended_head`] gives where a body in chunks is under way.
+fn head_of_chunks(
+    alloc: Global,
+    request: Chunked,
+    content: Vec<u8>,
+    place: Place,
+    bytes: &[u8],
+) -> Result<Option<Head>, AllocError>
+    requires place { IsFramingPlace (length content.items) place }
+    ensures { IfOk result (λ found. MatchOption found
+        (HasNoHeadFirst (frame_from (chunks_of request content.items place) bytes.now))
+        (λ head. HasHeadFirst (frame_from (chunks_of request content.items place) bytes.now) head)) }
+{
+    if is_last(alloc, &request, &content, place, bytes)? {
+        Ok(Some(request.head))
+    } else {
+        Ok(None)
+    }
+}
+
+/// Whether the bytes end the chunked body of that request, which the contract alone names.
+fn is_last(
+    alloc: Global,
+    request: &Chunked,
+    content: &[u8],
+    place: Place,
+    bytes: &[u8],
+) -> Result<bool, AllocError>
+    requires place { IsFramingPlace (length content.now) place }
+    ensures last { IfOk result (λ last. IsTrue last
+        → HasHeadFirst (frame_from (chunks_of request.now content.now place) bytes.now) request.now.head) }
+    ensures not { IfOk result (λ last. IsFalse last
+        → HasNoHeadFirst (frame_from (chunks_of request.now content.now place) bytes.now)) }
+{
+    let _ = request;
+    let mut added = Vec::with_capacity(alloc, bytes.len())?;
+    let (step, _) = read_chunks(content.len(), &mut added, place, bytes)?;
+    match step {
+        Step::Ended => Ok(true),
+        Step::Next(_) => Ok(false),
+        Step::Broken(_) => Ok(false),
     }
 }

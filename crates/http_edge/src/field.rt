@@ -6,14 +6,14 @@ use std::alloc::{AllocError, Global};
 use std::marker::Model;
 
 /// A field: its name, and its value without the spaces and tabs around it (RFC 9110, section 5).
-#[derive(Debug, Drop)]
+#[derive(Drop)]
 pub struct Field {
     pub name: Bytes,
     pub value: Bytes,
 }
 
 /// Fields in their order, which contracts see as a list.
-#[derive(Debug, Drop)]
+#[derive(Drop)]
 pub struct Fields {
     fields: Vec<Field>,
 }

@@ -4,10 +4,10 @@ ghost use Rattle.http_edge.specs.Judge.{fault_number, closes, is_head_request};
 
 use crate::field::Fields;
 use octets::Bytes;
-use thiserror::Error;
+use std::fmt;
 
 /// The head of a request (RFC 9112, section 2.1): its method, its target as it was written, and its fields in order.
-#[derive(Debug, Drop)]
+#[derive(Drop)]
 pub struct Head {
     pub method: Bytes,
     pub target: Bytes,
@@ -15,31 +15,38 @@ pub struct Head {
 }
 
 /// Why a connection's bytes are no request. Each fault ends its connection.
-#[derive(Clone, Copy, Debug, PartialEq, Eq, Error)]
+#[derive(Clone, Copy, PartialEq, Eq)]
 pub enum FramingFault {
     /// No request head with at most 64 fields, or 16,384 bytes without the end of one.
-    #[error("bad request head")]
     BadHead = 19,
     /// HTTP/1.1 without exactly one Host field, or HTTP/1.0 with more than one (RFC 9112, section 3.2).
-    #[error("bad Host field")]
     BadHost = 20,
     /// More than one Transfer-Encoding field, or another coding than `chunked` (RFC 9112, section 6.1).
-    #[error("transfer coding not supported")]
     TransferCoding = 21,
     /// More than one Content-Length field, one that isn't a decimal number, or one beside `chunked`; `chunked` in an
     /// HTTP/1.0 request (RFC 9112, sections 6.1 and 6.3).
-    #[error("bad Content-Length field")]
     BadLength = 22,
     /// A body of more than 16,777,216 bytes.
-    #[error("body too long")]
     TooLong = 23,
     /// Bytes that begin no chunked body (RFC 9112, section 7.1).
-    #[error("bad chunk")]
     BadChunk = 25,
 }
 
+impl fmt::Display for FramingFault {
+    fn fmt<W: fmt::Write>(&self, f: &mut fmt::Formatter<W>) -> fmt::Result {
+        f.write_str(match self {
+            FramingFault::BadHead => "bad request head",
+            FramingFault::BadHost => "bad Host field",
+            FramingFault::TransferCoding => "transfer coding not supported",
+            FramingFault::BadLength => "bad Content-Length field",
+            FramingFault::TooLong => "body too long",
+            FramingFault::BadChunk => "bad chunk",
+        })
+    }
+}
+
 /// A request, an interim answer that is asked for, or the fault that ends a connection.
-#[derive(Debug, Drop)]
+#[derive(Drop)]
 pub enum Item {
     /// A request with its body. `close` says that its connection closes after the answer.
     Request {

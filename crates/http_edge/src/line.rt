@@ -8,7 +8,7 @@ use memchr::memchr;
 pub const MOST_HEAD_BYTES: usize = 16384;
 
 /// How a head block ends.
-#[derive(Clone, Copy, Debug, PartialEq, Eq)]
+#[derive(Clone, Copy, PartialEq, Eq)]
 pub enum BlockEnd {
     /// With an empty line after a line.
     EmptyLine,

@@ -8,14 +8,14 @@ use std::marker::Model;
 
 /// A field of a reply, whose name is constant. It is neither Content-Length nor Connection, which `render` writes, and
 /// holds no CR and no LF.
-#[derive(Debug, Drop)]
+#[derive(Drop)]
 pub struct ReplyField {
     name: &'static [u8],
     value: FieldValue,
 }
 
 /// A value that is constant, or was made for its reply.
-#[derive(Debug, Drop)]
+#[derive(Drop)]
 pub enum FieldValue {
     Constant(&'static [u8]),
     Made(Bytes),
@@ -34,7 +34,7 @@ impl Model for ReplyField {
 }
 
 /// The fields of a reply in their order, which contracts see as a list.
-#[derive(Debug, Drop)]
+#[derive(Drop)]
 pub struct ReplyFields {
     fields: Vec<ReplyField>,
 }

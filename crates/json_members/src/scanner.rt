@@ -22,7 +22,7 @@ fn depth_after(depth: u64, byte: u8) -> u64
 
 /// Goes over a text in parts and finds the commas between members of its outermost object. Contracts see it as the mode in
 /// which the lexer stands behind the bytes that it went over, and the count of brackets that are open there.
-#[derive(Clone, Copy, Debug, Drop)]
+#[derive(Clone, Copy, Drop)]
 pub struct MemberScanner {
     /// Where the text goes on.
     scanner: Scanner,

@@ -9,7 +9,7 @@ ghost use Rattle.json_seams.specs.Standings.{mode_of};
 use std::marker::Model;
 
 /// Where in a text the lexer stands.
-#[derive(Clone, Copy, Debug, Drop)]
+#[derive(Clone, Copy, Drop)]
 enum Standing {
     /// Before a token.
     Between,
@@ -33,7 +33,7 @@ fn ends_word(byte: u8) -> bool
 
 /// Goes over a text in parts and finds the commas outside strings. Contracts see it as the mode in which the lexer stands
 /// behind the bytes that it went over.
-#[derive(Clone, Copy, Debug, Drop)]
+#[derive(Clone, Copy, Drop)]
 pub struct Scanner {
     /// Where the text goes on.
     standing: Standing,

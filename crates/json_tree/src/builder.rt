@@ -19,7 +19,6 @@ use std::alloc::Global;
 use std::collections::BTreeMap;
 
 /// A JSON value, as far as its tokens came.
-#[derive(Debug)]
 pub struct TreeBuilder {
     /// What is open, the innermost last.
     opened: Vec<Opened>,
@@ -41,7 +40,7 @@ impl Drop for TreeBuilder {
 }
 
 /// An array or object that is open.
-#[derive(Debug, Drop)]
+#[derive(Drop)]
 pub(crate) enum Opened {
     /// An array with its items so far.
     Array(Vec<Value>),

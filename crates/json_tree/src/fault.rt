@@ -1,17 +1,24 @@
 //! Why a token was not taken.
 
 use std::alloc::{AllocError, AllocFailed};
-use thiserror::Error;
+use std::fmt;
 
 /// Why a token was not taken.
-#[derive(Clone, Copy, Debug, PartialEq, Eq, Error)]
+#[derive(Clone, Copy, Debug, PartialEq, Eq)]
 pub enum TreeFault {
     /// No JSON goes on so, or a number is beyond the finite floats.
-    #[error("no JSON goes on so")]
     NotJson,
     /// Memory was refused.
-    #[error("memory was refused")]
     NoMemory,
+}
+
+impl fmt::Display for TreeFault {
+    fn fmt<W: fmt::Write>(&self, f: &mut fmt::Formatter<W>) -> fmt::Result {
+        f.write_str(match self {
+            TreeFault::NotJson => "no JSON goes on so",
+            TreeFault::NoMemory => "memory was refused",
+        })
+    }
 }
 
 impl From<AllocError> for TreeFault {

@@ -33,6 +33,3 @@ pub use builder::TreeBuilder;
 pub use fault::TreeFault;
 pub use remains::Remains;
 pub use writer::{TextWriter, Writing, Written};
-
-#[cfg(test)]
-mod tests;

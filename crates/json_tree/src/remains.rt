@@ -15,7 +15,6 @@ use std::collections::BTreeMap;
 const STEP_PARTS: usize = 1_024;
 
 /// What is left of a value that is let go of, or of a builder that is given up.
-#[derive(Debug)]
 pub struct Remains {
     /// The arrays and objects of which some is left.
     opened: Vec<Opened>,

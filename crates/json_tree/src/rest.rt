@@ -9,7 +9,7 @@ use std::alloc::{AllocError, Global};
 use std::collections::{BTreeMap, VecDeque};
 
 /// What is left to be written of an array or object that is open.
-#[derive(Debug, Drop)]
+#[derive(Drop)]
 pub(crate) enum Rest {
     /// The items that are left, and whether some stand before them.
     Items(VecDeque<Value>, bool),

@@ -19,7 +19,7 @@ const STEP_PARTS: usize = 1_024;
 const STEP_BYTES: usize = 65_536;
 
 /// The compact text of a value as far as it is written, and the rest of the value.
-#[derive(Debug, Drop)]
+#[derive(Drop)]
 pub struct TextWriter {
     /// What is written.
     out: Vec<u8>,
@@ -34,7 +34,7 @@ pub struct TextWriter {
 }
 
 /// The compact text of a value.
-#[derive(Debug, Drop)]
+#[derive(Drop)]
 pub struct Written {
     /// `serde_json`'s compact text, in which a number that is not whole leaves nothing.
     pub text: Vec<u8>,
@@ -45,7 +45,7 @@ pub struct Written {
 }
 
 /// How a writer goes on.
-#[derive(Debug, Drop)]
+#[derive(Drop)]
 pub enum Writing {
     /// It has more to write.
     Going(TextWriter),

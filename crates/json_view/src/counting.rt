@@ -33,7 +33,6 @@ const LONG_BYTES: usize = 65_536;
 /// A directory's text whose children are counted a part at a time: how many bytes their JSON has. It holds the text, a copy
 /// of the name of the last entry that was read, and for the listing the spellings of long metadata, those of more than
 /// 65,536 bytes, which are spelled a part at a time too. Contracts see it as the text.
-#[derive(Debug)]
 pub struct Counting {
     /// The text.
     text: RcSlice<u8>,
@@ -78,7 +77,7 @@ impl Model for Counting {
 
 /// A directory's text that was read whole, and how many bytes the JSON of its children has, or the fault that was met in
 /// it. It holds the spellings of long metadata too, where they were spelled in steps. Contracts see it as the text.
-#[derive(Debug, Drop)]
+#[derive(Drop)]
 pub struct Counted {
     /// The text.
     pub(crate) text: RcSlice<u8>,
@@ -101,7 +100,7 @@ impl Model for Counted {
 }
 
 /// How far a count is.
-#[derive(Debug, Drop)]
+#[derive(Drop)]
 pub enum Count {
     /// More of the text is to be read.
     Going(Counting),

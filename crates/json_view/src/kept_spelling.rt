@@ -8,7 +8,7 @@ use std::alloc::{AllocError, Global};
 use std::collections::VecDeque;
 
 /// The spelling of the metadata of an entry of a directory's text, with the entry's place.
-#[derive(Debug, Drop)]
+#[derive(Drop)]
 pub(crate) struct KeptSpelling {
     /// How many bytes of the text are left where the entry begins: the same in what remains of a text whose begin was let
     /// go of.

@@ -31,7 +31,7 @@ const LET_GO: usize = 65_536;
 /// 65,536 bytes, and as many as the rest, which is copied for that. So between two calls fewer bytes of the text are held
 /// than twice the rest, or than 65,536 more than it. Where memory for the copy is refused the text is held as it is, until a
 /// later call can copy the rest. Contracts see a listing as the bytes that are left.
-#[derive(Debug, Drop)]
+#[derive(Drop)]
 pub struct Listing {
     /// What is held of the text.
     text: RcSlice<u8>,

@@ -47,7 +47,7 @@ impl Read for SlowReader<'_> {
 }
 
 /// What a writer does once its room is full.
-#[derive(Clone, Copy, PartialEq, Debug)]
+#[derive(Clone, Copy, PartialEq)]
 pub enum AtTheEnd {
     /// It fails with `StorageFull`.
     Fails,

@@ -4,20 +4,36 @@ ghost use Rattle.option_file.specs.declared.fault.OptionFault.TheVariants.{NoMem
 
 use octets::Text;
 use std::alloc::{AllocError, AllocFailed};
-use thiserror::Error;
+use std::fmt;
 
 /// Why a text gives no words.
-#[derive(Debug, Drop, Error)]
+#[derive(Drop)]
 pub enum OptionFault {
     /// It is no TOML: the line, from 1, at which it isn't, and what is wrong there.
-    #[error("line {}: {}", .0, .1.message())]
     NotToml(usize, toml::de::Error),
     /// The value of this key is none that an option has.
-    #[error("{}: a text, a whole number, true, false, or an array of texts and whole numbers is wanted", .0.as_str())]
     OtherKind(Text),
     /// Memory was refused.
-    #[error("out of memory")]
     NoMemory,
+}
+
+impl fmt::Display for OptionFault {
+    fn fmt<W: fmt::Write>(&self, f: &mut fmt::Formatter<W>) -> fmt::Result {
+        let words = match self {
+            OptionFault::NotToml(line, error) => return write!(
+                f,
+                "line {line}: {}",
+                error.message()
+            ),
+            OptionFault::OtherKind(key) => return write!(
+                f,
+                "{}: a text, a whole number, true, false, or an array of texts and whole numbers is wanted",
+                key.as_str()
+            ),
+            OptionFault::NoMemory => "out of memory",
+        };
+        f.write_str(words)
+    }
 }
 
 impl From<AllocError> for OptionFault {

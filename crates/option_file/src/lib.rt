@@ -5,8 +5,6 @@
 
 /// Why a text gives no words.
 mod fault;
-#[cfg(test)]
-mod tests;
 /// The words of a text's options.
 mod words;
 

@@ -3,26 +3,33 @@ ghost use Rattle.std.specs.Prelude.{◌≡◌};
 ghost use Rattle.path_names.specs.declared.fault.PathFault.TheVariants.{NoMemory};
 
 use std::alloc::{AllocError, AllocFailed};
-use thiserror::Error;
+use std::fmt;
 
 /// Why a path was refused. Of several causes the first in this order is given.
-#[derive(Clone, Copy, Debug, PartialEq, Eq, Error)]
+#[derive(Clone, Copy, PartialEq, Eq)]
 pub enum PathFault {
     /// A `%` without two hexadecimal digits behind it.
-    #[error("bad escape")]
     BadEscape,
     /// A segment whose bytes are no UTF-8.
-    #[error("not utf-8")]
     NotUtf8,
     /// More than 64 names.
-    #[error("too many names")]
     TooMany,
     /// A name without a character.
-    #[error("empty name")]
     EmptyName,
     /// Memory was refused.
-    #[error("out of memory")]
     NoMemory,
+}
+
+impl fmt::Display for PathFault {
+    fn fmt<W: fmt::Write>(&self, f: &mut fmt::Formatter<W>) -> fmt::Result {
+        f.write_str(match self {
+            PathFault::BadEscape => "bad escape",
+            PathFault::NotUtf8 => "not utf-8",
+            PathFault::TooMany => "too many names",
+            PathFault::EmptyName => "empty name",
+            PathFault::NoMemory => "out of memory",
+        })
+    }
 }
 
 impl From<AllocError> for PathFault {

@@ -5,7 +5,7 @@ use octets::Text;
 use std::marker::Model;
 
 /// Names, each below the one before it, which contracts see as a list.
-#[derive(Debug, Drop)]
+#[derive(Drop)]
 pub struct Names {
     names: Vec<Text>,
 }

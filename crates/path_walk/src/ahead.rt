@@ -21,7 +21,7 @@ const MOST_AT_ONCE: u64 = 65_536;
 const MOST_IN_A_CAP: usize = 16_384;
 
 /// How far a walk is prepared.
-#[derive(Debug, Drop)]
+#[derive(Drop)]
 pub enum Ahead {
     /// Steps are left.
     Waits,
@@ -32,7 +32,7 @@ pub enum Ahead {
 }
 
 /// What is known of a child.
-#[derive(Debug, Drop)]
+#[derive(Drop)]
 enum Next {
     /// It is this one, for which directories of so many bytes were looked through now.
     At(Cap, u64),

@@ -4,23 +4,30 @@ ghost use Rattle.std.specs.Prelude.{◌≡◌};
 use chk_file::ReadFault;
 use octets::Text;
 use std::alloc::AllocError;
-use thiserror::Error;
+use std::fmt;
 
 /// Why a walk stopped.
-#[derive(Debug, Drop, Error)]
+#[derive(Drop)]
 pub enum WalkFault {
     /// The directory has no child of this name.
-    #[error("no such child")]
     NoChild(Text),
     /// What was to be walked through is a file, or a verify cap, or its bytes are no directory text.
-    #[error("not a directory")]
     NotDirectory,
     /// The bytes of a directory on the way can't be read.
-    #[error("not enough shares")]
     NotEnoughShares,
     /// Memory was refused.
-    #[error("out of memory")]
     NoMemory,
+}
+
+impl fmt::Display for WalkFault {
+    fn fmt<W: fmt::Write>(&self, f: &mut fmt::Formatter<W>) -> fmt::Result {
+        f.write_str(match self {
+            WalkFault::NoChild(_) => "no such child",
+            WalkFault::NotDirectory => "not a directory",
+            WalkFault::NotEnoughShares => "not enough shares",
+            WalkFault::NoMemory => "out of memory",
+        })
+    }
 }
 
 impl From<AllocError> for WalkFault {

@@ -9,7 +9,7 @@ use octets::is_all_digits;
 use std::marker::Model;
 
 /// A number, where all that fit no u64 count as one that is greater than those that do.
-#[derive(Debug, Drop)]
+#[derive(Drop)]
 pub struct Number {
     fits: Option<u64>,
 }

@@ -8,7 +8,7 @@ use crate::value::{cut_at_dash, set_of};
 use octets::without_blanks;
 
 /// What a Range field's value comes to for a file.
-#[derive(Clone, Copy, Debug, PartialEq, Eq)]
+#[derive(Clone, Copy, PartialEq, Eq)]
 pub enum Resolved {
     /// The value is ignored: the whole file is served.
     Whole,

@@ -49,7 +49,7 @@ pub(crate) struct Greeting {
 }
 
 /// How long a server is left alone.
-#[derive(Clone, Copy, Debug, PartialEq, Eq)]
+#[derive(Clone, Copy, PartialEq, Eq)]
 pub(crate) struct Rest {
     /// For so many seconds, the next time.
     pub(crate) seconds: u64,

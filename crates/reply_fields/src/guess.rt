@@ -6,7 +6,7 @@ use octets::Text;
 use web_request::is_same;
 
 /// What a file may be shown as. In none of these kinds anything runs.
-#[derive(Clone, Copy, Debug, PartialEq, Eq)]
+#[derive(Clone, Copy, PartialEq, Eq)]
 pub enum Guess {
     /// `text/plain; charset=utf-8`.
     PlainText,

@@ -29,7 +29,7 @@ const ESCAPED: AsciiSet = ascii_set!(
 );
 
 /// What a request names the file that it reads, and whether it is to be saved and not shown.
-#[derive(Debug, Drop)]
+#[derive(Drop)]
 pub struct Naming {
     /// The name, which isn't empty.
     pub name: Option<Text>,

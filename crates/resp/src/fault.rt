@@ -3,7 +3,7 @@ ghost use Rattle.std.specs.Prelude.{◌≡◌};
 ghost use Rattle.resp.specs.declared.fault.ReadStop.TheVariants.{NoMemory};
 
 use std::alloc::{AllocError, AllocFailed};
-use thiserror::Error;
+use std::fmt;
 
 /// What is wrong with a byte.
 #[derive(Clone, Copy, Debug, PartialEq, Eq)]
@@ -15,18 +15,29 @@ pub enum Wrong {
 }
 
 /// Why no reply was read.
-#[derive(Clone, Copy, Debug, PartialEq, Eq, Error)]
+#[derive(Clone, Copy, PartialEq, Eq)]
 pub enum RespFault {
     /// The bytes before that place begin a reply, and with the one that stands there they begin none.
-    #[error("byte {1} fits no reply: {0:?}")]
     Wrong(Wrong, usize),
     /// There was no memory for what came.
-    #[error("out of memory")]
     NoMemory,
 }
 
+impl fmt::Display for RespFault {
+    fn fmt<W: fmt::Write>(&self, f: &mut fmt::Formatter<W>) -> fmt::Result {
+        let words = match self {
+            RespFault::Wrong(wrong, place) => return write!(
+                f,
+                "byte {place} fits no reply: {wrong:?}"
+            ),
+            RespFault::NoMemory => "out of memory",
+        };
+        f.write_str(words)
+    }
+}
+
 /// Why reading stopped.
-#[derive(Clone, Copy, Debug, PartialEq, Eq)]
+#[derive(Clone, Copy, PartialEq, Eq)]
 pub(crate) enum ReadStop {
     /// The bytes end before what is read does.
     More,

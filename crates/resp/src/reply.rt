@@ -5,7 +5,7 @@ use octets::Bytes;
 use std::marker::Model;
 
 /// What is no array.
-#[derive(Debug, Drop)]
+#[derive(Drop)]
 pub enum Item {
     /// A simple string.
     Text(Bytes),
@@ -20,7 +20,7 @@ pub enum Item {
 }
 
 /// An element of an array that is a reply.
-#[derive(Debug, Drop)]
+#[derive(Drop)]
 pub enum Element {
     /// What is no array.
     One(Item),
@@ -29,7 +29,7 @@ pub enum Element {
 }
 
 /// A reply.
-#[derive(Debug, Drop)]
+#[derive(Drop)]
 pub enum Reply {
     /// What is no array.
     One(Item),
@@ -38,7 +38,7 @@ pub enum Reply {
 }
 
 /// Items, which contracts see as a list.
-#[derive(Debug, Drop)]
+#[derive(Drop)]
 pub struct Items {
     all: Vec<Item>,
 }
@@ -77,7 +77,7 @@ impl Items {
 }
 
 /// Elements, which contracts see as a list.
-#[derive(Debug, Drop)]
+#[derive(Drop)]
 pub struct Elements {
     all: Vec<Element>,
 }

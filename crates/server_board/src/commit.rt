@@ -11,7 +11,7 @@ use std::marker::Model;
 use std::str;
 
 /// The name of a commit: 7 to 64 hexadecimal digits.
-#[derive(Debug, Drop)]
+#[derive(Drop)]
 pub struct Commit {
     name: Text,
 }

@@ -1,11 +1,11 @@
 //! What is known of stores, connections and replies.
 use gate_core::{Gateway, Tally};
-use gate_poll::Counts;
+use gate_limits::Counts;
 use share_store::Store;
 use std::alloc::{AllocError, Global};
 
 /// What is known of a store.
-#[derive(Clone, Copy, Debug, PartialEq, Eq)]
+#[derive(Clone, Copy, PartialEq, Eq)]
 pub struct StoreFigures {
     /// How many bytes it would still take.
     pub room: u64,
@@ -32,7 +32,7 @@ pub fn store_figures<S: Store>(
 }
 
 /// A number and what it is called.
-#[derive(Clone, Copy, Debug, PartialEq, Eq)]
+#[derive(Clone, Copy, PartialEq, Eq)]
 pub struct Named {
     pub name: &'static str,
     pub value: u64,

@@ -4,11 +4,11 @@ use crate::commit::Commit;
 use crate::figures::{StoreFigures, reply_figures};
 use crate::request_times::put_request_times;
 use gate_core::Tally;
-use gate_poll::Counts;
+use gate_limits::Counts;
 use std::alloc::{AllocError, Global};
 
 /// Figures under one name.
-#[derive(Clone, Copy, Debug, PartialEq, Eq)]
+#[derive(Clone, Copy, PartialEq, Eq)]
 pub(crate) struct Family {
     /// The name, after the program's.
     pub name: &'static str,
@@ -18,7 +18,7 @@ pub(crate) struct Family {
 }
 
 /// What a figure does.
-#[derive(Clone, Copy, Debug, PartialEq, Eq)]
+#[derive(Clone, Copy, PartialEq, Eq)]
 pub(crate) enum Kind {
     /// It rises and falls.
     Gauge,
@@ -29,14 +29,14 @@ pub(crate) enum Kind {
 }
 
 /// A figure that is alone under its name.
-#[derive(Clone, Copy, Debug, PartialEq, Eq)]
+#[derive(Clone, Copy, PartialEq, Eq)]
 struct Figure {
     family: Family,
     value: u64,
 }
 
 /// Figures of all stores that have one name.
-#[derive(Clone, Copy, Debug, PartialEq, Eq)]
+#[derive(Clone, Copy, PartialEq, Eq)]
 enum OfStores {
     Room,
     Held,

@@ -1,6 +1,6 @@
 //! How long requests took, in the text format of Prometheus: a histogram of each kind of request.
 use crate::metrics::{Family, Kind, put_head, put_line};
-use gate_poll::{Histogram, Latencies};
+use gate_limits::{Histogram, Latencies};
 use std::alloc::{AllocError, Global};
 
 /// How many nanoseconds a second has.

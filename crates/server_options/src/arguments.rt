@@ -5,171 +5,163 @@ use std::alloc::{AllocError, Global};
 
 /// The program's command line.
 pub fn program<'a>(alloc: Global) -> Result<Command<'a>, AllocError> {
-    let command = Command::new(alloc, "wozhinnam")
+    Command::new(alloc, "wozhinnam")
         .version("0.1.0")
         .about(
             "A web gateway for capability-addressed storage, over stores in memory, in folders and on Redis servers.",
         )
-        .subcommand_required(true);
-    let command = with_verb(Ok(command), serving(alloc));
-    let command = with_verb(command, checking(alloc));
-    let command = with_verb(command, repairing(alloc));
-    let command = with_verb(command, reshaping(alloc));
-    let command = with_verb(command, imaging(alloc));
-    with_verb(command, restoring(alloc))
+        .subcommand_required(true)
+        .subcommands(verbs(alloc)?)
 }
 
-/// A command line with one argument more, where there is one. What has several arguments hands it on as it is: a `?` behind
-/// each would drop it there, and each such drop costs the prover seconds.
-fn with<'a>(
-    command: Result<Command<'a>, AllocError>,
-    argument: Arg<'a>,
-) -> Result<Command<'a>, AllocError> {
-    match command {
-        Ok(command) => command.arg(argument),
-        Err(error) => Err(error),
-    }
+/// What the program can be asked for.
+fn verbs<'a>(alloc: Global) -> Result<Vec<Command<'a>>, AllocError> {
+    let mut list = Vec::with_capacity(alloc, 6)?;
+    add_verb(&mut list, serving(alloc))?;
+    add_verb(&mut list, checking(alloc))?;
+    add_verb(&mut list, repairing(alloc))?;
+    add_verb(&mut list, reshaping(alloc))?;
+    add_verb(&mut list, imaging(alloc))?;
+    add_verb(&mut list, restoring(alloc))?;
+    Ok(list)
 }
 
-/// A command line with one verb more, where there are both.
-fn with_verb<'a>(
-    command: Result<Command<'a>, AllocError>,
+/// A verb more in a list, where there is one.
+fn add_verb<'a>(
+    list: &mut Vec<Command<'a>>,
     verb: Result<Command<'a>, AllocError>,
-) -> Result<Command<'a>, AllocError> {
-    match command {
-        Ok(command) => command.subcommand(verb?),
+) -> Result<(), AllocError> {
+    match verb {
+        Ok(verb) => match list.push(verb) {
+            Ok(()) => Ok(()),
+            Err(_) => Err(AllocError),
+        },
         Err(error) => Err(error),
     }
+}
+
+/// An argument more in a list. What has several arguments makes a list of them first: a command line that is handed on past
+/// a `?` is spelled out there whole, which costs the prover seconds each time.
+fn add<'a>(list: &mut Vec<Arg<'a>>, argument: Arg<'a>) -> Result<(), AllocError> {
+    list.push(argument)?;
+    Ok(())
 }
 
 /// The command line of `serve`.
 fn serving<'a>(alloc: Global) -> Result<Command<'a>, AllocError> {
-    let command = Ok(Command::new(alloc, "serve").about("Serves connections until it is stopped."));
-    let command = with(
-        command,
-        option(
-            alloc,
-            "config",
-            "FILE",
-            "a TOML file with more options, whose keys are their names without the dashes; one that is given here too counts as it is given here",
-        ),
+    Command::new(alloc, "serve")
+        .about("Serves connections until it is stopped.")
+        .args(served(alloc)?)
+}
+
+/// The arguments of `serve`.
+fn served<'a>(alloc: Global) -> Result<Vec<Arg<'a>>, AllocError> {
+    let mut list = Vec::with_capacity(alloc, 20)?;
+    add_places(alloc, &mut list)?;
+    add_stores(alloc, &mut list)?;
+    add_pages(alloc, &mut list)?;
+    add_limits(alloc, &mut list)?;
+    add_log(alloc, &mut list)?;
+    Ok(list)
+}
+
+/// Adds the file of options, and where connections and control requests are accepted.
+fn add_places<'a>(alloc: Global, list: &mut Vec<Arg<'a>>) -> Result<(), AllocError> {
+    let config = option(
+        alloc,
+        "config",
+        "FILE",
+        "a TOML file with more options, whose keys are their names without the dashes; one that is given here too counts as it is given here",
     );
-    let command = with(command, listen(alloc));
-    let command = with(
-        command,
-        option(
-            alloc,
-            "control",
-            "ADDR",
-            "where GET /status, GET /metrics and POST /stop are answered",
-        ),
+    add(list, config)?;
+    add(list, listen(alloc))?;
+    let control = option(
+        alloc,
+        "control",
+        "ADDR",
+        "where GET /status, GET /metrics and POST /stop are answered",
     );
-    let command = with(command, control_token_file(alloc));
-    let command = with(command, shares(alloc));
-    let command = with_stores(alloc, command);
-    let command = with_pages(alloc, command);
-    let command = with_limits(alloc, command);
-    with_log(alloc, command)
+    add(list, control)?;
+    add(list, control_token_file(alloc))?;
+    add(list, shares(alloc))
 }
 
 /// Adds the options of pages.
-fn with_pages<'a>(
-    alloc: Global,
-    command: Result<Command<'a>, AllocError>,
-) -> Result<Command<'a>, AllocError> {
-    let command = with(
-        command,
-        option(
-            alloc,
-            "pages",
-            "FOLDER",
-            "a folder whose files are pages beside the web API: index.html at /, each other one under its name; without it the folder pages beside the program, where there is one",
-        ),
+fn add_pages<'a>(alloc: Global, list: &mut Vec<Arg<'a>>) -> Result<(), AllocError> {
+    let pages = option(
+        alloc,
+        "pages",
+        "FOLDER",
+        "a folder whose files are pages beside the web API: index.html at /, each other one under its name; without it the folder pages beside the program, where there is one",
     );
-    with(command, no_pages(alloc)?)
+    add(list, pages)?;
+    add(list, no_pages(alloc)?)
 }
 
 /// Adds the options of stores.
-fn with_stores<'a>(
-    alloc: Global,
-    command: Result<Command<'a>, AllocError>,
-) -> Result<Command<'a>, AllocError> {
-    let command = with(command, store(alloc));
-    let command = with(command, servers(alloc)?);
-    let command = with(command, room(alloc));
-    let command = with(command, new_folders(alloc));
-    let command = with(command, missing_folders(alloc));
-    let command = with(command, no_sync(alloc));
-    let command = with(command, secret_file(alloc));
-    with(command, redis_password_file(alloc))
+fn add_stores<'a>(alloc: Global, list: &mut Vec<Arg<'a>>) -> Result<(), AllocError> {
+    add(list, store(alloc))?;
+    add(list, servers(alloc)?)?;
+    add(list, room(alloc))?;
+    add(list, new_folders(alloc))?;
+    add(list, missing_folders(alloc))?;
+    add(list, no_sync(alloc))?;
+    add(list, secret_file(alloc))?;
+    add(list, redis_password_file(alloc))
 }
 
 /// Adds the options of connections.
-fn with_limits<'a>(
-    alloc: Global,
-    command: Result<Command<'a>, AllocError>,
-) -> Result<Command<'a>, AllocError> {
-    let command = with(
-        command,
-        option(
-            alloc,
-            "connections",
-            "MAX",
-            "how many connections may be open at once",
-        )
-        .value_parser(ValueParser::unsigned(1, 1_000_000))
-        .default_value("900"),
+fn add_limits<'a>(alloc: Global, list: &mut Vec<Arg<'a>>) -> Result<(), AllocError> {
+    let connections = option(
+        alloc,
+        "connections",
+        "MAX",
+        "how many connections may be open at once",
     );
-    let command = with(
-        command,
-        option(
-            alloc,
-            "idle",
-            "SECONDS",
-            "for how long a connection may be silent",
-        )
-        .value_parser(ValueParser::unsigned(1, 86_400))
-        .default_value("60"),
+    add(
+        list,
+        connections
+            .value_parser(ValueParser::unsigned(1, 1_000_000))
+            .default_value("900"),
+    )?;
+    let idle = option(
+        alloc,
+        "idle",
+        "SECONDS",
+        "for how long a connection may be silent",
     );
-    with(
-        command,
-        option(
-            alloc,
-            "memory",
-            "BYTES",
-            "how many bytes are kept of requests and replies, as in --room, before those who send or ask for long ones have to wait",
-        )
-        .default_value("256M"),
-    )
+    add(
+        list,
+        idle.value_parser(ValueParser::unsigned(1, 86_400))
+            .default_value("60"),
+    )?;
+    let memory = option(
+        alloc,
+        "memory",
+        "BYTES",
+        "how many bytes are kept of requests and replies, as in --room, before those who send or ask for long ones have to wait",
+    );
+    add(list, memory.default_value("256M"))
 }
 
 /// Adds the options of the log.
-fn with_log<'a>(
-    alloc: Global,
-    command: Result<Command<'a>, AllocError>,
-) -> Result<Command<'a>, AllocError> {
-    let command = with(
-        command,
-        option(
-            alloc,
-            "log-level",
-            "LEVEL",
-            "which lines are written on standard error: those of this level and of graver ones",
-        )
-        .value_parser(ValueParser::Names(["error", "warn", "info", "debug"].as_slice()))
-        .default_value("info"),
+fn add_log<'a>(alloc: Global, list: &mut Vec<Arg<'a>>) -> Result<(), AllocError> {
+    let level = option(
+        alloc,
+        "log-level",
+        "LEVEL",
+        "which lines are written on standard error: those of this level and of graver ones",
     );
-    with(
-        command,
-        option(
-            alloc,
-            "log-format",
-            "FORMAT",
-            "how a line is written: as a text, or as an object of JSON, with the time",
-        )
-        .value_parser(ValueParser::Names(["text", "json"].as_slice()))
-        .default_value("text"),
-    )
+    let levels = ValueParser::Names(["error", "warn", "info", "debug"].as_slice());
+    add(list, level.value_parser(levels).default_value("info"))?;
+    let format = option(
+        alloc,
+        "log-format",
+        "FORMAT",
+        "how a line is written: as a text, or as an object of JSON, with the time",
+    );
+    let formats = ValueParser::Names(["text", "json"].as_slice());
+    add(list, format.value_parser(formats).default_value("text"))
 }
 
 /// The command line of `check`.
@@ -183,39 +175,55 @@ fn checking<'a>(alloc: Global) -> Result<Command<'a>, AllocError> {
 
 /// The command line of `repair`.
 fn repairing<'a>(alloc: Global) -> Result<Command<'a>, AllocError> {
-    let command = Command::new(alloc, "repair")
+    Command::new(alloc, "repair")
         .about(
             "Puts the shares of a grid that are missing or rotten back into the folders of its servers, which are given in their order, made of the other shares; status 0 only if each is there afterwards.",
         )
-        .arg(new_folders(alloc));
-    let command = with(command, no_sync(alloc));
-    let command = with(command, redis_password_file(alloc));
-    with(
-        command,
+        .args(repaired(alloc)?)
+}
+
+/// The arguments of `repair`.
+fn repaired<'a>(alloc: Global) -> Result<Vec<Arg<'a>>, AllocError> {
+    let mut list = Vec::with_capacity(alloc, 4)?;
+    add(&mut list, new_folders(alloc))?;
+    add(&mut list, no_sync(alloc))?;
+    add(&mut list, redis_password_file(alloc))?;
+    add(
+        &mut list,
         paths(alloc).help("a folder, or redis:HOST:PORT[/NAME]"),
-    )
+    )?;
+    Ok(list)
 }
 
 /// The command line of `reshape`.
 fn reshaping<'a>(alloc: Global) -> Result<Command<'a>, AllocError> {
-    let command = Command::new(alloc, "reshape")
+    Command::new(alloc, "reshape")
         .about(
             "Lays the shares of a grid in its folders, which are given in the order of its servers, into another number of new folders; status 0 only if each is there afterwards.",
         )
-        .arg(paths(alloc));
-    let command = with(
-        command,
-        option(
-            alloc,
-            "into",
-            "PATH",
-            "the new folders, one for each server, in their order",
-        )
-        .required(true)
-        .num_args(1..257)
-        .action(ArgAction::Append),
-    );
-    with(command, no_sync(alloc))
+        .args(reshaped(alloc)?)
+}
+
+/// The arguments of `reshape`.
+fn reshaped<'a>(alloc: Global) -> Result<Vec<Arg<'a>>, AllocError> {
+    let mut list = Vec::with_capacity(alloc, 3)?;
+    add(&mut list, paths(alloc))?;
+    add(&mut list, new_places(alloc))?;
+    add(&mut list, no_sync(alloc))?;
+    Ok(list)
+}
+
+/// `--into`.
+fn new_places<'a>(alloc: Global) -> Arg<'a> {
+    option(
+        alloc,
+        "into",
+        "PATH",
+        "the new folders, one for each server, in their order",
+    )
+    .required(true)
+    .num_args(1..257)
+    .action(ArgAction::Append)
 }
 
 /// The command line of `image`.
@@ -227,20 +235,29 @@ fn imaging<'a>(alloc: Global) -> Result<Command<'a>, AllocError> {
 
 /// The command line of `restore`.
 fn restoring<'a>(alloc: Global) -> Result<Command<'a>, AllocError> {
-    let command = Command::new(alloc, "restore")
+    Command::new(alloc, "restore")
         .about("Lays an image into new folders, one for each of its servers, in their order.")
-        .arg(shares(alloc));
-    let command = with(command, secret_file(alloc));
-    let command = with(command, no_sync(alloc));
-    let command = with(
-        command,
-        Arg::new(alloc, "file")
-            .value_name("FILE")
-            .help("the image")
-            .required(true)
-            .action(ArgAction::Set),
-    );
-    with(command, paths(alloc))
+        .args(restored(alloc)?)
+}
+
+/// The arguments of `restore`.
+fn restored<'a>(alloc: Global) -> Result<Vec<Arg<'a>>, AllocError> {
+    let mut list = Vec::with_capacity(alloc, 5)?;
+    add(&mut list, shares(alloc))?;
+    add(&mut list, secret_file(alloc))?;
+    add(&mut list, no_sync(alloc))?;
+    add(&mut list, image(alloc))?;
+    add(&mut list, paths(alloc))?;
+    Ok(list)
+}
+
+/// The image that is restored.
+fn image<'a>(alloc: Global) -> Arg<'a> {
+    Arg::new(alloc, "file")
+        .value_name("FILE")
+        .help("the image")
+        .required(true)
+        .action(ArgAction::Set)
 }
 
 /// `--listen`.

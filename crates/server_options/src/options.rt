@@ -28,7 +28,7 @@ const MOST_STORES: usize = 256;
 const MOST_LISTENS: usize = 64;
 
 /// What the program is asked for.
-#[derive(Debug, Drop)]
+#[derive(Drop)]
 pub enum Task<'a> {
     /// To serve connections.
     Serve(Options<'a>),
@@ -45,7 +45,7 @@ pub enum Task<'a> {
 }
 
 /// How connections are to be served.
-#[derive(Debug, Drop)]
+#[derive(Drop)]
 pub struct Options<'a> {
     /// Where connections are accepted, and under which secrets: 1 to 64 times.
     pub listen: Vec<ListenWanted<'a>>,
@@ -95,7 +95,7 @@ impl Options<'_> {
 }
 
 /// The grid whose files are to be repaired.
-#[derive(Debug, Drop)]
+#[derive(Drop)]
 pub struct Repairing<'a> {
     /// Where its servers keep their shares, in their order: folders, and `redis:HOST:PORT[/NAME]` for Redis servers.
     pub places: Vec<&'a str>,
@@ -108,7 +108,7 @@ pub struct Repairing<'a> {
 }
 
 /// The grid whose shares are to be laid into another number of folders.
-#[derive(Debug, Drop)]
+#[derive(Drop)]
 pub struct Reshaping<'a> {
     /// Its folders, in the order of its servers.
     pub from: Vec<&'a str>,
@@ -119,7 +119,7 @@ pub struct Reshaping<'a> {
 }
 
 /// What an image is to be laid into.
-#[derive(Debug, Drop)]
+#[derive(Drop)]
 pub struct Restoring<'a> {
     /// The image.
     pub file: &'a str,
@@ -141,7 +141,7 @@ pub struct Shares {
 }
 
 /// Why there are no options.
-#[derive(Debug, Drop)]
+#[derive(Drop)]
 pub enum Refusal {
     /// The words are none of the program's, or ask for help or the version.
     Words(Error),

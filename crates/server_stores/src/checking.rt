@@ -12,7 +12,7 @@ use std::rt::Files;
 const FOLDERS: u8 = 16;
 
 /// What stands in a server's folder.
-#[derive(Clone, Copy, Debug, PartialEq, Eq)]
+#[derive(Clone, Copy, PartialEq, Eq)]
 struct Contents {
     /// Shares, and their bytes.
     shares: u64,
@@ -26,7 +26,7 @@ struct Contents {
 }
 
 /// Whose the folders are that were seen.
-#[derive(Debug, Drop)]
+#[derive(Drop)]
 struct Folders {
     /// The settings of the first one that has any: those of the grid.
     first: Option<StoreSettings>,

@@ -9,7 +9,7 @@ use std::alloc::Global;
 use std::fmt;
 
 /// A number that is another one than is wanted.
-#[derive(Clone, Copy, Debug, PartialEq, Eq)]
+#[derive(Clone, Copy, PartialEq, Eq)]
 pub struct OtherNumber {
     /// The one that is there.
     pub there: u16,
@@ -18,7 +18,7 @@ pub struct OtherNumber {
 }
 
 /// In what the settings of a folder are others than those that are wanted.
-#[derive(Clone, Copy, Debug, PartialEq, Eq)]
+#[derive(Clone, Copy, PartialEq, Eq)]
 pub struct Difference {
     /// The place of its server.
     pub place: Option<OtherNumber>,

@@ -8,146 +8,191 @@ use redis_store::ServerFault;
 use share_shelf::{OpenFault, ShelfFault};
 use share_store::StoreFault;
 use std::alloc::{AllocError, AllocFailed};
-use thiserror::Error;
+use std::fmt;
 
 /// Why the program ended before it was stopped. Each has an exit status of its own.
-#[derive(Clone, Copy, Debug, PartialEq, Eq, Error)]
+#[derive(Clone, Copy, PartialEq, Eq)]
 pub enum ProgramFault {
     /// The system gives no readiness of sockets, or no clock.
-    #[error("the system can't wait for connections")]
     PollFailed,
     /// A word of the command line, that is none of the program's: it was told already.
-    #[error("bad arguments")]
     Arguments,
     /// `--listen` is neither ADDR nor ADDR,secret=PATH, or stands too often.
-    #[error("--listen wants HOST:PORT or HOST:PORT,secret=PATH, and stands 64 times at most")]
     Listen,
     /// `--shares` isn't two numbers as they are wanted.
-    #[error("--shares wants K,N with 1 <= K <= N <= 256, as in 3,10")]
     Shares,
     /// `--store` names no store, the same names on a Redis server twice, or stands too often.
-    #[error("--store wants dir:PATH, dir:PATH:BYTES, dir:PATH:BYTES,disk, dir:PATH,shared, redis:HOST:PORT[/NAME][:BYTES], each NAME once, or mem:BYTES, and stands 256 times at most")]
     Stores,
     /// `--room` is no size.
-    #[error("--room wants BYTES: digits, and K, M, G or T behind them for powers of 1,024")]
     Room,
     /// `--memory` is no size.
-    #[error("--memory wants BYTES: digits, and K, M, G or T behind them for powers of 1,024")]
     Memory,
     /// `--new` is the folder of no store, or of one that `--missing` names.
-    #[error("--new wants the PATH of a --store dir:PATH, written as there, that no --missing names")]
     New,
     /// `--missing` is the folder of no store.
-    #[error("--missing wants the PATH of a --store dir:PATH, written as there")]
     Missing,
     /// `--missing` names the folder of each store.
-    #[error("--missing names the folder of each --store: nothing is left to be served")]
     AllMissing,
     /// An address has no such host, or no port.
-    #[error("the {0} address is none: HOST:PORT is wanted, and a host that there is")]
     NoAddress(&'static str),
     /// Another program listens there.
-    #[error("the {0} address is in use")]
     AddressInUse(&'static str),
     /// The system doesn't let this program listen there.
-    #[error("no right to listen on the {0} address")]
     NotAllowed(&'static str),
     /// It can't be listened there for another reason.
-    #[error("the {0} address can't be listened on")]
     NotBound(&'static str),
     /// The secret's file could not be read.
-    #[error("the secret file can't be read")]
     SecretUnread,
     /// The secret's file is too long.
-    #[error("the secret file has more than 256 bytes")]
     SecretTooLong,
     /// The file of the control token could not be read.
-    #[error("the control token's file can't be read")]
     TokenUnread,
     /// The file of the control token has none.
-    #[error("the control token's file is to have 1 to 256 bytes of visible ASCII")]
     BadToken,
     /// Fewer handles are allowed than the connections need.
-    #[error("{0} open files are allowed, and {1} are needed: raise the limit, or lower --connections")]
     FewHandles(u64, u64),
     /// Memory was refused.
-    #[error("out of memory")]
     NoMemory,
     /// Standard output is closed.
-    #[error("standard output is closed")]
     NotPrinted,
     /// A folder isn't there.
-    #[error("the folder isn't there")]
     NotThere,
     /// Neither a folder nor the one above it is there.
-    #[error("neither the folder nor the one above it is there")]
     NoneAbove,
     /// A folder that is to have settings is empty.
-    #[error("the folder is empty: is its disk mounted?")]
     Empty,
     /// A folder was refused.
-    #[error("{0}")]
     Folder(FolderFault),
     /// The settings of a folder are another grid's.
-    #[error("{0}")]
     OtherGrid(Difference),
     /// A folder is of the server of a folder that was seen before it.
-    #[error("a folder before it belongs to the server at place {0} too")]
     Twice(u16),
     /// A store would be begun in a folder beside others that have settings.
-    #[error("the folder is new, and others of its grid aren't: is its disk mounted? Where a new store is meant, say --new PATH")]
     NewFolder,
     /// The disk of a folder has no room.
-    #[error("the disk is full")]
     DiskFull,
     /// The shares in a folder are more than the room of its server.
-    #[error("its shares are more than the room that it is given")]
     NoRoom,
     /// A folder that is to be new isn't empty.
-    #[error("the folder isn't empty: shares are laid into new ones")]
     NotEmpty,
     /// As many folders are wanted as the grid has servers.
-    #[error("{0} folders are given, and its grid has {1} servers: each wants one, in their order")]
     OtherCount(usize, u16),
     /// An image could not be read, or is no file: it is read twice.
-    #[error("the image can't be read: it has to be a file")]
     ImageUnread,
     /// An image has a fault at this byte.
-    #[error("it is no image of so many servers: the fault is at byte {0}")]
     BadImage(u64),
     /// An image could not be written.
-    #[error("the image can't be written")]
     ImageUnwritten,
     /// A folder that was looked through isn't as it is to be: it was told already.
-    #[error("not all is well")]
     NotWell,
     /// The host of a Redis server isn't known.
-    #[error("there is no such host")]
     RedisUnknown,
     /// A Redis server is another's, or gave at the start what is no answer.
-    #[error("the Redis server can't be used: {0}")]
     Redis(ServerFault),
     /// The file of the Redis servers' password could not be read.
-    #[error("the Redis password file can't be read")]
     PasswordUnread,
     /// The file of options could not be read: it was told already, by its name.
-    #[error("the file of options can't be read")]
     OptionsUnread,
     /// The file of options is none: it was told already, by its name.
-    #[error("the file of options is none")]
     Options,
     /// A page could not be read: it was told already, by its name.
-    #[error("the page can't be read")]
     PageUnread,
     /// A file among the pages is none by its name.
-    #[error("it is no page: its name is to be of letters, digits, dots, hyphens and low lines, and to end in .html, .css, .js, .svg, .png, .json or .txt")]
     NoPage,
     /// A page has too many bytes.
-    #[error("it has more than 1,048,576 bytes")]
     LongPage,
     /// There are too many pages.
-    #[error("it is one page too many: there may be 64")]
     ManyPages,
+}
+
+impl fmt::Display for ProgramFault {
+    fn fmt<W: fmt::Write>(&self, f: &mut fmt::Formatter<W>) -> fmt::Result {
+        let words = match self {
+            ProgramFault::PollFailed => "the system can't wait for connections",
+            ProgramFault::Arguments => "bad arguments",
+            ProgramFault::Listen =>
+                "--listen wants HOST:PORT or HOST:PORT,secret=PATH, and stands 64 times at most",
+            ProgramFault::Shares => "--shares wants K,N with 1 <= K <= N <= 256, as in 3,10",
+            ProgramFault::Stores =>
+                "--store wants dir:PATH, dir:PATH:BYTES, dir:PATH:BYTES,disk, dir:PATH,shared, redis:HOST:PORT[/NAME][:BYTES], each NAME once, or mem:BYTES, and stands 256 times at most",
+            ProgramFault::Room =>
+                "--room wants BYTES: digits, and K, M, G or T behind them for powers of 1,024",
+            ProgramFault::Memory =>
+                "--memory wants BYTES: digits, and K, M, G or T behind them for powers of 1,024",
+            ProgramFault::New =>
+                "--new wants the PATH of a --store dir:PATH, written as there, that no --missing names",
+            ProgramFault::Missing =>
+                "--missing wants the PATH of a --store dir:PATH, written as there",
+            ProgramFault::AllMissing =>
+                "--missing names the folder of each --store: nothing is left to be served",
+            ProgramFault::NoAddress(address) => return write!(
+                f,
+                "the {address} address is none: HOST:PORT is wanted, and a host that there is"
+            ),
+            ProgramFault::AddressInUse(address) => return write!(
+                f,
+                "the {address} address is in use"
+            ),
+            ProgramFault::NotAllowed(address) => return write!(
+                f,
+                "no right to listen on the {address} address"
+            ),
+            ProgramFault::NotBound(address) => return write!(
+                f,
+                "the {address} address can't be listened on"
+            ),
+            ProgramFault::SecretUnread => "the secret file can't be read",
+            ProgramFault::SecretTooLong => "the secret file has more than 256 bytes",
+            ProgramFault::TokenUnread => "the control token's file can't be read",
+            ProgramFault::BadToken =>
+                "the control token's file is to have 1 to 256 bytes of visible ASCII",
+            ProgramFault::FewHandles(allowed, needed) => return write!(
+                f,
+                "{allowed} open files are allowed, and {needed} are needed: raise the limit, or lower --connections"
+            ),
+            ProgramFault::NoMemory => "out of memory",
+            ProgramFault::NotPrinted => "standard output is closed",
+            ProgramFault::NotThere => "the folder isn't there",
+            ProgramFault::NoneAbove => "neither the folder nor the one above it is there",
+            ProgramFault::Empty => "the folder is empty: is its disk mounted?",
+            ProgramFault::Folder(fault) => return write!(f, "{fault}"),
+            ProgramFault::OtherGrid(difference) => return write!(f, "{difference}"),
+            ProgramFault::Twice(place) => return write!(
+                f,
+                "a folder before it belongs to the server at place {place} too"
+            ),
+            ProgramFault::NewFolder =>
+                "the folder is new, and others of its grid aren't: is its disk mounted? Where a new store is meant, say --new PATH",
+            ProgramFault::DiskFull => "the disk is full",
+            ProgramFault::NoRoom => "its shares are more than the room that it is given",
+            ProgramFault::NotEmpty => "the folder isn't empty: shares are laid into new ones",
+            ProgramFault::OtherCount(given, servers) => return write!(
+                f,
+                "{given} folders are given, and its grid has {servers} servers: each wants one, in their order"
+            ),
+            ProgramFault::ImageUnread => "the image can't be read: it has to be a file",
+            ProgramFault::BadImage(place) => return write!(
+                f,
+                "it is no image of so many servers: the fault is at byte {place}"
+            ),
+            ProgramFault::ImageUnwritten => "the image can't be written",
+            ProgramFault::NotWell => "not all is well",
+            ProgramFault::RedisUnknown => "there is no such host",
+            ProgramFault::Redis(fault) => return write!(
+                f,
+                "the Redis server can't be used: {fault}"
+            ),
+            ProgramFault::PasswordUnread => "the Redis password file can't be read",
+            ProgramFault::OptionsUnread => "the file of options can't be read",
+            ProgramFault::Options => "the file of options is none",
+            ProgramFault::PageUnread => "the page can't be read",
+            ProgramFault::NoPage =>
+                "it is no page: its name is to be of letters, digits, dots, hyphens and low lines, and to end in .html, .css, .js, .svg, .png, .json or .txt",
+            ProgramFault::LongPage => "it has more than 1,048,576 bytes",
+            ProgramFault::ManyPages => "it is one page too many: there may be 64",
+        };
+        f.write_str(words)
+    }
 }
 
 impl ProgramFault {

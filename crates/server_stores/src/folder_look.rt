@@ -11,7 +11,7 @@ use std::fs;
 use std::rt::Files;
 
 /// A folder of a grid, as it is seen before one is opened.
-#[derive(Clone, Copy, Debug, PartialEq, Eq)]
+#[derive(Clone, Copy, PartialEq, Eq)]
 pub struct FolderLook<'a> {
     /// Its path.
     pub folder: &'a str,

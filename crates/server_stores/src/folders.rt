@@ -31,7 +31,7 @@ pub type FolderStore<R> = KeptStore<OurShelf<R>>;
 pub type DiskStore<R> = ShelfStore<OurShelf<R>>;
 
 /// What stands in a folder before it is opened.
-#[derive(Clone, Copy, Debug, PartialEq, Eq)]
+#[derive(Clone, Copy, PartialEq, Eq)]
 pub enum Found {
     /// It isn't there, or has no more in it than a lock and unfinished files.
     New,
@@ -42,7 +42,7 @@ pub enum Found {
 }
 
 /// How a folder is opened.
-#[derive(Clone, Copy, Debug, PartialEq, Eq)]
+#[derive(Clone, Copy, PartialEq, Eq)]
 pub struct Opening {
     /// Whose it is to be.
     pub settings: StoreSettings,
@@ -182,7 +182,7 @@ fn has_settings<R: Files + AllocGlobal + Clone + Drop>(
 }
 
 /// What stands in a folder without settings.
-#[derive(Clone, Copy, Debug, PartialEq, Eq)]
+#[derive(Clone, Copy, PartialEq, Eq)]
 enum Standing {
     /// It isn't there.
     Absent,

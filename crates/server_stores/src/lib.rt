@@ -7,8 +7,8 @@ mod fault;
 pub mod handles;
 /// A shelf that this process alone uses.
 mod locked_shelf;
-/// A store of one of two kinds.
-pub mod either_store;
+/// A store of any of the kinds that a server may have.
+pub mod any_store;
 /// In what the settings of a folder are others than those that are wanted.
 pub mod difference;
 /// Folders of servers.

@@ -8,7 +8,7 @@ use grid::GridFault;
 use share_repair::Outcome;
 
 /// What was found and done.
-#[derive(Clone, Copy, Debug, PartialEq, Eq)]
+#[derive(Clone, Copy, PartialEq, Eq)]
 pub(crate) struct Tally {
     /// Files that were looked at.
     pub(crate) files: u64,

@@ -7,12 +7,13 @@ ghost use Rattle.share_repair.specs.Made.{PutsDetermined};
 ghost use Rattle.share_repair.specs.Whole.{IsWholeFile};
 ghost use Rattle.server_stores.specs.Tally.{IsAllWell};
 
-use crate::either_store::EitherStore;
+use crate::any_store::AnyStore;
 use crate::fault::ProgramFault;
 use crate::folder_look::{FolderLook, log_seen, refuse_mistakes};
-use crate::folders::{DiskStore, Opening, look, names_in, open_on_disk, report_fault, settings_in};
-use crate::redis_stores::{OnRedis, RedisOpening, open_on_answering_redis, read_password};
+use crate::folders::{Opening, look, names_in, open_on_disk, report_fault, settings_in};
+use crate::redis_stores::{RedisOpening, open_on_answering_redis, read_password};
 use crate::repair_tally::{Tally, tell_outcome, tell_refused};
+use crate::stores::ServerStore;
 use base32_text::encode;
 use folder_shelf::{FolderFault, StoreSettings, read_name};
 use grid::{Grid, GridFault};
@@ -30,9 +31,6 @@ const FOLDERS: u8 = 16;
 /// After how many files it is told how far it is.
 const OFTEN: u64 = 1_000;
 
-/// A store of a grid that is repaired: in a folder alone, or on a Redis server.
-type MendedStore<R> = EitherStore<DiskStore<R>, OnRedis<R>>;
-
 /// Puts the shares that are missing or rotten back into the places of a grid, which are given in the order of its servers:
 /// they are made of each file's other shares. The files are those of which a folder has a share's file. Each that was
 /// repaired is told on standard output, and each that couldn't be, with a line of all at the end. `NotWell` where a file
@@ -46,7 +44,8 @@ pub fn repair<
     let places = wanted.places.as_slice();
     let first = first_settings(rt, places)?;
     look_at_each(rt, places, &wanted.new, &first)?;
-    let mut grid = Grid::new(open_each(rt, wanted, &first)?);
+    let stores = open_each(rt, wanted, &first)?;
+    let mut grid = Grid::new(stores);
     repair_all(rt, places, &mut grid)
 }
 
@@ -134,7 +133,7 @@ fn open_each<R: Files<File = File> + AllocGlobal + Net + Clock + Clone + Drop + 
     rt: &R,
     wanted: &Repairing<'_>,
     first: &StoreSettings,
-) -> Result<Vec<MendedStore<R>>, ProgramFault>
+) -> Result<Vec<ServerStore<R>>, ProgramFault>
     requires { length wanted.now.places.items ≡ first.now.servers }
     ensures { IfOk result (λ stores. vec_len stores ≡ first.now.servers) }
 {
@@ -152,14 +151,14 @@ fn open_each<R: Files<File = File> + AllocGlobal + Net + Clock + Clone + Drop + 
     Ok(stores)
 }
 
-/// Opens one place.
+/// Opens one place: a Redis server, or a folder that answers from its files.
 fn open_one<R: Files<File = File> + AllocGlobal + Net + Clock + Clone + Drop + Log + Eprint>(
     rt: &R,
     name: &str,
     settings: &StoreSettings,
     synced: bool,
     password: Option<&[u8]>,
-) -> Result<MendedStore<R>, ProgramFault> {
+) -> Result<ServerStore<R>, ProgramFault> {
     let settings = *settings;
     match read_redis_place(name) {
         Some(place) => {
@@ -169,7 +168,7 @@ fn open_one<R: Files<File = File> + AllocGlobal + Net + Clock + Clone + Drop + L
                 password,
             };
             match open_on_answering_redis(rt, &opening) {
-                Ok(store) => Ok(EitherStore::Second(store)),
+                Ok(store) => Ok(AnyStore::OnRedis(store)),
                 Err(fault) => Err(fault),
             }
         }
@@ -180,7 +179,7 @@ fn open_one<R: Files<File = File> + AllocGlobal + Net + Clock + Clone + Drop + L
                 synced,
             };
             match open_on_disk(rt, name, &opening) {
-                Ok(store) => Ok(EitherStore::First(store)),
+                Ok(store) => Ok(AnyStore::OnDisk(store)),
                 Err(fault) => Err(fault),
             }
         }

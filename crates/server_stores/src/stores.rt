@@ -2,10 +2,10 @@
 ghost use Rattle.std.specs.Prelude.{◌≡◌, ℕ, true, List, Option, IfOk, OnOk};
 ghost use Rattle.std.specs.Option.{option_map};
 ghost use Rattle.share_store.specs.Schedule.{failing_call, fails_for_good};
-ghost use Rattle.server_stores.specs.Kinds.{AreOfKinds, IsInSharedFolder, IsOfKind, IsOneMore, IsOnRedis, IsOutOfReach};
+ghost use Rattle.server_stores.specs.Kinds.{AreOfKinds, IsInFolder, IsInSharedFolder, IsOfKind, IsOnDisk, IsOneMore, IsOnRedis, IsOutOfReach};
 ghost use Rattle.server_stores.specs.Opened.{IsOpenedAs};
 
-use crate::either_store::EitherStore;
+use crate::any_store::AnyStore;
 use crate::fault::ProgramFault;
 use crate::folder_look::{FolderLook, log_seen, refuse_mistakes};
 use crate::folders::{
@@ -27,12 +27,13 @@ use std::time::Clock;
 
 /// A server's store: in memory alone, in memory and in a folder, on a disk alone, on a Redis server, in a folder that
 /// others serve too, or out of reach.
-pub type ServerStore<R> = EitherStore<
+pub type ServerStore<R> = AnyStore<
     MemStore,
-    EitherStore<
-        FolderStore<R>,
-        EitherStore<DiskStore<R>, EitherStore<OnRedis<R>, EitherStore<FileFolder<R>, FailAt>>>,
-    >,
+    FolderStore<R>,
+    DiskStore<R>,
+    OnRedis<R>,
+    FileFolder<R>,
+    FailAt,
 >;
 
 /// The stores that are wanted, one for each, opened in their order: the settings are those of the grid's first server.
@@ -215,20 +216,40 @@ fn open_wanted<
         on_redis.grid on_redis.longest on_redis.connection.first)) }
 {
     match wanted {
-        StoreWanted::Memory(room) => Ok(EitherStore::First(MemStore::new(rt.alloc(), *room))),
-        StoreWanted::Folder(folder, room) => {
-            match open_folder(rt, *folder, &asked.opening(*room)) {
-                Ok(store) => Ok(EitherStore::Second(EitherStore::First(store))),
-                Err(fault) => Err(fault),
-            }
-        }
-        StoreWanted::Disk(folder, room) => match open_on_disk(rt, *folder, &asked.opening(*room)) {
-            Ok(store) => Ok(EitherStore::Second(EitherStore::Second(EitherStore::First(store)))),
-            Err(fault) => Err(fault),
-        },
+        StoreWanted::Memory(room) => Ok(AnyStore::InMemory(MemStore::new(rt.alloc(), *room))),
+        StoreWanted::Folder(folder, room) => open_kept(rt, *folder, &asked.opening(*room)),
+        StoreWanted::Disk(folder, room) => open_disk(rt, *folder, &asked.opening(*room)),
         StoreWanted::Shared(folder) => open_beside_others(rt, *folder, asked),
         StoreWanted::Redis(place, _) => open_redis(rt, &asked.on_redis(*place)),
         StoreWanted::Missing(_) => Ok(out_of_reach(unreachable_store(rt.alloc()))),
+    }
+}
+
+/// Opens one store in memory and in a folder.
+fn open_kept<R: Files<File = File> + AllocGlobal + Net + Clock + Clone + Drop + Log + Eprint>(
+    rt: &R,
+    folder: &str,
+    opening: &Opening,
+) -> Result<ServerStore<R>, ProgramFault>
+    ensures { IfOk result IsInFolder }
+{
+    match open_folder(rt, folder, opening) {
+        Ok(store) => Ok(AnyStore::InFolder(store)),
+        Err(fault) => Err(fault),
+    }
+}
+
+/// Opens one store on a disk alone.
+fn open_disk<R: Files<File = File> + AllocGlobal + Net + Clock + Clone + Drop + Log + Eprint>(
+    rt: &R,
+    folder: &str,
+    opening: &Opening,
+) -> Result<ServerStore<R>, ProgramFault>
+    ensures { IfOk result IsOnDisk }
+{
+    match open_on_disk(rt, folder, opening) {
+        Ok(store) => Ok(AnyStore::OnDisk(store)),
+        Err(fault) => Err(fault),
     }
 }
 
@@ -239,9 +260,7 @@ fn open_beside_others<
     ensures { IfOk result IsInSharedFolder }
 {
     match open_shared(rt, folder, &asked.settings, asked.synced) {
-        Ok(store) => Ok(EitherStore::Second(EitherStore::Second(EitherStore::Second(
-            EitherStore::Second(EitherStore::First(store)),
-        )))),
+        Ok(store) => Ok(AnyStore::InSharedFolder(store)),
         Err(fault) => Err(fault),
     }
 }
@@ -257,9 +276,7 @@ fn open_redis<R: Files + AllocGlobal + Net + Clock + Clone + Drop + Log + Eprint
         on_redis.grid on_redis.longest on_redis.connection.first)) }
 {
     match open_on_redis(rt, opening) {
-        Ok(store) => Ok(EitherStore::Second(EitherStore::Second(EitherStore::Second(
-            EitherStore::First(store),
-        )))),
+        Ok(store) => Ok(AnyStore::OnRedis(store)),
         Err(fault) => Err(fault),
     }
 }
@@ -272,7 +289,5 @@ fn out_of_reach<R: Files<File = File> + AllocGlobal + Net + Clock + Clone + Drop
     requires for_good { fails_for_good store ≡ true }
     ensures { IsOutOfReach result }
 {
-    EitherStore::Second(EitherStore::Second(EitherStore::Second(EitherStore::Second(
-        EitherStore::Second(store),
-    ))))
+    AnyStore::OutOfReach(store)
 }

@@ -11,46 +11,25 @@ ghost use Rattle.gate_core.specs.Tallies.{nothing_counted};
 
 /// The listeners of connections, each with its secret.
 mod listening;
-/// How the log is written.
-mod log_lines;
-/// The commit that the program was built of.
-mod commit;
-/// The token of the control listener.
-mod control_token;
-/// The file of options.
-mod option_words;
-/// Pages beside the web API.
-mod pages;
-/// The secrets of the gateway and of listeners.
-mod secret;
 /// What the loop of connections runs with.
 mod serving_runtime;
-/// What stores are opened with.
-mod store_runtime;
 
-use crate::commit::read_commit;
-use crate::control_token::read_token;
 use crate::listening::{listen_for_connections, log_secrets};
-use crate::log_lines::log_of;
-use crate::option_words::{name_file, words_of_file};
-use crate::pages::pages_of;
-use crate::secret::Secret;
 use crate::serving_runtime::ServingRuntime;
-use crate::store_runtime::StoreRuntime;
-use folder_shelf::StoreSettings;
-use gate_core::{Gateway, GatewayFault, Pages};
+use gate_core::Gateway;
 use gate_flow::Lobby;
 use gate_poll::{Limits, Listener, ServeFault, serve_on};
 use libc::net::{SO_SNDBUF, SOL_SOCKET, setsockopt};
 use log::{Log, info};
 use mio::net::TcpListener;
 use server_board::{StatusControl, VERSION};
-use server_options::{Options, Refusal, Shares, Task, read_words};
-use server_stores::{
-    ProgramFault, ServerStore, check, handles, open_stores, repair, reshape, restore, write_image,
+use server_gateway::{
+    Secret, StoreRuntime, control_of, few_handles, log_of, name_file, open_gateway, pages_of,
+    read_commit, words_of_file,
 };
+use server_options::{Options, Refusal, Task, read_words};
+use server_stores::{ProgramFault, check, repair, reshape, restore, write_image};
 use share_store::Store;
-use std::alloc::Global;
 use std::env;
 use std::fs::File;
 use std::io::ErrorKind;
@@ -249,19 +228,6 @@ fn serve_lobby<R: Print + Eprint + AllocGlobal + Files + Clock + CpuClock + Net,
     serve_with(serving, options, listeners, lobby, answers)
 }
 
-/// What answers control requests: it wants the token that its file has, where one is named.
-fn control_of<R: AllocGlobal + Files<File = File>>(
-    rt: &R,
-    options: &Options<'_>,
-) -> Result<StatusControl, ProgramFault>
-    ensures { IfOk result (λ control.
-        is_some control.token ≡ is_some options.now.control_token_file) }
-{
-    let token = read_token(rt, options.control_token_file)?;
-    let commit = read_commit(rt)?;
-    Ok(StatusControl { token, commit })
-}
-
 /// Where connections are accepted, and control requests if they are anywhere.
 #[derive(Drop)]
 struct Listeners {
@@ -360,112 +326,6 @@ fn limits_of(options: &Options<'_>) -> Limits
     let mut limits = Limits::new(options.connections, Duration::from_secs(options.idle));
     limits.memory = options.memory;
     limits
-}
-
-/// A gateway over the stores that are wanted, with the secret that its file has, these pages, and replies for browsers.
-fn open_gateway<
-    R: AllocGlobal + Files<File = File> + Net + Clock + RandomSource + Clone + Drop + Log + Eprint,
->(rt: &R, options: &Options<'_>, pages: Pages) -> Result<Gateway<ServerStore<R>>, ProgramFault>
-    ensures needed { IfOk result (λ gateway. gateway.settings.k ≡ options.now.shares.needed) }
-    ensures made { IfOk result (λ gateway. gateway.settings.n ≡ options.now.shares.made) }
-    ensures servers { IfOk result (λ gateway.
-        gateway.settings.servers ≡ vec_len options.now.stores) }
-    ensures none { is_some options.now.secret_file ≡ false →
-        IfOk result (λ gateway. gateway.settings.secret ≡ []) }
-    ensures pages { IfOk result (λ gateway. gateway.settings.pages ≡ pages) }
-    ensures browsers { IfOk result (λ gateway. gateway.settings.for_browsers ≡ true) }
-{
-    match Secret::read(rt, options.secret_file) {
-        Ok(secret) => match open_under(rt, options, &secret) {
-            Ok(gateway) => Ok(gateway.with_pages(pages).for_browsers()),
-            Err(fault) => Err(fault),
-        },
-        Err(fault) => Err(fault),
-    }
-}
-
-/// The same with a secret, which is that of the file that is asked for.
-fn open_under<
-    R: AllocGlobal + Files<File = File> + Net + Clock + RandomSource + Clone + Drop + Log + Eprint,
->(
-    rt: &R,
-    options: &Options<'_>,
-    secret: &Secret<'_>,
-) -> Result<Gateway<ServerStore<R>>, ProgramFault>
-    requires { secret.now.file ≡ options.now.secret_file }
-    ensures needed { IfOk result (λ gateway. gateway.settings.k ≡ options.now.shares.needed) }
-    ensures made { IfOk result (λ gateway. gateway.settings.n ≡ options.now.shares.made) }
-    ensures secret { IfOk result (λ gateway. gateway.settings.secret ≡ secret.now.bytes.items) }
-    ensures servers { IfOk result (λ gateway.
-        gateway.settings.servers ≡ vec_len options.now.stores) }
-    ensures fresh { IfOk result (λ gateway. gateway.connections ≡ map.empty) }
-{
-    let Ok(servers) = u16::try_from(options.stores.len()) else {
-        return Err(ProgramFault::Stores);
-    };
-    let Shares { needed, made } = options.shares;
-    let first = StoreSettings::new(0, servers, needed, made, secret.bytes());
-    let stores = open_stores(rt, options, &first)?;
-    gateway_over(rt.alloc(), options.shares, stores, secret.bytes())
-}
-
-/// A gateway over these stores, of which nothing was called yet. `Shares` exactly where the numbers of shares, of stores
-/// or of the secret's bytes are none that a gateway takes.
-fn gateway_over<S: Store + Drop>(
-    alloc: Global,
-    shares: Shares,
-    stores: Vec<S>,
-    secret: &[u8],
-) -> Result<Gateway<S>, ProgramFault>
-    ensures accepted { AreParameters shares.needed shares.made (vec_len stores) (length secret.now) →
-        IsOkUnless result ProgramFault.NoMemory }
-    ensures refused { ¬ (AreParameters shares.needed shares.made (vec_len stores)
-        (length secret.now)) → result ≡ Err ProgramFault.Shares }
-    ensures held { IfOk result (λ gateway. gateway ≡ record {
-      settings = record {
-        k = shares.needed;
-        n = shares.made;
-        secret = secret.now;
-        servers = vec_len stores;
-        pages = [];
-        for_browsers = false;
-      };
-      connections = map.empty;
-      grid = states S.shares S.room S.held S.failures S.honest S.history stores.items;
-      tally = nothing_counted;
-    }) }
-{
-    match Gateway::resume(alloc, shares.needed, shares.made, stores, secret) {
-        Ok(gateway) => Ok(gateway),
-        Err(GatewayFault::BadParameters) => Err(ProgramFault::Shares),
-        Err(_) => Err(ProgramFault::NoMemory),
-    }
-}
-
-/// The fault that there are fewer handles than connections, listeners, locks of folders and connections to Redis servers
-/// need, if the system says so.
-fn few_handles<R: AllocGlobal + Files>(rt: &R, options: &Options<'_>) -> Option<ProgramFault>
-    ensures few { IfSome result (λ fault. (allowed needed : ℕ)
-        × (fault ≡ ProgramFault.FewHandles allowed needed) × (allowed < needed)) }
-{
-    let kept = options
-        .with_handles()
-        .saturating_add(options.listen.len().saturating_sub(1));
-    let needed = handles::needed_for(options.connections, kept);
-    let allowed = handles::allowed(rt)?;
-    judge_handles(allowed, needed)
-}
-
-/// The fault that so many handles are allowed where so many are needed, if these are more.
-fn judge_handles(allowed: u64, needed: u64) -> Option<ProgramFault>
-    ensures few { allowed < needed → result ≡ Some (ProgramFault.FewHandles allowed needed) }
-    ensures enough { needed ≤ allowed → result ≡ None }
-{
-    if allowed < needed {
-        Some(ProgramFault::FewHandles(allowed, needed))
-    } else {
-        None
-    }
 }
 
 /// Listens on the first address of a name where it can.

@@ -1,12 +1,12 @@
 //! The listeners of connections, each with its secret.
 ghost use Rattle.std.specs.Prelude.{◌≡◌, IfOk, Some, None, is_some, true, false, map};
 
-use crate::secret::Secret;
 use crate::{bound_buffer, listen};
 use gate_poll::Listener;
 use log::{Log, info};
 use mio::net::TcpListener;
 use octets::Bytes;
+use server_gateway::Secret;
 use server_options::{ListenWanted, Options};
 use server_stores::ProgramFault;
 use std::net::Net;

@@ -10,7 +10,7 @@ use std::alloc::{AllocError, Global};
 use std::marker::Model;
 
 /// A crypttext that isn't empty, and the hashes of its segments as far as they are made.
-#[derive(Debug, Drop)]
+#[derive(Drop)]
 pub struct CrypttextReading {
     params: Params,
     bytes: Vec<u8>,

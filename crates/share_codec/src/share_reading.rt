@@ -19,7 +19,7 @@ use std::rc::RcSlice;
 
 /// A string that is to be judged as a share of a file, and the hashes of its blocks as far as they are made. How far that is
 /// changes nothing of what it is judged to be, only how long that takes then.
-#[derive(Debug, Drop)]
+#[derive(Drop)]
 pub struct ShareReading {
     params: Params,
     bytes: RcSlice<u8>,

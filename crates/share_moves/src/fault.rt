@@ -3,27 +3,44 @@ ghost use Rattle.std.specs.Prelude.{◌≡◌};
 ghost use Rattle.share_moves.specs.declared.fault.MoveFault.TheVariants.{NoMemory};
 
 use std::alloc::{AllocError, AllocFailed};
-use thiserror::Error;
+use std::fmt;
 
 /// Why shares weren't all moved. A server is told by its place among those that are read, or among those that are
 /// written.
-#[derive(Clone, Copy, Debug, PartialEq, Eq, Error)]
+#[derive(Clone, Copy, PartialEq, Eq)]
 pub enum MoveFault {
     /// The store of this server failed, which is only read.
-    #[error("the store of server {0} failed while it was read")]
     NotRead(usize),
     /// The store of this server gave a share without a byte, as an honest one never does.
-    #[error("the store of server {0} gave a share without a byte")]
     NoBytes(usize),
     /// The store of this server failed, which is written.
-    #[error("the store of server {0} failed while it was written")]
     NotWritten(usize),
     /// The store of this server has no room for a share that isn't there.
-    #[error("the store of server {0} is full")]
     Full(usize),
     /// There was no memory.
-    #[error("out of memory")]
     NoMemory,
+}
+
+impl fmt::Display for MoveFault {
+    fn fmt<W: fmt::Write>(&self, f: &mut fmt::Formatter<W>) -> fmt::Result {
+        let words = match self {
+            MoveFault::NotRead(server) => return write!(
+                f,
+                "the store of server {server} failed while it was read"
+            ),
+            MoveFault::NoBytes(server) => return write!(
+                f,
+                "the store of server {server} gave a share without a byte"
+            ),
+            MoveFault::NotWritten(server) => return write!(
+                f,
+                "the store of server {server} failed while it was written"
+            ),
+            MoveFault::Full(server) => return write!(f, "the store of server {server} is full"),
+            MoveFault::NoMemory => "out of memory",
+        };
+        f.write_str(words)
+    }
 }
 
 impl From<AllocError> for MoveFault {

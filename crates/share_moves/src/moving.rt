@@ -22,7 +22,7 @@ use std::alloc::AllocError;
 const OFTEN: u64 = 1_000;
 
 /// What became of shares.
-#[derive(Clone, Copy, Debug, PartialEq, Eq)]
+#[derive(Clone, Copy, PartialEq, Eq)]
 pub struct Moved {
     /// How many were put.
     pub put: u64,
@@ -33,7 +33,7 @@ pub struct Moved {
 }
 
 /// What became of a share.
-#[derive(Clone, Copy, Debug, PartialEq, Eq)]
+#[derive(Clone, Copy, PartialEq, Eq)]
 pub(crate) enum Placed {
     /// It was put.
     Put,

@@ -15,7 +15,7 @@ use share_store::{Share, Store};
 use std::rc::RcSlice;
 
 /// A share that stands where none of those that are moved goes, or has other bytes.
-#[derive(Clone, Copy, Debug, PartialEq, Eq)]
+#[derive(Clone, Copy, PartialEq, Eq)]
 pub struct Stranger {
     /// The server at which it stands.
     pub server: usize,

@@ -3,17 +3,24 @@ ghost use Rattle.std.specs.Prelude.{◌≡◌};
 ghost use Rattle.share_repair.specs.declared.fault.RepairFault.TheVariants.{NoMemory};
 
 use std::alloc::{AllocError, AllocFailed};
-use thiserror::Error;
+use std::fmt;
 
 /// Why shares aren't made again.
-#[derive(Clone, Copy, Debug, PartialEq, Eq, Error)]
+#[derive(Clone, Copy, PartialEq, Eq)]
 pub enum RepairFault {
     /// The shares that were given aren't k of one file, each with another number and as it is made of it.
-    #[error("the shares are not of one file")]
     Unlike,
     /// There was no memory.
-    #[error("out of memory")]
     NoMemory,
+}
+
+impl fmt::Display for RepairFault {
+    fn fmt<W: fmt::Write>(&self, f: &mut fmt::Formatter<W>) -> fmt::Result {
+        f.write_str(match self {
+            RepairFault::Unlike => "the shares are not of one file",
+            RepairFault::NoMemory => "out of memory",
+        })
+    }
 }
 
 impl From<AllocError> for RepairFault {

@@ -18,7 +18,7 @@ use tag_hash::tagged;
 const EXTENSION_TAG: &[u8; 24] = b"webgate_uri_extension_v1";
 
 /// A file by its numbers and the hash of its URI extension block: what its cap has of it beside the key.
-#[derive(Clone, Copy, Debug, PartialEq, Eq)]
+#[derive(Clone, Copy, PartialEq, Eq)]
 pub struct Label {
     /// Its numbers.
     pub params: Params,

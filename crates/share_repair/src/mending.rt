@@ -19,7 +19,7 @@ use std::alloc::{AllocError, Global};
 use std::rc::RcSlice;
 
 /// How a file was found, and how it was left.
-#[derive(Clone, Copy, Debug, PartialEq, Eq)]
+#[derive(Clone, Copy, PartialEq, Eq)]
 pub enum Outcome {
     /// A good share of each number stood in its place.
     Whole,

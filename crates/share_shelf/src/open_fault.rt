@@ -4,20 +4,28 @@ ghost use Rattle.share_shelf.specs.declared.open_fault.OpenFault.TheVariants.{Sh
 
 use crate::ShelfFault;
 use share_store::StoreFault;
-use thiserror::Error;
+use std::fmt;
 
 /// Why a store was not opened over a shelf.
-#[derive(Clone, Copy, Debug, PartialEq, Eq, Error)]
+#[derive(Clone, Copy, Debug, PartialEq, Eq)]
 pub enum OpenFault {
     /// The shelf refused to be read.
-    #[error("the shelf could not be read: {0}")]
     Shelf(ShelfFault),
     /// The shares don't fit the room, or there was no memory for them.
-    #[error("the shares could not be held: {0}")]
     Store(StoreFault),
     /// A share has no bytes.
-    #[error("a share is empty")]
     Empty,
+}
+
+impl fmt::Display for OpenFault {
+    fn fmt<W: fmt::Write>(&self, f: &mut fmt::Formatter<W>) -> fmt::Result {
+        let words = match self {
+            OpenFault::Shelf(fault) => return write!(f, "the shelf could not be read: {fault}"),
+            OpenFault::Store(fault) => return write!(f, "the shares could not be held: {fault}"),
+            OpenFault::Empty => "a share is empty",
+        };
+        f.write_str(words)
+    }
 }
 
 impl From<ShelfFault> for OpenFault {

@@ -3,20 +3,27 @@ ghost use Rattle.std.specs.Prelude.{◌≡◌};
 ghost use Rattle.share_store.specs.declared.fault.StoreFault.TheVariants.{NoMemory};
 
 use std::alloc::{AllocError, AllocFailed};
-use thiserror::Error;
+use std::fmt;
 
 /// Why a store refused to put, lose or toggle a share. Nothing was changed then.
-#[derive(Clone, Copy, Debug, PartialEq, Eq, Error)]
+#[derive(Clone, Copy, Debug, PartialEq, Eq)]
 pub enum StoreFault {
     /// The share is longer than the room that is left, and none stands in its place.
-    #[error("the store is full")]
     Full,
     /// The store failed in this call, and counted it.
-    #[error("the store is down")]
     Down,
     /// There was no memory for the change.
-    #[error("out of memory")]
     NoMemory,
+}
+
+impl fmt::Display for StoreFault {
+    fn fmt<W: fmt::Write>(&self, f: &mut fmt::Formatter<W>) -> fmt::Result {
+        f.write_str(match self {
+            StoreFault::Full => "the store is full",
+            StoreFault::Down => "the store is down",
+            StoreFault::NoMemory => "out of memory",
+        })
+    }
 }
 
 impl From<AllocError> for StoreFault {

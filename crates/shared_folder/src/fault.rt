@@ -3,27 +3,34 @@ ghost use Rattle.std.specs.Prelude.{◌≡◌, ◌≢◌};
 ghost use Rattle.shared_folder.specs.declared.fault.SharedFault.TheVariants.{Failed, NoMemory};
 
 use std::alloc::{AllocError, AllocFailed};
+use std::fmt;
 use std::io::{Error as IoError, ErrorKind};
-use thiserror::Error;
 
 /// Why the folder gave no answer.
-#[derive(Clone, Copy, Debug, PartialEq, Eq, Error)]
+#[derive(Clone, Copy, Debug, PartialEq, Eq)]
 pub enum SharedFault {
     /// A call of the file system failed.
-    #[error("the file system failed")]
     Failed,
     /// The file system has no room for the share.
-    #[error("the file system is full")]
     Full,
     /// The share is longer than the longest, or its number isn't below the number of shares.
-    #[error("the share is none of this grid's")]
     NoShare,
     /// The call is none that a store offers which others use at the same time.
-    #[error("a store that many use has no such call")]
     NotShared,
     /// There was no memory for the call.
-    #[error("out of memory")]
     NoMemory,
+}
+
+impl fmt::Display for SharedFault {
+    fn fmt<W: fmt::Write>(&self, f: &mut fmt::Formatter<W>) -> fmt::Result {
+        f.write_str(match self {
+            SharedFault::Failed => "the file system failed",
+            SharedFault::Full => "the file system is full",
+            SharedFault::NoShare => "the share is none of this grid's",
+            SharedFault::NotShared => "a store that many use has no such call",
+            SharedFault::NoMemory => "out of memory",
+        })
+    }
 }
 
 impl From<AllocError> for SharedFault {

@@ -8,10 +8,10 @@ ghost use Rattle.tag_hash.specs.NetstringAt.{netstring_at, announced, closed, di
 
 use crate::decimals::Decimal;
 use std::alloc::{AllocError, Global};
-use thiserror::Error;
+use std::fmt;
 
 /// A part of a list of bytes: the place of its first byte, and how many bytes it has.
-#[derive(Clone, Copy, Debug, PartialEq, Eq)]
+#[derive(Clone, Copy, PartialEq, Eq)]
 pub struct Span {
     /// The place of its first byte.
     pub start: usize,
@@ -20,23 +20,30 @@ pub struct Span {
 }
 
 /// Why no netstring is read at a place: the first fault that is met from left to right.
-#[derive(Clone, Copy, Debug, PartialEq, Eq, Error)]
+#[derive(Clone, Copy, Debug, PartialEq, Eq)]
 pub enum NetFault {
     /// Something else than a digit stands at the place.
-    #[error("a netstring begins with digits")]
     NotDigits,
     /// A 0 stands before another digit.
-    #[error("a netstring's length has no leading zero")]
     LeadingZero,
     /// The bytes end before the netstring does, or no colon stands after the digits.
-    #[error("a netstring is cut short")]
     Short,
     /// Another byte than a comma stands after the announced bytes.
-    #[error("a netstring ends with a comma")]
     NoComma,
     /// The length is no number of 64 bits.
-    #[error("a netstring's length is too large")]
     TooLong,
+}
+
+impl fmt::Display for NetFault {
+    fn fmt<W: fmt::Write>(&self, f: &mut fmt::Formatter<W>) -> fmt::Result {
+        f.write_str(match self {
+            NetFault::NotDigits => "a netstring begins with digits",
+            NetFault::LeadingZero => "a netstring's length has no leading zero",
+            NetFault::Short => "a netstring is cut short",
+            NetFault::NoComma => "a netstring ends with a comma",
+            NetFault::TooLong => "a netstring's length is too large",
+        })
+    }
 }
 
 /// The netstring of `bytes`: their number in decimal, a colon, the bytes and a comma.

@@ -10,7 +10,7 @@ use std::marker::Model;
 use std::mem;
 
 /// Where the bytes of a body come from.
-#[derive(Debug, Drop)]
+#[derive(Drop)]
 pub(crate) enum Source {
     /// They are at hand.
     Bytes(Bytes),
@@ -24,7 +24,6 @@ pub(crate) enum Source {
 
 /// The bytes of a body that are left: they are at hand, decoded or made as they are asked for, or shared with other
 /// replies. Contracts see them as bytes.
-#[derive(Debug)]
 pub struct Body {
     source: Source,
 }

@@ -7,7 +7,7 @@ use crate::reply::{Reply, Status};
 use std::alloc::{AllocError, Global};
 
 /// Why a request can't be met.
-#[derive(Clone, Copy, Debug, PartialEq, Eq)]
+#[derive(Clone, Copy, PartialEq, Eq)]
 pub enum Failure {
     /// A verify cap gives no bytes.
     NotReadable,

@@ -7,7 +7,7 @@ use std::marker::Model;
 
 /// So many bytes of a file, after those that are passed over. Each segment is decoded when its bytes are asked for, and
 /// none that is passed over.
-#[derive(Debug, Drop)]
+#[derive(Drop)]
 pub struct Part {
     download: Download,
     skip: usize,

@@ -5,7 +5,7 @@ use caps::VerifyFields;
 use web_request::Resource;
 
 /// The status of a reply (RFC 9110, section 15).
-#[derive(Clone, Copy, Debug, PartialEq, Eq)]
+#[derive(Clone, Copy, PartialEq, Eq)]
 pub enum Status {
     Ok = 200,
     PartialContent = 206,
@@ -19,7 +19,7 @@ pub enum Status {
 }
 
 /// What a body is (RFC 9110, section 8.3).
-#[derive(Clone, Copy, Debug, PartialEq, Eq)]
+#[derive(Clone, Copy, PartialEq, Eq)]
 pub enum MediaType {
     /// `application/octet-stream`: bytes of a file.
     OctetStream,
@@ -40,7 +40,7 @@ pub enum MediaType {
 }
 
 /// A field that some replies have after their Content-Type.
-#[derive(Clone, Copy, Debug, PartialEq, Eq)]
+#[derive(Clone, Copy, PartialEq, Eq)]
 pub enum Field {
     /// Content-Range of a part of a file (RFC 9110, section 14.4): the places of its first and its last byte, from 0,
     /// and the size of the file in bytes.
@@ -55,7 +55,7 @@ pub enum Field {
 }
 
 /// The fields of a reply, but for those on how long the body is and whether the connection closes.
-#[derive(Clone, Copy, Debug, PartialEq, Eq)]
+#[derive(Clone, Copy, PartialEq, Eq)]
 pub struct Fields {
     /// The Content-Type.
     pub content_type: MediaType,
@@ -66,7 +66,7 @@ pub struct Fields {
 }
 
 /// A reply. Its body is that of GET, also where the request was for the head alone.
-#[derive(Debug, Drop)]
+#[derive(Drop)]
 pub struct Reply {
     pub status: Status,
     pub fields: Fields,

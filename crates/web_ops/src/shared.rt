@@ -9,7 +9,7 @@ use std::rc::RcSlice;
 const PIECE: usize = 65_536;
 
 /// Bytes that several replies have at once, none of which has a copy of them.
-#[derive(Debug, Drop)]
+#[derive(Drop)]
 pub struct SharedBytes {
     bytes: RcSlice<u8>,
     at: usize,

@@ -9,7 +9,7 @@ use crate::request::Resource;
 use octets::Text;
 
 /// What is asked for, of a resource that is known.
-#[derive(Clone, Copy, Debug, PartialEq, Eq)]
+#[derive(Clone, Copy, PartialEq, Eq)]
 pub enum Action {
     /// To store the body as a file.
     Put,

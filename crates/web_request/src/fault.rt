@@ -4,41 +4,48 @@ ghost use Rattle.std.specs.Prelude.{◌≡◌};
 use crate::request::Resource;
 use path_names::PathFault;
 use std::alloc::AllocError;
-use thiserror::Error;
+use std::fmt;
 
 /// Why a request was refused. Of several faults the first in this order is given.
-#[derive(Clone, Copy, Debug, PartialEq, Eq, Error)]
+#[derive(Clone, Copy, PartialEq, Eq)]
 pub enum WebFault {
     /// The target begins neither with `/` nor with `http://`.
-    #[error("bad target")]
     BadTarget,
     /// The path is neither `/uri` nor does it begin with `/uri/`.
-    #[error("no such resource")]
     NoResource,
     /// The resource doesn't take the method.
-    #[error("method not allowed")]
     BadMethod(Resource),
     /// The query asks for nothing that there is.
-    #[error("bad query")]
     BadQuery,
     /// A `%` in the path without two hexadecimal digits behind it.
-    #[error("bad escape")]
     BadEscape,
     /// A segment of the path that is no UTF-8.
-    #[error("not utf-8")]
     NotUtf8,
     /// More than 64 names.
-    #[error("too many names")]
     TooManyNames,
     /// A name without a character.
-    #[error("empty name")]
     EmptyName,
     /// The first segment is no cap's text.
-    #[error("bad cap")]
     BadCap,
     /// Memory was refused.
-    #[error("out of memory")]
     NoMemory,
+}
+
+impl fmt::Display for WebFault {
+    fn fmt<W: fmt::Write>(&self, f: &mut fmt::Formatter<W>) -> fmt::Result {
+        f.write_str(match self {
+            WebFault::BadTarget => "bad target",
+            WebFault::NoResource => "no such resource",
+            WebFault::BadMethod(_) => "method not allowed",
+            WebFault::BadQuery => "bad query",
+            WebFault::BadEscape => "bad escape",
+            WebFault::NotUtf8 => "not utf-8",
+            WebFault::TooManyNames => "too many names",
+            WebFault::EmptyName => "empty name",
+            WebFault::BadCap => "bad cap",
+            WebFault::NoMemory => "out of memory",
+        })
+    }
 }
 
 impl From<PathFault> for WebFault {

@@ -5,7 +5,7 @@ use octets::Bytes;
 use std::marker::Model;
 
 /// The head of a request (RFC 9112, section 2.1): its method, its target as it was written, and its fields in order.
-#[derive(Debug, Drop)]
+#[derive(Drop)]
 pub struct Head {
     /// The method, as `GET`.
     pub method: Bytes,
@@ -16,7 +16,7 @@ pub struct Head {
 }
 
 /// A field: its name, and its value without the spaces and tabs around it (RFC 9110, section 5).
-#[derive(Debug, Drop)]
+#[derive(Drop)]
 pub struct Field {
     /// The name, in which case doesn't count.
     pub name: Bytes,
@@ -25,7 +25,7 @@ pub struct Field {
 }
 
 /// Fields in their order, which contracts see as a list.
-#[derive(Debug, Drop)]
+#[derive(Drop)]
 pub struct Fields {
     fields: Vec<Field>,
 }

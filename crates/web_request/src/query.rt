@@ -1,5 +1,6 @@
 //! The keys of a query that count.
-ghost use Rattle.std.specs.Prelude.{◌≡◌, codes, IfOk, if◌then◌else◌, Some, None};
+ghost use Rattle.std.specs.Prelude.{◌≡◌, codes, IfOk, OnOk, if◌then◌else◌, Some, None};
+ghost use Rattle.std.specs.Str.{bytes_eq};
 ghost use Rattle.web_request.specs.Queries.{pairs, first_of_key, first_of_both, query_of, value_in};
 
 use crate::target::{cut_at_question, origin_of};
@@ -8,7 +9,7 @@ use octets::Text;
 use std::alloc::{AllocError, Global};
 
 /// The first value of each key that counts.
-#[derive(Debug, Drop)]
+#[derive(Drop)]
 pub struct Query {
     /// What is asked for.
     pub t: Option<Text>,
@@ -22,32 +23,45 @@ pub struct Query {
 pub fn read_query(alloc: Global, query: &[u8]) -> Result<Query, AllocError>
     ensures { IfOk result (λ read. read ≡ query_of query.now) }
 {
-    let mut t = None;
-    let mut output = None;
-    let mut verify = None;
+    let mut read = Query {
+        t: None,
+        output: None,
+        verify: None,
+    };
     for pair in parse(alloc, query) {
         let (key, value) = pair?;
-        t = first_kept(alloc, t, key.as_str() == "t", value.as_str())?;
-        output = first_kept(alloc, output, key.as_str() == "output", value.as_str())?;
-        verify = first_kept(alloc, verify, key.as_str() == "verify", value.as_str())?;
+        keep_pair(alloc, &mut read, key.as_str(), value.as_str())?;
     }
-    Ok(Query { t, output, verify })
+    Ok(read)
 }
 
-/// What was kept before, or else the value where its key is the one.
-fn first_kept(
+/// Keeps the value where its key counts and none was kept before.
+fn keep_pair(alloc: Global, read: &mut Query, key: &str, value: &str) -> Result<(), AllocError>
+    ensures t { OnOk result (read.new.t ≡ first_of_both read.old.t
+        (if bytes_eq key.now (codes "t") then Some value.now else None)) }
+    ensures output { OnOk result (read.new.output ≡ first_of_both read.old.output
+        (if bytes_eq key.now (codes "output") then Some value.now else None)) }
+    ensures verify { OnOk result (read.new.verify ≡ first_of_both read.old.verify
+        (if bytes_eq key.now (codes "verify") then Some value.now else None)) }
+{
+    keep_first(alloc, &mut read.t, key == "t", value)?;
+    keep_first(alloc, &mut read.output, key == "output", value)?;
+    keep_first(alloc, &mut read.verify, key == "verify", value)
+}
+
+/// Keeps the value where its key is the one and none was kept before.
+fn keep_first(
     alloc: Global,
-    kept: Option<Text>,
+    kept: &mut Option<Text>,
     is_key: bool,
     value: &str,
-) -> Result<Option<Text>, AllocError>
-    ensures { IfOk result (λ new.
-        new ≡ first_of_both kept (if is_key then Some value.now else None)) }
+) -> Result<(), AllocError>
+    ensures { OnOk result (kept.new ≡ first_of_both kept.old (if is_key then Some value.now else None)) }
 {
     if is_key && kept.is_none() {
-        return Ok(Some(Text::from_string(String::from_str(alloc, value)?)));
+        *kept = Some(Text::from_string(String::from_str(alloc, value)?));
     }
-    Ok(kept)
+    Ok(())
 }
 
 /// The first value of a key in the query of a target, as a text (URL Standard, section 5), `None` where it has none.

@@ -5,7 +5,7 @@ use octets::Bytes;
 use path_names::Names;
 
 /// What a request asks for.
-#[derive(Debug, Drop)]
+#[derive(Drop)]
 pub enum Request {
     /// To store these bytes as a file.
     Put(Bytes),
@@ -36,7 +36,7 @@ pub enum Request {
 }
 
 /// What the path of a target names.
-#[derive(Clone, Copy, Debug, PartialEq, Eq)]
+#[derive(Clone, Copy, PartialEq, Eq)]
 pub enum Resource {
     /// `/uri`, which takes PUT and POST.
     Uploads,

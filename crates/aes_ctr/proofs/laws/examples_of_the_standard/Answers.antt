@@ -1,15 +1,27 @@
-use Rattle.std.proofs.Common.{refl}
+use Rattle.std.proofs.Common.{◌≡◌, [], ◌∷◌, refl, ◌∙◌}
 use Rattle.aes_ctr.specs.Field.{times, times_bits, times_x}
-use Rattle.aes_ctr.specs.SBox.{s_box, inverse, affine, affine_bit}
-use Rattle.aes_ctr.specs.Rounds.{sub_bytes, shift_rows, mix_columns, mixed, add_round_key}
-use Rattle.aes_ctr.specs.KeyExpansion.{round_key, next_round_key, next_cell, turned_column, x_power}
-use Rattle.aes_ctr.specs.Cipher.{encrypt, after_rounds}
+use Rattle.aes_ctr.specs.Rounds.{shift_rows, mix_columns, mixed, add_round_key}
+use Rattle.aes_ctr.specs.KeyExpansion.{x_power}
+use Rattle.aes_ctr.proofs.TableLemmas.{s_box_values}
+use Rattle.aes_ctr.proofs.Examples.{sub_by, turned_by, cell_by, key_by, rounds_by, encrypt_by, entry, by_entries}
 use Rattle.aes_ctr.proofs.laws.examples_of_the_standard.Goals as goal
 
+computed_b : encrypt_by entry
+    (0x2b ∷ 0x7e ∷ 0x15 ∷ 0x16 ∷ 0x28 ∷ 0xae ∷ 0xd2 ∷ 0xa6 ∷ 0xab ∷ 0xf7 ∷ 0x15 ∷ 0x88 ∷ 0x09 ∷ 0xcf ∷ 0x4f ∷ 0x3c ∷ [])
+    (0x32 ∷ 0x43 ∷ 0xf6 ∷ 0xa8 ∷ 0x88 ∷ 0x5a ∷ 0x30 ∷ 0x8d ∷ 0x31 ∷ 0x31 ∷ 0x98 ∷ 0xa2 ∷ 0xe0 ∷ 0x37 ∷ 0x07 ∷ 0x34 ∷ [])
+    ≡ 0x39 ∷ 0x25 ∷ 0x84 ∷ 0x1d ∷ 0x02 ∷ 0xdc ∷ 0x09 ∷ 0xfb ∷ 0xdc ∷ 0x11 ∷ 0x85 ∷ 0x97 ∷ 0x19 ∷ 0x6a ∷ 0x0b ∷ 0x32 ∷ []
+unfolding times times_bits times_x mix_columns mixed shift_rows add_round_key x_power sub_by turned_by cell_by key_by rounds_by encrypt_by entry s_box_values
+computed_b = refl
+
+computed_c : encrypt_by entry
+    (0x00 ∷ 0x01 ∷ 0x02 ∷ 0x03 ∷ 0x04 ∷ 0x05 ∷ 0x06 ∷ 0x07 ∷ 0x08 ∷ 0x09 ∷ 0x0a ∷ 0x0b ∷ 0x0c ∷ 0x0d ∷ 0x0e ∷ 0x0f ∷ [])
+    (0x00 ∷ 0x11 ∷ 0x22 ∷ 0x33 ∷ 0x44 ∷ 0x55 ∷ 0x66 ∷ 0x77 ∷ 0x88 ∷ 0x99 ∷ 0xaa ∷ 0xbb ∷ 0xcc ∷ 0xdd ∷ 0xee ∷ 0xff ∷ [])
+    ≡ 0x69 ∷ 0xc4 ∷ 0xe0 ∷ 0xd8 ∷ 0x6a ∷ 0x7b ∷ 0x04 ∷ 0x30 ∷ 0xd8 ∷ 0xcd ∷ 0xb7 ∷ 0x80 ∷ 0x70 ∷ 0xb4 ∷ 0xc5 ∷ 0x5a ∷ []
+unfolding times times_bits times_x mix_columns mixed shift_rows add_round_key x_power sub_by turned_by cell_by key_by rounds_by encrypt_by entry s_box_values
+computed_c = refl
+
 pub returns-clause-appendix_b : goal.returns-clause-appendix_b
-unfolding times times_bits times_x s_box inverse affine affine_bit sub_bytes shift_rows mix_columns mixed add_round_key round_key next_round_key next_cell turned_column x_power encrypt after_rounds
-returns-clause-appendix_b c = refl
+returns-clause-appendix_b c = by_entries _ _ ∙ computed_b
 
 pub returns-clause-appendix_c : goal.returns-clause-appendix_c
-unfolding times times_bits times_x s_box inverse affine affine_bit sub_bytes shift_rows mix_columns mixed add_round_key round_key next_round_key next_cell turned_column x_power encrypt after_rounds
-returns-clause-appendix_c c = refl
+returns-clause-appendix_c c = by_entries _ _ ∙ computed_c

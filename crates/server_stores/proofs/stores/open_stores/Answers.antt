@@ -6,13 +6,13 @@ use Rattle.server_options.specs.declared.store_names.RedisPlace.{RedisPlace}
 use Rattle.server_options.specs.declared.store_names.StoreWanted.{StoreWanted}
 use Rattle.server_options.specs.declared.store_names.StoreWanted.TheVariants.{Memory}
 use Rattle.share_store.specs.declared.fail_at.FailAt.{FailAt}
-use Rattle.server_stores.specs.declared.either_store.EitherStore.{EitherStore}
+use Rattle.server_stores.specs.declared.any_store.AnyStore.{AnyStore}
 use Rattle.server_stores.specs.Kinds.{AreOfKinds, IsOfKind, IsOneMore}
 use Rattle.server_stores.proofs.stores.open_stores.Goals as goal
 
 -- the stores that are wanted, and one more
-grown : {M F D N S : Type 0} (IsOpened : ℕ → RedisPlace → N → Type 0) (server : ℕ) (wanted : List StoreWanted) (stores : List (EitherStore M (EitherStore F (EitherStore D (EitherStore N (EitherStore S FailAt))))))
-    (one : StoreWanted) (store : EitherStore M (EitherStore F (EitherStore D (EitherStore N (EitherStore S FailAt))))) → AreOfKinds server wanted stores IsOpened
+grown : {M F D N S : Type 0} (IsOpened : ℕ → RedisPlace → N → Type 0) (server : ℕ) (wanted : List StoreWanted) (stores : List (AnyStore M F D N S FailAt))
+    (one : StoreWanted) (store : AnyStore M F D N S FailAt) → AreOfKinds server wanted stores IsOpened
     → IsOfKind one store (IsOpened (server + length stores)) → AreOfKinds server (wanted ++ one ∷ []) (stores ++ store ∷ []) IsOpened
 grown IsOpened server [] [] one store are is = (subst (λ (n : ℕ). IsOfKind one store (IsOpened n)) (add-zero server) is, refl)
 grown IsOpened server [] (last ∷ stores) one store are is = absurd (cc are)
@@ -24,7 +24,7 @@ grown IsOpened server (next ∷ wanted) (last ∷ stores) one store are is = (
 )
 
 -- a turn of the loop
-one_more : {M F D N S : Type 0} (IsOpened : ℕ → RedisPlace → N → Type 0) (wanted : List StoreWanted) (before after : List (EitherStore M (EitherStore F (EitherStore D (EitherStore N (EitherStore S FailAt))))))
+one_more : {M F D N S : Type 0} (IsOpened : ℕ → RedisPlace → N → Type 0) (wanted : List StoreWanted) (before after : List (AnyStore M F D N S FailAt))
     (i place : ℕ) → length before ≡ i → AreOfKinds 0 (take i wanted) before IsOpened → i < length wanted → place ≡ length before
     → IsOneMore before after (λ store. IsOfKind (get_or wanted i (Memory 0)) store (IsOpened place))
     → (length after ≡ i + 1) × AreOfKinds 0 (take (i + 1) wanted) after IsOpened
@@ -37,13 +37,13 @@ one_more {M} {F} {D} {N} {S} IsOpened wanted before after i place long are below
     let taken : take (i + 1) wanted ≡ take i wanted ++ one ∷ [] = ap (λ n. take n wanted) (add-one i) ∙ take-suc wanted i (Memory 0) below in
     let longer : length (before ++ store ∷ []) ≡ i + 1 = length-append before (store ∷ []) ∙ ap (λ n. n + 1) long in (
       ap length items ∙ longer,
-      subst (λ (ss : List (EitherStore M (EitherStore F (EitherStore D (EitherStore N (EitherStore S FailAt)))))). AreOfKinds 0 (take (i + 1) wanted) ss IsOpened) (sym items)
+      subst (λ (ss : List (AnyStore M F D N S FailAt)). AreOfKinds 0 (take (i + 1) wanted) ss IsOpened) (sym items)
           (subst (λ (ws : List StoreWanted). AreOfKinds 0 ws (before ++ store ∷ []) IsOpened) (sym taken)
           (grown IsOpened 0 (take i wanted) before one store are is)),
     )
 
 -- at the end of the loop
-all_opened : {M F D N S : Type 0} (IsOpened : ℕ → RedisPlace → N → Type 0) (wanted items : List StoreWanted) (stores : List (EitherStore M (EitherStore F (EitherStore D (EitherStore N (EitherStore S FailAt))))))
+all_opened : {M F D N S : Type 0} (IsOpened : ℕ → RedisPlace → N → Type 0) (wanted items : List StoreWanted) (stores : List (AnyStore M F D N S FailAt))
     (i : ℕ) → items ≡ wanted → length items ≤ i → AreOfKinds 0 (take i items) stores IsOpened → AreOfKinds 0 wanted stores IsOpened
 all_opened IsOpened wanted items stores i same end are =
     subst (λ (ws : List StoreWanted). AreOfKinds 0 ws stores IsOpened) (take_all i items end ∙ same) are

@@ -1,4 +1,4 @@
-use Rattle.std.proofs.Common.{rules, ◌≡◌, ℕ, slice_index, ap, sym, ◌∙◌, arith, refl, w32}
+use Rattle.std.proofs.Common.{rules, ◌≡◌, slice_index, ap, sym, ◌∙◌, arith, refl, w32}
 use Rattle.std.proofs.lemmas.List.{take_all}
 use Rattle.std.proofs.lemmas.Slice.{overwrites}
 use Rattle.std.specs.Int.{to_be_bytes}

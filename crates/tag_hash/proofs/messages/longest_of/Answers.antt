@@ -1,4 +1,4 @@
-use Rattle.std.proofs.Common.{◌<◌, ◌≤◌, arith, below_more}
+use Rattle.std.proofs.Common.{arith, below_more}
 use Rattle.tag_hash.proofs.messages.longest_of.Goals as goal
 
 pub loop-j-preserved : goal.loop-j-preserved

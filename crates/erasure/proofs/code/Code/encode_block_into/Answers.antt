@@ -1,8 +1,9 @@
 use Rattle.std.proofs.Common.{◌≡◌, ◌++◌, ℕ, List, [], Bor, Result, length, take, drop, get_or, slice_index_or, ◌<◌, ◌≤◌, OnOk, sym, ap, ◌∙◌, subst, arith}
+use Rattle.std.proofs.lemmas.List.{length-take-le}
 use Rattle.std.proofs.lemmas.Result.{on_ok_weaker}
 use Rattle.std.proofs.Math.Seq.{drop-append_seam}
 use Rattle.erasure.specs.Code.{AreBytes, AreBlocks, IsBlock}
-use Rattle.erasure.specs.Blocks.{size_of, block_through, first_places, block_of}
+use Rattle.erasure.specs.Blocks.{size_of, block_through, first_places, block_of, AreInverses}
 use Rattle.erasure.specs.Given.{contents_of, HaveOneLength}
 use Rattle.erasure.proofs.Combining.{none, content_at, length-contents_of}
 use Rattle.erasure.proofs.Coding.{block_of_is_block}
@@ -61,3 +62,41 @@ returns-clause-code c =
     let long = length-contents_of c.args.primary.now in
     coded (contents_of c.args.primary.now) c.args.i c.args.bytes.now.items c.push_block_at.new.bytes.items c.push_block_at.result
     (omega (arith, c.requires.count, k, c.self.invariant)) (omega (arith, c.requires.count, k, c.self.invariant)) (made c)
+
+pub returns-then-i-self-clause-refused : goal.returns-then-i-self-clause-refused
+returns-then-i-self-clause-refused c = c.push_copy.ensures.refused
+
+pub bounds-primary-i : goal.bounds-primary-i
+bounds-primary-i c =
+    let k : c.self.inside.k ≡ c.args.self.now.k = ap (λ s. s.k) c.self.view_is in
+    omega (arith, c.requires.count, k)
+
+pub place-requires : goal.place-requires
+place-requires c =
+    let n : c.self.inside.n ≡ c.args.self.now.n = ap (λ s. s.n) c.self.view_is in
+    omega (arith, c.requires.number, n, c.self.invariant)
+
+pub push_block_at-requires-clause-some : goal.push_block_at-requires-clause-some
+push_block_at-requires-clause-some c =
+    let k : c.self.inside.k ≡ c.args.self.now.k = ap (λ s. s.k) c.self.view_is in
+    omega (arith, c.requires.count, k, c.self.invariant)
+
+-- as many places as primary blocks
+many : (c : goal.After-push_block_at-arg-1) → length (take c.self.inside.k c.self.inside.places) ≡ c.self.inside.k
+many c = length-take-le c.self.inside.k c.self.inside.places (omega (arith, c.self.told.0, c.self.invariant))
+
+pub push_block_at-requires-clause-few : goal.push_block_at-requires-clause-few
+push_block_at-requires-clause-few c = omega (arith, many c, c.self.invariant)
+
+pub push_block_at-requires-clause-as_many : goal.push_block_at-requires-clause-as_many
+push_block_at-requires-clause-as_many c = many c ∙ ap (λ s. s.k) c.self.view_is ∙ sym c.requires.count
+
+pub push_block_at-requires-clause-inverses : goal.push_block_at-requires-clause-inverses
+push_block_at-requires-clause-inverses c =
+    subst (λ (places : List ℕ). AreInverses places c.self.inside.inverses) (sym c.self.invariant.1) c.self.invariant.2
+
+pub push_block_at-requires-clause-one_length : goal.push_block_at-requires-clause-one_length
+push_block_at-requires-clause-one_length c = c.requires.one_length
+
+pub returns-clause-refused : goal.returns-clause-refused
+returns-clause-refused c = c.push_block_at.ensures.refused

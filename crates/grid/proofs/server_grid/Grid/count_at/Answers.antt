@@ -63,3 +63,12 @@ returns-in-None-clause-found g c all =
     let es = entries_at (maps_of c.args.self.now) c.args.server in
     let none : None ≡ slice_get es c.loop-at.at = sym (ap (option_map entry_of) c.in-None.is) ∙ c.in_ok-share_at.ensures.found (inv.leaves.honest all) ∙ ap (λ maps. slice_get (entries_at maps c.args.server) c.loop-at.at) (inv.unchanged all).maps in
     omega (arith, past_end es c.loop-at.at none, inv.stand all)
+
+pub returns-in_err-share_at-clause-unchanged : goal.returns-in_err-share_at-clause-unchanged
+returns-in_err-share_at-clause-unchanged g c = unchanged_then c.loop-at.invariant.leaves c.loop-at.invariant.unchanged c.in_err-share_at.ensures.unchanged
+
+pub returns-in-None-clause-leaves : goal.returns-in-None-clause-leaves
+returns-in-None-clause-leaves g c = leaves_both c.args.self.now c.loop-at.self c.share_at.new.self c.loop-at.invariant.leaves c.in_ok-share_at.ensures.leaves
+
+pub returns-in-None-clause-unchanged : goal.returns-in-None-clause-unchanged
+returns-in-None-clause-unchanged g c = unchanged_then c.loop-at.invariant.leaves c.loop-at.invariant.unchanged c.in_ok-share_at.ensures.unchanged

@@ -67,3 +67,12 @@ loop-server-init g c = record {
   told = tell_on_none c.args.self.now;
   counted = λ all. refl;
 }
+
+pub returns-in_err-here-clause-unchanged : goal.returns-in_err-here-clause-unchanged
+returns-in_err-here-clause-unchanged g c = unchanged_then c.loop-server.invariant.leaves c.loop-server.invariant.unchanged c.in_err-here.ensures.unchanged
+
+pub returns-in_default-clause-leaves : goal.returns-in_default-clause-leaves
+returns-in_default-clause-leaves g c = leaves_both c.args.self.now c.loop-server.self c.count_at.new.self c.loop-server.invariant.leaves c.in_ok-here.ensures.leaves
+
+pub returns-in_default-clause-unchanged : goal.returns-in_default-clause-unchanged
+returns-in_default-clause-unchanged g c = unchanged_then c.loop-server.invariant.leaves c.loop-server.invariant.unchanged c.in_ok-here.ensures.unchanged

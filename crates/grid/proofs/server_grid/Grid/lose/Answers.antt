@@ -1,12 +1,20 @@
-use Rattle.std.proofs.Common.{None, map, ap, sym, subst}
-use Rattle.std.proofs.lemmas.Result.{on_ok_weaker}
+use Rattle.std.proofs.Common.{None, map, ap, sym, subst, List, length, ◌≡◌, ◌≤◌, refl, IfOk}
+use Rattle.std.proofs.lemmas.Result.{on_ok_weaker, on_err_weaker}
 use Rattle.grid.specs.Standing.{standing}
-use Rattle.grid.specs.GridState.{GridState, IsHonest}
+use Rattle.grid.specs.GridState.{GridState, IsHonest, StoreState, stood}
 use Rattle.grid.specs.Changes.{without}
-use Rattle.grid.proofs.Raising.{leaves_raised, lost_raised, told_raised, change_stamped}
+use Rattle.grid.proofs.Raising.{leaves_raised, lost_raised, told_raised, change_stamped, held_raised}
 use Rattle.grid.specs.Views.{TellOn}
 use Rattle.grid.proofs.Views.{tell_on_none, tell_on_raised}
 use Rattle.grid.proofs.server_grid.Grid.lose.Goals as goal
+use Rattle.std.specs.Prelude.{◌↔◌, IsErrOf, is_some}
+use Rattle.grid.specs.declared.fault.GridFault.TheVariants.{NoServer}
+use Rattle.grid.specs.Leaves.{Leaves}
+use Rattle.grid.specs.Stamped.{IsStamped}
+use Rattle.grid.specs.Histories.{TellsOfChange}
+use Rattle.grid.proofs.Histories.{tells_none}
+use Rattle.grid.proofs.Turns.{leaves_none, stamped_none}
+use Rattle.grid.proofs.Downs.{down_raised}
 
 pub returns-clause-ok : goal.returns-clause-ok
 returns-clause-ok g c all =
@@ -33,3 +41,38 @@ returns-in_err-raise-clause-told g c = subst (TellOn c.args.self.now) (sym c.in_
 
 pub returns-clause-leaves : goal.returns-clause-leaves
 returns-clause-leaves g c = leaves_raised c.args.self.now c.raise.new.self c.lose_at.new.self (ap (λ (g : GridState). g.stores) c.in_ok-raise.ensures.ok) c.lose_at.ensures.leaves
+
+pub returns-clause-err : goal.returns-clause-err
+returns-clause-err g c all =
+    let is = c.in_ok-raise.ensures.ok in
+    on_err_weaker c.lose_at.result (held_raised c.lose_at.new.self c.args.index is) (c.lose_at.ensures.err (subst IsHonest (sym is) all))
+
+pub returns-clause-lost : goal.returns-clause-lost
+returns-clause-lost g c all =
+    let is = c.in_ok-raise.ensures.ok in
+    subst (λ (g : GridState). IfOk c.lose_at.result (λ lost. lost ≡ is_some (stood g c.args.server (c.args.index, c.args.number)))) is (c.lose_at.ensures.lost (subst IsHonest (sym is) all))
+
+pub returns-clause-no_server : goal.returns-clause-no_server
+returns-clause-no_server g c =
+    subst (λ (ts : List StoreState). IsErrOf c.lose_at.result NoServer ↔ (length ts ≤ c.args.server)) (ap (λ (g : GridState). g.stores) c.in_ok-raise.ensures.ok) c.lose_at.ensures.no_server
+
+pub returns-clause-down : goal.returns-clause-down
+returns-clause-down g c = down_raised c.args.self.now c.raise.new.self c.lose_at.new.self c.lose_at.result (ap (λ (g : GridState). g.stores) c.in_ok-raise.ensures.ok) c.lose_at.ensures.down
+
+pub returns-then-server-len-clause-leaves : goal.returns-then-server-len-clause-leaves
+returns-then-server-len-clause-leaves g c = leaves_none c.args.self.now
+
+pub returns-then-server-len-clause-stamped : goal.returns-then-server-len-clause-stamped
+returns-then-server-len-clause-stamped g c = stamped_none c.args.self.now
+
+pub returns-then-server-len-clause-history : goal.returns-then-server-len-clause-history
+returns-then-server-len-clause-history g c all = tells_none (without c.args.server (c.args.index, c.args.number) (stood c.args.self.now)) c.args.self.now c.args.self.now refl
+
+pub returns-in_err-raise-clause-leaves : goal.returns-in_err-raise-clause-leaves
+returns-in_err-raise-clause-leaves g c = subst (Leaves c.args.self.now) (sym c.in_err-raise.ensures.err) (leaves_none c.args.self.now)
+
+pub returns-in_err-raise-clause-stamped : goal.returns-in_err-raise-clause-stamped
+returns-in_err-raise-clause-stamped g c = subst (IsStamped c.args.self.now) (sym c.in_err-raise.ensures.err) (stamped_none c.args.self.now)
+
+pub returns-in_err-raise-clause-history : goal.returns-in_err-raise-clause-history
+returns-in_err-raise-clause-history g c all = subst (λ (n : GridState). TellsOfChange (without c.args.server (c.args.index, c.args.number) (stood c.args.self.now)) c.args.self.now n) (sym c.in_err-raise.ensures.err) (tells_none (without c.args.server (c.args.index, c.args.number) (stood c.args.self.now)) c.args.self.now c.args.self.now refl)

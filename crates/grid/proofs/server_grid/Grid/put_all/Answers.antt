@@ -1,4 +1,4 @@
-use Rattle.std.proofs.Common.{◌∙◌, ◌≡◌, ◌<◌, sym, ap, subst, map, take, length, List, get_or, [], arith}
+use Rattle.std.proofs.Common.{◌∙◌, ◌≡◌, ◌<◌, sym, ap, subst, map, take, length, List, get_or, [], arith, refl}
 use Rattle.std.proofs.lemmas.List.{length-map}
 use Rattle.std.proofs.lemmas.Option.{slice_get-get_or}
 use Rattle.std.proofs.lemmas.Result.{on_ok_weaker}
@@ -7,13 +7,20 @@ use Rattle.grid.specs.declared.fault.GridFault.TheVariants.{NoMemory}
 use Rattle.grid.specs.Standing.{standing}
 use Rattle.grid.specs.GridState.{GridState, StoreState, stood, IsHonest}
 use Rattle.grid.specs.Changed.{ArePut, PutStopsAt}
+use Rattle.grid.specs.NewBytes.{HasRoom}
 use Rattle.grid.proofs.Puts.{put_none, passed_on}
 use Rattle.grid.specs.Placement.{placed, server_of}
-use Rattle.grid.proofs.Raising.{SameBut, none_there, put_raised, stops_raised, told_raised, raise_stamped, same_but_placed, by_fault, if_err_weaker}
+use Rattle.grid.proofs.Raising.{SameBut, none_there, put_raised, stops_raised, told_raised, raise_stamped, same_but_placed, by_fault, if_err_weaker, leaves_raised}
 use Rattle.grid.specs.Views.{AllTell, SomeStood, TellOn}
 use Rattle.grid.proofs.SomeStood.{stood_raised}
 use Rattle.grid.proofs.Views.{tell_on_none, tell_on_raised}
 use Rattle.grid.proofs.server_grid.Grid.put_all.Goals as goal
+use Rattle.grid.specs.Leaves.{Leaves}
+use Rattle.grid.specs.Stamped.{IsStamped}
+use Rattle.grid.specs.Histories.{TellsOfChange}
+use Rattle.grid.proofs.Histories.{tells_none}
+use Rattle.grid.proofs.Turns.{leaves_none, stamped_none}
+use Rattle.grid.proofs.Downs.{down_raised}
 
 pub returns-then-shares-eq0-clause-ok : goal.returns-then-shares-eq0-clause-ok
 returns-then-shares-eq0-clause-ok g c all =
@@ -89,3 +96,32 @@ returns-clause-stood g c all =
 
 pub returns-then-shares-eq0-clause-stood : goal.returns-then-shares-eq0-clause-stood
 returns-then-shares-eq0-clause-stood g c all i lt = absurd (omega arith)
+
+pub returns-clause-leaves : goal.returns-clause-leaves
+returns-clause-leaves g c = leaves_raised c.args.self.now c.raise.new.self c.put_each.new.self (ap (λ (g : GridState). g.stores) c.in_ok-raise.ensures.ok) c.put_each.ensures.leaves
+
+pub returns-clause-down : goal.returns-clause-down
+returns-clause-down g c = down_raised c.args.self.now c.raise.new.self c.put_each.new.self c.put_each.result (ap (λ (g : GridState). g.stores) c.in_ok-raise.ensures.ok) c.put_each.ensures.down
+
+pub returns-clause-never_full : goal.returns-clause-never_full
+returns-clause-never_full g c all room =
+    let is = c.in_ok-raise.ensures.ok in
+    c.put_each.ensures.never_full (subst IsHonest (sym is) all) (subst (λ (g : GridState). HasRoom g c.args.index (map rc_slice_items c.args.shares.now)) (sym is) room)
+
+pub returns-then-shares-eq0-clause-leaves : goal.returns-then-shares-eq0-clause-leaves
+returns-then-shares-eq0-clause-leaves g c = leaves_none c.args.self.now
+
+pub returns-then-shares-eq0-clause-stamped : goal.returns-then-shares-eq0-clause-stamped
+returns-then-shares-eq0-clause-stamped g c = stamped_none c.args.self.now
+
+pub returns-then-shares-eq0-clause-history : goal.returns-then-shares-eq0-clause-history
+returns-then-shares-eq0-clause-history g c all = tells_none (placed (length c.args.self.now.stores) c.args.index (map rc_slice_items c.args.shares.now) (stood c.args.self.now)) c.args.self.now c.args.self.now refl
+
+pub returns-in_err-raise-clause-leaves : goal.returns-in_err-raise-clause-leaves
+returns-in_err-raise-clause-leaves g c = subst (Leaves c.args.self.now) (sym c.in_err-raise.ensures.err) (leaves_none c.args.self.now)
+
+pub returns-in_err-raise-clause-stamped : goal.returns-in_err-raise-clause-stamped
+returns-in_err-raise-clause-stamped g c = subst (IsStamped c.args.self.now) (sym c.in_err-raise.ensures.err) (stamped_none c.args.self.now)
+
+pub returns-in_err-raise-clause-history : goal.returns-in_err-raise-clause-history
+returns-in_err-raise-clause-history g c all = subst (λ (n : GridState). TellsOfChange (placed (length c.args.self.now.stores) c.args.index (map rc_slice_items c.args.shares.now) (stood c.args.self.now)) c.args.self.now n) (sym c.in_err-raise.ensures.err) (tells_none (placed (length c.args.self.now.stores) c.args.index (map rc_slice_items c.args.shares.now) (stood c.args.self.now)) c.args.self.now c.args.self.now refl)

@@ -14,7 +14,7 @@ use Rattle.grid.proofs.Calls.{some_at}
 use Rattle.grid.proofs.ImageWrites.{on_err, passed_cause, place_in_fields, stopped_before, stopped_behind}
 use Rattle.grid.proofs.RowFacts.{can_be_written}
 use Rattle.grid.proofs.RowsWritten.{image_written, image_fits}
-use Rattle.grid.proofs.Turns.{leaves_both}
+use Rattle.grid.proofs.Turns.{leaves_both, unchanged_then}
 use Rattle.grid.proofs.Views.{tell_on_both, still_both}
 use Rattle.grid.proofs.server_grid.Grid.write_image.Given.{Over}
 use Rattle.grid.proofs.server_grid.Grid.write_image.Goals as goal
@@ -130,3 +130,17 @@ returns-in_err-write_rows-clause-stand_still g c = still_both c.args.self.now c.
 
 pub returns-in_err-write_rows-clause-told : goal.returns-in_err-write_rows-clause-told
 returns-in_err-write_rows-clause-told g c = tell_on_both c.args.self.now c.count_shares.new.self c.write_rows.new.self c.in_ok-shares.ensures.told c.in_err-write_rows.ensures.told
+
+pub returns-clause-unchanged : goal.returns-clause-unchanged
+returns-clause-unchanged g c = unchanged_then c.in_ok-shares.ensures.leaves c.in_ok-shares.ensures.unchanged c.in_ok-write_rows.ensures.unchanged
+
+pub returns-then-progress-gt0-clause-unchanged : goal.returns-then-progress-gt0-clause-unchanged
+returns-then-progress-gt0-clause-unchanged g c = unchanged_then c.in_ok-shares.ensures.leaves c.in_ok-shares.ensures.unchanged c.in_ok-write_rows.ensures.unchanged
+
+pub returns-in_err-write_rows-clause-unchanged : goal.returns-in_err-write_rows-clause-unchanged
+returns-in_err-write_rows-clause-unchanged g c = unchanged_then c.in_ok-shares.ensures.leaves c.in_ok-shares.ensures.unchanged c.in_err-write_rows.ensures.unchanged
+
+pub returns-then-progress-gt0-clause-err : goal.returns-then-progress-gt0-clause-err
+returns-then-progress-gt0-clause-err g c all =
+    let is = c.in_ok-write_rows.ensures.ok.2 (c.in_ok-shares.ensures.leaves.honest all) ∙ ap rows_of (c.in_ok-shares.ensures.unchanged all).maps in
+    absurd (omega (arith, c.in_ok-write_rows.ensures.ok.1.counted, c.in_ok-shares.ensures.found all, ap length is))

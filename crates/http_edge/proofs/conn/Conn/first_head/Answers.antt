@@ -1,5 +1,5 @@
-use Rattle.std.proofs.Common.{◌≡◌, ℕ, List, sym, ap, subst, ◌∙◌}
-use Rattle.http_edge.specs.FirstHead.{HasHeadFirst, HasNoHeadFirst}
+use Rattle.std.proofs.Common.{◌≡◌, sym, ap, subst, ◌∙◌}
+use Rattle.http_edge.specs.FirstHead.{HasNoHeadFirst}
 use Rattle.http_edge.specs.FramingState.{FramingState, part_of, frame_from}
 use Rattle.http_edge.specs.State.{left_of}
 use Rattle.http_edge.proofs.NoHead.{where_none}

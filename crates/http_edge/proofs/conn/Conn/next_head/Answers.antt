@@ -1,4 +1,4 @@
-use Rattle.std.proofs.Common.{◌≡◌, List, sym, ap, subst, ◌∙◌}
+use Rattle.std.proofs.Common.{List, ap, subst, ◌∙◌}
 use Rattle.std.specs.Prelude.{IfOk, MatchOption}
 use Rattle.http_edge.specs.FirstHead.{HasHeadFirst, HasNoHeadFirst}
 use Rattle.http_edge.specs.FramingState.{FramingState, frame_from}

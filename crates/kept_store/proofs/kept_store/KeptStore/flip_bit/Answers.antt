@@ -1,5 +1,4 @@
 use Rattle.std.proofs.Common.{◌≡◌, ◌<◌, ℕ, Some, length, refl, sym, ap, ◌∙◌, List, arith}
-use Rattle.std.proofs.lemmas.Bool.Decides.{nat_tests}
 use Rattle.std.specs.Option.{option_map}
 use Rattle.std.specs.FinMap.{get, insert}
 use Rattle.std.specs.Rc.{rc_slice_items}
@@ -19,7 +18,7 @@ through g c same =
     let b : List ℕ = rc_slice_items c.in_ok-lent.lent in
     let found : get (shares_in_memory c.args.self.now) (c.args.index, c.args.number) ≡ Some was = sym (c.in_ok-bytes.ensures.found refl refl) ∙ ap (option_map rc_slice_items) c.in-Some.is in
     let is : b ≡ toggled was c.args.place = c.in_ok-lent.ensures.cases ∙ c.in_ok-changed.ensures ∙ ap (λ l. toggled l c.args.place) c.as_slice.ensures.value in
-    let lt : c.args.place < length was = grind (arith, nat_tests) in
+    let lt : c.args.place < length was = omega (arith, c.len.ensures, c.if-place-len.false) in
     told c.put.new.self (λ (m : Shares). insert m (c.args.index, c.args.number) b) c.if-self.false same (toggles_as (shares_in_memory c.args.self.now) (c.args.index, c.args.number) c.args.place was b found lt is)
     c.put.ensures.honest c.put.ensures.crash c.put.ensures.history
 

@@ -1,0 +1,9 @@
+//! Tests of small crates over their public calls: JSON values built by their tokens, files of options, and the words of
+//! the client.
+
+/// JSON values, built and written step by step.
+mod json_values;
+/// Files of options.
+mod option_files;
+/// The words of `woz`.
+mod client_words;
