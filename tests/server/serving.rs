@@ -11,9 +11,10 @@ use server_options::{
 };
 use server_stores::difference::Difference;
 use server_stores::folders::{Found, Opening, look, open_folder, open_on_disk};
-use server_stores::places::missing_places;
-use server_stores::{ProgramFault, check, handles};
+use server_stores::{ProgramFault, handles};
 use share_store::Store;
+use store_care::check;
+use store_care::places::missing_places;
 use std::alloc::Global;
 use std::rc::RcSlice;
 use std::test::Fail;

@@ -2,9 +2,7 @@
 pub mod Differences
 pub mod Kinds
 pub mod Opened
-pub mod Places
 pub mod Prefix
 pub mod Shared
 pub mod FolderLook
 pub mod Status
-pub mod Tally

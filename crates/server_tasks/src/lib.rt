@@ -28,7 +28,7 @@ use server_gateway::{
     read_commit, words_of_file,
 };
 use server_options::{Options, Refusal, Task, read_words};
-use server_stores::{ProgramFault, check, repair, reshape, restore, write_image};
+use server_stores::ProgramFault;
 use share_store::Store;
 use std::env;
 use std::fs::File;
@@ -38,6 +38,7 @@ use std::os::fd::AsRawFd;
 use std::random::RandomSource;
 use std::rt::{Env, Files};
 use std::time::{Clock, CpuClock, Duration};
+use store_care::{check, repair, reshape, restore, write_image};
 
 /// How many bytes of replies the system may buffer of a connection; Linux takes twice that for its own records too.
 const BUFFERED: i32 = 131_072;

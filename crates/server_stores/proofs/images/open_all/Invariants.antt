@@ -1,6 +1,0 @@
-use Rattle.std.proofs.Common.{◌≡◌, vec_len}
-use Rattle.server_stores.proofs.images.open_all.Given as goal
-
--- a store was opened for each place before this one
-abbrev pub invariant-loop-place : goal.invariant-loop-place
-invariant-loop-place g l = vec_len l.stores ≡ l.place

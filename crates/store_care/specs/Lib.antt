@@ -1,0 +1,3 @@
+-- Independent of each other.
+pub mod Places
+pub mod Tally
