@@ -13,7 +13,7 @@ use Rattle.caps.specs.CapTexts.{IsCapText, cap_text}
 use Rattle.caps.specs.Reading.{cap_reading}
 use Rattle.caps.specs.declared.cap.Cap.{Cap}
 use Rattle.dir_codec.specs.Names.{is_name}
-use Rattle.dir_codec.specs.Metadata.{json_of}
+use Rattle.json_spelling.specs.Metadata.{json_of}
 use Rattle.dir_codec.specs.Children.{nfc_text}
 use Rattle.dir_codec.specs.Entries.{IsEntry, AreEntriesAbove, IsDirectory}
 use Rattle.dir_codec.specs.MadeOf.{members_listed, HasUri, IsEntryOf, RiseAbove, AreMadeOf}

@@ -8,13 +8,13 @@ use Rattle.serde_json.specs.Find.{get_member, as_str, as_object}
 use Rattle.serde_json.specs.Read.{read}
 use Rattle.serde_json.specs.Written.{has_float}
 use Rattle.serde_json.proofs.Views.{get_member-put, get_member-put_other}
-use Rattle.dir_codec.specs.Metadata.{is_whole, spelling_of}
+use Rattle.json_spelling.specs.Metadata.{is_whole, spelling_of}
 use Rattle.dir_codec.specs.Children.{gives_write}
 use Rattle.dir_codec.specs.Kept.{IsField, IsFieldAt, IsTextField, IsTextFieldAt}
 use Rattle.dir_codec.specs.declared.fields.Field.{Field}
-use Rattle.dir_codec.specs.declared.spelling.Spelled.{Spelled}
-use Rattle.dir_codec.proofs.Json.{good_metadata, not_true, spells_itself}
-use Rattle.dir_codec.proofs.Printed.{printed}
+use Rattle.json_spelling.specs.declared.spelling.Spelled.{Spelled}
+use Rattle.json_spelling.proofs.Json.{good_metadata, not_true, spells_itself}
+use Rattle.json_spelling.proofs.Printed.{printed}
 
 -- ---- a member more
 

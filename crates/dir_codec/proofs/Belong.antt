@@ -15,7 +15,7 @@ use Rattle.tag_hash.specs.NetstringAt.{netstring_at, span_bytes}
 use Rattle.tag_hash.specs.declared.netstrings.Span.{Span}
 use Rattle.tag_hash.specs.declared.netstrings.NetFault.{NetFault}
 use Rattle.dir_codec.specs.Names.{is_name, IsAbove}
-use Rattle.dir_codec.specs.Metadata.{spelling_of}
+use Rattle.json_spelling.specs.Metadata.{spelling_of}
 use Rattle.dir_codec.specs.Entries.{is_child_cap, AreEntriesAbove}
 use Rattle.dir_codec.specs.DirectoryText.{entry_text, IsEntryText, IsTextAbove, written_entry, directory_text}
 use Rattle.dir_codec.specs.Parts.{EntryTexts, cut_netstring, first_netstring, if_all, four_texts, texts_before, first_entry}

@@ -1,5 +1,5 @@
 -- The white space before the brace that opens an object.
-use Rattle.std.proofs.Common.{◌≡◌, ℕ, zero, suc, ◌+◌, ◌==◌, ◌||◌, ◌<◌, ◌≤◌, Bool, true, false, cond, List, [], ◌∷◌, ◌++◌, length, take, drop, get_or, Some, ◌↔◌, IsUtf8, IsAscii, refl, sym, ap, ◌∙◌, subst, arith}
+use Rattle.std.proofs.Common.{◌≡◌, ℕ, ◌+◌, ◌==◌, ◌||◌, ◌<◌, ◌≤◌, Bool, true, false, cond, List, [], ◌∷◌, ◌++◌, length, take, drop, get_or, Some, ◌↔◌, IsUtf8, refl, sym, ap, ◌∙◌, subst, arith}
 use Rattle.std.proofs.lemmas.Bool.{true≢false, eqb-true}
 use Rattle.std.proofs.lemmas.List.{take_more, drop_more, drop_all}
 use Rattle.std.proofs.lemmas.Str.{IsUtf8-append, IsUtf8-from_ascii, IsUtf8-nil}
@@ -7,6 +7,7 @@ use Rattle.json.specs.Token.{begin_object}
 use Rattle.json.specs.Word.{is_space}
 use Rattle.json.specs.Lex.{class, space, between, lex, lex_byte, fresh, punctuate, tokens}
 use Rattle.json_members.specs.MemberCuts.{first_token, opens_object}
+use Rattle.json_spelling.proofs.PiecesTaken.{ascii_byte}
 use Rattle.dir_codec.specs.Collected.{IsBehindBrace}
 
 -- what is used of objects' first tokens
@@ -21,11 +22,6 @@ pub record IsSpaceTo (json : List ℕ) (i : ℕ) : Type 0 where
 
 pub no_space : (json : List ℕ) → IsSpaceTo json 0
 no_space json = record { utf8 = IsUtf8-nil; opens = refl; same = refl }
-
--- one byte that is ASCII more
-pub ascii_byte : (k : ℕ) → k < 128 → IsAscii (k ∷ [])
-ascii_byte k small zero = small
-ascii_byte k small (suc n) = omega arith
 
 utf8_more : (json : List ℕ) (i k : ℕ) → k < 128 → i < length json → get_or json i 0 ≡ k → IsUtf8 (take i json) → IsUtf8 (take (i + 1) json)
 utf8_more json i k small within is utf8 =

@@ -15,7 +15,7 @@ use Rattle.std.proofs.lemmas.Slice.Eq.{bytes_eq-Decides}
 use Rattle.serde_json.specs.Data.{Data, object, Members, no_members, member}
 use Rattle.serde_json.specs.Find.{as_object}
 use Rattle.dir_codec.specs.Names.{IsAbove}
-use Rattle.dir_codec.specs.Metadata.{json_of}
+use Rattle.json_spelling.specs.Metadata.{json_of}
 use Rattle.dir_codec.specs.Find.{child_named}
 use Rattle.dir_codec.specs.Children.{then_make, inserted, with_entry, entry_made, making_after, making, made}
 use Rattle.dir_codec.specs.MadeOf.{members_listed, IsEntryOf, IsMemberFault, RiseAbove, AreOfMembers, IsFaultAfter, RefusesMembers, AreMadeOf, RefusesJson}

@@ -16,7 +16,7 @@ use Rattle.serde_json.specs.Data.{Data, Members, member}
 use Rattle.serde_json.specs.Find.{get, as_str, as_object}
 use Rattle.caps.specs.declared.cap.Cap.{Cap}
 use Rattle.dir_codec.specs.Names.{IsAbove}
-use Rattle.dir_codec.specs.Metadata.{json_of}
+use Rattle.json_spelling.specs.Metadata.{json_of}
 use Rattle.dir_codec.specs.Entries.{IsEntry, AreEntriesAbove}
 use Rattle.dir_codec.specs.Find.{child_named}
 use Rattle.dir_codec.specs.Named.{entry_of_child, entries_of}

@@ -14,8 +14,8 @@ use Rattle.dir_codec.specs.Children.{fields_of}
 use Rattle.dir_codec.specs.Collected.{AreMembersMade, AreEntered, AreMembersRead}
 use Rattle.dir_codec.specs.Kept.{IsField, AreChildFields, Outcome, IsOutcome}
 use Rattle.dir_codec.specs.MemberReader.{NoneAfter, outermost, IsOpen, IsOfBracket, IsEndedField, opens, IsBegunValue, AreListed, IsStage, FitsListed, Fits, ends_array, FirstListed, FitsFirst, FitsKind, object_has_ended, IsAround, IsOn, StandsAt, IsReading}
-use Rattle.dir_codec.specs.Spelled.{begins_object, begins_array, data_of}
-use Rattle.dir_codec.specs.Speller.{items_with}
+use Rattle.json_spelling.specs.Spelled.{begins_object, begins_array, data_of}
+use Rattle.json_spelling.specs.Speller.{items_with}
 use Rattle.dir_codec.specs.declared.fields.Field.{Field}
 use Rattle.dir_codec.specs.declared.fields.Fields.{Fields}
 use Rattle.dir_codec.specs.declared.member_reader.Begun.{Begun}
@@ -23,8 +23,8 @@ use Rattle.dir_codec.specs.declared.member_reader.Listed.{Listed}
 use Rattle.dir_codec.specs.declared.member_reader.MemberReader.{MemberReader}
 use Rattle.dir_codec.specs.declared.member_reader.Stage.{Stage}
 use Rattle.dir_codec.specs.declared.member_reader.UnderWay.{UnderWay}
-use Rattle.dir_codec.proofs.DataFrames.{of_items-items_and, of_members-members_and}
-use Rattle.dir_codec.proofs.Following.{data_read}
+use Rattle.json_spelling.proofs.DataFrames.{of_items-items_and, of_members-members_and}
+use Rattle.json_spelling.proofs.Following.{data_read}
 use Rattle.dir_codec.proofs.Nested.{nested, step_inside, first_inside, refused_inside, refused_first, failed_on}
 use Rattle.dir_codec.proofs.PutMembers.{put_next}
 

@@ -10,7 +10,7 @@ use Rattle.json_stack.proofs.Runs.{failed_stays}
 use Rattle.serde_json.specs.Data.{Data, array, object, no_members}
 use Rattle.serde_json.specs.Read.{of_json, of_items, of_members}
 use Rattle.dir_codec.specs.MemberReader.{NoneAfter, is_object_frame, outermost, IsOfBracket}
-use Rattle.dir_codec.proofs.Following.{after_has, result_has, value_has, none_if}
+use Rattle.json_spelling.proofs.Following.{after_has, result_has, value_has, none_if}
 
 -- what is read inside other frames, with so many levels left in them
 abbrev pub nested : ℕ → List Frame → StackState → StackState

@@ -10,7 +10,7 @@ use Rattle.json_members.specs.MemberCuts.{first_token}
 use Rattle.serde_json.specs.Data.{Num, Data, number, array, Items, Members}
 use Rattle.serde_json.specs.Find.{as_object}
 use Rattle.serde_json.specs.Read.{number_of, of_json, of_items, max_depth, read}
-use Rattle.dir_codec.specs.Metadata.{json_of}
+use Rattle.json_spelling.specs.Metadata.{json_of}
 use Rattle.dir_codec.specs.Children.{then_make, or_dir_fault, making_after, making, made}
 use Rattle.dir_codec.specs.declared.fault.DirFault.TheVariants.{NotJson, BadShape}
 

@@ -6,7 +6,7 @@ use Rattle.serde_json.specs.Find.{get_member, as_str, as_object}
 use Rattle.serde_json.specs.Written.{has_float, compact_text}
 use Rattle.caps.specs.Reading.{cap_reading}
 use Rattle.caps.specs.declared.cap.Cap.{Cap}
-use Rattle.dir_codec.specs.Metadata.{is_metadata}
+use Rattle.json_spelling.specs.Metadata.{is_metadata}
 use Rattle.dir_codec.specs.Faults.{IsNoChild}
 use Rattle.dir_codec.specs.Reading.{child_of, child_reading}
 use Rattle.dir_codec.specs.Children.{nfc_text, then_make, fields_of, has_write, metadata_made, with_fields, entry_of_fields, entry_made}

@@ -9,13 +9,13 @@ use Rattle.serde_json.specs.Read.{read}
 use Rattle.dir_codec.specs.Entries.{IsEntry, AreEntriesAbove}
 use Rattle.dir_codec.specs.Children.{making_after, making, then_make, with_entry}
 use Rattle.dir_codec.specs.Kept.{Outcome, AreOutcomes, AreBefore, IsNoObject}
-use Rattle.dir_codec.specs.Metadata.{json_of}
+use Rattle.json_spelling.specs.Metadata.{json_of}
 use Rattle.dir_codec.specs.Named.{entry_of_child, entries_of}
-use Rattle.dir_codec.specs.Spelled.{data_of}
+use Rattle.json_spelling.specs.Spelled.{data_of}
 use Rattle.dir_codec.specs.declared.child.Child.{Child}
 use Rattle.dir_codec.specs.declared.fault.DirFault.{DirFault}
 use Rattle.dir_codec.specs.declared.fault.DirFault.TheVariants.{Torn, NotSorted, BadName, BadCap, NotImmutable, WriteCap, BadMetadata, NotJson, BadShape, SameName, FractionalNumber, NoMemory}
-use Rattle.dir_codec.proofs.Json.{json_read, json_refused}
+use Rattle.json_spelling.proofs.Json.{json_read, json_refused}
 use Rattle.dir_codec.proofs.Making.{make_next, make_fault, same_name, new_name, new_above, no_json, no_object, of_members}
 use Rattle.dir_codec.proofs.Names.{name_above}
 

@@ -7,7 +7,8 @@ use Rattle.json.specs.Token.{begin_object}
 use Rattle.json.specs.Lex.{tokens}
 use Rattle.json_members.specs.MemberCuts.{first_token, opens_object, front_object, back_object}
 use Rattle.dir_codec.specs.Collected.{object_behind, IsPartUpTo}
-use Rattle.dir_codec.proofs.Braces.{FirstLaw, ascii_byte}
+use Rattle.json_spelling.proofs.PiecesTaken.{ascii_byte}
+use Rattle.dir_codec.proofs.Braces.{FirstLaw}
 
 -- ---- it begins an object
 

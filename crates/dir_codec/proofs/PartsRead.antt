@@ -14,12 +14,12 @@ use Rattle.dir_codec.specs.Collecting.{IsCollecting}
 use Rattle.dir_codec.specs.Piecewise.{HasNoObjectBehind}
 use Rattle.dir_codec.specs.Readings.{IsReadingAt}
 use Rattle.dir_codec.specs.Kept.{Outcome, AreOutcomes}
-use Rattle.dir_codec.specs.Metadata.{json_of}
+use Rattle.json_spelling.specs.Metadata.{json_of}
 use Rattle.dir_codec.specs.declared.collecting.Collecting.{Collecting}
 use Rattle.dir_codec.specs.declared.fault.DirFault.TheVariants.{NotJson}
 use Rattle.dir_codec.proofs.Braces.{FirstLaw}
 use Rattle.dir_codec.proofs.Joining.{TurnLaw, of_whole, with_part, with_last, empty_part, empty_last, made_before, made_of_none, none_kept, some_kept, some_put, no_front, none_with}
-use Rattle.dir_codec.proofs.Json.{json_read, json_refused}
+use Rattle.json_spelling.proofs.Json.{json_read, json_refused}
 use Rattle.dir_codec.proofs.Making.{no_json}
 use Rattle.dir_codec.proofs.PartTexts.{rest_begins, behind_cut, all_text, next_text, IsTextPart}
 

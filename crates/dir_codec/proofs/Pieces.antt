@@ -13,8 +13,8 @@ use Rattle.json_members.specs.MemberCuts.{first_token}
 use Rattle.dir_codec.specs.Collected.{object_behind, IsPartUpTo}
 use Rattle.dir_codec.specs.Kept.{IsNoObject}
 use Rattle.dir_codec.specs.Piecewise.{read_to, IsLooked, IsToComma, IsPieceTo, is_inner_comma, IsReadSoFar, IsPartTaken, HasNoObjectBehind}
-use Rattle.dir_codec.specs.Spelled.{data_of}
-use Rattle.dir_codec.specs.TokenPieces.{tokens_behind, IsPiecePushed, IsPieceRefused}
+use Rattle.json_spelling.specs.Spelled.{data_of}
+use Rattle.json_spelling.specs.TokenPieces.{tokens_behind, IsPiecePushed, IsPieceRefused}
 use Rattle.dir_codec.specs.declared.cutting.Behind.{Behind}
 use Rattle.dir_codec.specs.declared.cutting.Looked.{Looked}
 use Rattle.dir_codec.specs.declared.fault.DirFault.{DirFault}

@@ -9,8 +9,8 @@ use Rattle.serde_json.specs.Data.{Data, Members, no_members, put}
 use Rattle.serde_json.specs.Read.{of_members, converted}
 use Rattle.dir_codec.specs.Collected.{AreEntered, AreMembersRead}
 use Rattle.dir_codec.specs.Kept.{MemberOutcome, Outcome, IsOutcome}
-use Rattle.dir_codec.specs.Spelled.{begins_object}
-use Rattle.dir_codec.proofs.ReadData.{from_json}
+use Rattle.json_spelling.specs.Spelled.{begins_object}
+use Rattle.json_spelling.proofs.ReadData.{from_json}
 
 put_last : (es : List Outcome) (before after : Members) (k : String Global) (o : MemberOutcome) (d : Data) → AreEntered es before after → IsOutcome (string_bytes k) d o
     → AreEntered (es ++ ((k, o) ∷ [])) before (put (string_bytes k) d after)

@@ -8,11 +8,11 @@ use Rattle.serde_json.specs.Data.{Data, null, boolean, number, string, array, ob
 use Rattle.serde_json.specs.Find.{as_str, as_object}
 use Rattle.serde_json.specs.Read.{number_of, of_json, of_items, of_members, converted}
 use Rattle.dir_codec.specs.Children.{fields_of}
-use Rattle.dir_codec.specs.Spelled.{data_of, begins_text, begins_object, begins_array}
+use Rattle.json_spelling.specs.Spelled.{data_of, begins_text, begins_object, begins_array}
 use Rattle.dir_codec.specs.Kept.{IsField, IsObject, IsChildNode}
 use Rattle.dir_codec.specs.declared.fields.Field.{Field}
 use Rattle.dir_codec.specs.declared.fields.Fields.{Fields}
-use Rattle.dir_codec.proofs.ReadData.{from_json, no_turn, next_item, no_item, last_item, object_opened, read_whole, read_more, read_none}
+use Rattle.json_spelling.proofs.ReadData.{from_json, no_turn, next_item, no_item, last_item, object_opened, read_whole, read_more, read_none}
 
 -- ---- a value's kind is that of its first token
 

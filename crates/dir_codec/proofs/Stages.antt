@@ -6,7 +6,7 @@ use Rattle.serde_json.specs.Data.{object, Members}
 use Rattle.dir_codec.specs.Children.{making_after, making, made}
 use Rattle.dir_codec.specs.DirectoryText.{directory_text}
 use Rattle.dir_codec.specs.Kept.{Outcome, AreOutcomes, AreBefore}
-use Rattle.dir_codec.specs.Metadata.{json_of}
+use Rattle.json_spelling.specs.Metadata.{json_of}
 use Rattle.dir_codec.specs.Named.{entries_of}
 use Rattle.dir_codec.specs.TextMakers.{text_made}
 use Rattle.dir_codec.specs.declared.child.Child.{Child}

@@ -21,11 +21,11 @@ use Rattle.serde_json.specs.Read.{of_json, of_members, max_depth}
 use Rattle.serde_json.specs.View.{view, items_view, members_view}
 use Rattle.serde_json.specs.declared.value.Value.{Value}
 use Rattle.dir_codec.proofs.PutMembers.{put_next}
-use Rattle.dir_codec.proofs.SoundLemmas.{below_trans, put_sound, made_sound, members_made_sound}
+use Rattle.json_spelling.proofs.SoundLemmas.{below_trans, put_sound, made_sound, members_made_sound}
 use Rattle.dir_codec.specs.Children.{fields_of}
 use Rattle.dir_codec.specs.Collected.{AreMembersRead}
 use Rattle.dir_codec.specs.Kept.{MemberOutcome, Outcome, IsOutcome}
-use Rattle.dir_codec.specs.Sound.{IsBelowAll, IsSound, ItemsAreSound, MembersAreSound}
+use Rattle.json_spelling.specs.Sound.{IsBelowAll, IsSound, ItemsAreSound, MembersAreSound}
 use Rattle.dir_codec.specs.Taking.{with_all, AreTakenBefore, IsTakenChild, AreYetToTake, IsTakenFrom}
 use Rattle.dir_codec.specs.declared.taking.TakenChild.{TakenChild}
 use Rattle.dir_codec.specs.declared.taking.Taking.{Taking}

@@ -8,8 +8,8 @@ use Rattle.serde_json.specs.Data.{Num, unsigned, negative, float, Data, Members}
 use Rattle.serde_json.specs.View.{view, view_step, items_of, members_of, number_view}
 use Rattle.serde_json.specs.Written.{number_text, compact_text, items_text, members_text}
 use Rattle.serde_json.specs.declared.value.Value.{Value, ind-Value, Value-F, map-Value, roll-Value, fold-roll-Value}
-use Rattle.dir_codec.proofs.OnePass.{item_utf8, member_utf8, opened_utf8}
-use Rattle.dir_codec.specs.Sound.{IsSoundNum, IsSound, ItemsAreSound, MembersAreSound}
+use Rattle.json_spelling.proofs.OnePass.{item_utf8, member_utf8, opened_utf8}
+use Rattle.json_spelling.specs.Sound.{IsSoundNum, IsSound, ItemsAreSound, MembersAreSound}
 
 number_utf8 : (n : Num) → IsSoundNum n → IsUtf8 (number_text n)
 number_utf8 (unsigned n) is = IsUtf8-from_ascii _ (IsAscii-decimal n is)

@@ -8,15 +8,15 @@ use Rattle.serde_json.specs.Data.{Data, null, boolean, number, string}
 use Rattle.serde_json.specs.Read.{number_of, of_json}
 use Rattle.dir_codec.specs.Kept.{IsField}
 use Rattle.dir_codec.specs.MemberReader.{NoneAfter, is_object_frame, outermost, IsOpen, IsOfBracket, IsEndedField, IsStillOpen, IsOpenOrEnded, opens, IsBegunValue}
-use Rattle.dir_codec.specs.Spelled.{IsSpelled, begins_object}
-use Rattle.dir_codec.specs.Speller.{FollowsMachine, GoesOver, RefusesToken, IsEnded, IsUnended}
+use Rattle.json_spelling.specs.Spelled.{IsSpelled, begins_object}
+use Rattle.json_spelling.specs.Speller.{FollowsMachine, GoesOver, RefusesToken, IsEnded, IsUnended}
 use Rattle.dir_codec.specs.declared.fields.Field.{Field}
 use Rattle.dir_codec.specs.declared.member_reader.Begun.{Begun}
 use Rattle.dir_codec.specs.declared.member_reader.UnderWay.{UnderWay}
-use Rattle.dir_codec.specs.declared.speller.Speller.{Speller}
-use Rattle.dir_codec.specs.declared.spelling.Spelled.{Spelled}
+use Rattle.json_spelling.specs.declared.speller.Speller.{Speller}
+use Rattle.json_spelling.specs.declared.spelling.Spelled.{Spelled}
 use Rattle.dir_codec.proofs.Nested.{Kept, step_kept, failed_on}
-use Rattle.dir_codec.proofs.SoundLemmas.{made_sound}
+use Rattle.json_spelling.proofs.SoundLemmas.{made_sound}
 
 -- ---- one token more
 

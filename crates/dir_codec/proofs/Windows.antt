@@ -7,7 +7,8 @@ use Rattle.json_members.specs.Brackets.{bracket_depth}
 use Rattle.json_members.specs.MemberCuts.{IsMemberCutFrom, IsMemberCut, front_object}
 use Rattle.json_seams.specs.Modes.{mode_after}
 use Rattle.dir_codec.specs.Collected.{object_behind, IsPartUpTo}
-use Rattle.dir_codec.specs.CommaSearch.{IsCommaCut}
+use Rattle.json_spelling.specs.CommaSearch.{IsCommaCut}
+use Rattle.json_spelling.proofs.CutPlaces.{window, window_size}
 use Rattle.dir_codec.specs.Piecewise.{FindsBehind, read_to, IsReadTo}
 
 pub finds_first : FindsBehind [] between 0
@@ -23,13 +24,6 @@ finds_more text more mode next depth behind few goes before = record {
       let place : length text + (length more + at) ≡ length (text ++ more) + at = omega (arith, length-append text more) in
       subst (IsMemberCut (text ++ more ++ bytes)) place (subst (λ t. IsMemberCut t (length text + (length more + at))) (sym (append_assoc text more bytes)) found);
 }
-
--- the next window
-abbrev pub window : ℕ → ℕ → List ℕ → List ℕ
-window end stop json = take (stop - end) (drop end json)
-
-pub window_size : (end stop : ℕ) (json : List ℕ) → end ≤ stop → stop ≤ length json → length (window end stop json) ≡ stop - end
-window_size end stop json ahead within = length-take-le (stop - end) (drop end json) (omega (arith, length-drop end json))
 
 -- what stands at a place up to another, and then the window there
 pub window_more : (at end stop : ℕ) (json : List ℕ) → at ≤ end → end ≤ stop → take (end - at) (drop at json) ++ window end stop json ≡ take (stop - at) (drop at json)

@@ -7,7 +7,7 @@ use Rattle.unicode_normalization.specs.Forms.{nfc}
 use Rattle.serde_json.specs.Data.{Data, null, boolean, number, string, array, object, no_items, item, Members, no_members, member, depth}
 use Rattle.serde_json.specs.Find.{get, as_str, as_object}
 use Rattle.serde_json.specs.Written.{has_float, compact_text}
-use Rattle.dir_codec.specs.Metadata.{json_of}
+use Rattle.json_spelling.specs.Metadata.{json_of}
 use Rattle.dir_codec.specs.Reading.{child_reading}
 use Rattle.dir_codec.specs.Find.{child_named}
 use Rattle.dir_codec.specs.declared.entry.Entry.{Entry}

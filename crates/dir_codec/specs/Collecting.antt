@@ -9,7 +9,7 @@ use Rattle.serde_json.specs.Read.{of_members, max_depth}
 use Rattle.dir_codec.specs.Children.{making}
 use Rattle.dir_codec.specs.Collected.{object_behind, with_before}
 use Rattle.dir_codec.specs.Kept.{AreOutcomes}
-use Rattle.dir_codec.specs.Metadata.{json_of}
+use Rattle.json_spelling.specs.Metadata.{json_of}
 use Rattle.dir_codec.specs.Readings.{IsReadingAt, IsLaterFrom}
 use Rattle.dir_codec.specs.declared.collecting.Collecting.{Collecting}
 use Rattle.dir_codec.specs.declared.collecting.Collected.{Collected}

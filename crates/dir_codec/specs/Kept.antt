@@ -4,11 +4,11 @@ use Rattle.std.specs.declared.alloc.Global.{Global}
 use Rattle.json.specs.Token.{Token}
 use Rattle.serde_json.specs.Data.{Data, null, string, object, Members}
 use Rattle.serde_json.specs.Find.{get_member, as_str, as_object}
-use Rattle.dir_codec.specs.Sound.{IsSound}
+use Rattle.json_spelling.specs.Sound.{IsSound}
 use Rattle.dir_codec.specs.Entries.{IsEntry, AreEntriesAbove}
 use Rattle.dir_codec.specs.Children.{fields_of, gives_write, entry_made, making_after}
 use Rattle.dir_codec.specs.Named.{entry_of_child, entries_of}
-use Rattle.dir_codec.specs.Spelled.{data_of, AreAt, IsSpelled}
+use Rattle.json_spelling.specs.Spelled.{data_of, AreAt, IsSpelled}
 use Rattle.dir_codec.specs.declared.child.Child.{Child}
 use Rattle.dir_codec.specs.declared.fields.Field.{Field}
 use Rattle.dir_codec.specs.declared.fields.Fields.{Fields}

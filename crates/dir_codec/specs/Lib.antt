@@ -1,8 +1,6 @@
 -- Read DirectoryText first, over Names, Metadata and Entries; then Reading and Faults, Find and Sought, and Children with
 -- MadeOf and TextMakers.
 pub mod Names
-pub mod Metadata
-pub mod Spelled
 pub mod Entries
 pub mod DirectoryText
 pub mod Parts
@@ -16,16 +14,8 @@ pub mod Children
 pub mod MadeOf
 pub mod Named
 pub mod Kept
-pub mod Sound
 pub mod Collected
 pub mod TextMakers
-pub mod Speller
-pub mod TokenPieces
-pub mod PieceReaders
-pub mod MetadataSpellers
-pub mod Judge
-pub mod CommaSearch
-pub mod Judging
 pub mod MemberReader
 pub mod Piecewise
 pub mod Taking

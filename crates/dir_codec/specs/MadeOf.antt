@@ -8,7 +8,7 @@ use Rattle.serde_json.specs.Written.{has_float, compact_text}
 use Rattle.caps.specs.CapTexts.{IsCapText}
 use Rattle.caps.specs.declared.cap.Cap.{Cap}
 use Rattle.dir_codec.specs.Names.{IsAbove}
-use Rattle.dir_codec.specs.Metadata.{json_of, is_metadata}
+use Rattle.json_spelling.specs.Metadata.{json_of, is_metadata}
 use Rattle.dir_codec.specs.Entries.{is_child_cap}
 use Rattle.dir_codec.specs.Faults.{IsNoChild}
 use Rattle.dir_codec.specs.Children.{nfc_text}

@@ -10,8 +10,8 @@ use Rattle.serde_json.specs.Read.{of_json, of_items, of_members, max_depth}
 use Rattle.dir_codec.specs.Children.{fields_of}
 use Rattle.dir_codec.specs.Collected.{AreMembersMade}
 use Rattle.dir_codec.specs.Kept.{IsField, AreChildFields, Outcome}
-use Rattle.dir_codec.specs.Spelled.{begins_object, begins_array}
-use Rattle.dir_codec.specs.Speller.{FollowsMachine}
+use Rattle.json_spelling.specs.Spelled.{begins_object, begins_array}
+use Rattle.json_spelling.specs.Speller.{FollowsMachine}
 use Rattle.dir_codec.specs.declared.fields.Field.{Field}
 use Rattle.dir_codec.specs.declared.member_reader.Begun.{Begun}
 use Rattle.dir_codec.specs.declared.member_reader.Listed.{Listed}

@@ -5,10 +5,10 @@ use Rattle.json.specs.Token.{Token}
 use Rattle.json.specs.Lex.{Mode, between, tokens}
 use Rattle.json_members.specs.MemberCuts.{IsMemberCutFrom, IsMemberCut}
 use Rattle.json_seams.specs.Modes.{mode_after, is_outside}
-use Rattle.dir_codec.specs.CommaSearch.{IsSearched}
+use Rattle.json_spelling.specs.CommaSearch.{IsSearched}
 use Rattle.dir_codec.specs.Collected.{object_behind, IsPartUpTo}
-use Rattle.dir_codec.specs.Spelled.{data_of}
-use Rattle.dir_codec.specs.TokenPieces.{tokens_behind}
+use Rattle.json_spelling.specs.Spelled.{data_of}
+use Rattle.json_spelling.specs.TokenPieces.{tokens_behind}
 use Rattle.dir_codec.specs.declared.cutting.Behind.{Behind}
 use Rattle.dir_codec.specs.declared.cutting.Looked.{Looked}
 use Rattle.dir_codec.specs.declared.cutting.NextPiece.{NextPiece}

@@ -13,7 +13,7 @@ use Rattle.serde_json.specs.Written.{compact_text}
 use Rattle.dir_codec.specs.Children.{fields_of}
 use Rattle.dir_codec.specs.Collected.{AreEntered, AreMembersRead}
 use Rattle.dir_codec.specs.Kept.{IsTextFieldAt, Outcome}
-use Rattle.dir_codec.specs.Sound.{IsSound, MembersAreSound}
+use Rattle.json_spelling.specs.Sound.{IsSound, MembersAreSound}
 use Rattle.dir_codec.specs.declared.taking.TakenChild.{TakenChild}
 use Rattle.dir_codec.specs.declared.taking.TakenOn.{TakenOn}
 use Rattle.dir_codec.specs.declared.taking.Taking.{Taking}

@@ -2,7 +2,7 @@
 ghost use Rattle.std.specs.Prelude.{◌≡◌, ◌≢◌, ◌==◌, true, false, Ok, Err, Some, Option, IfOk, IfErr, option_map, option_and_then, string_bytes, length};
 ghost use Rattle.serde_json.specs.Data.{Data, Members, object};
 ghost use Rattle.serde_json.specs.Find.{as_str};
-ghost use Rattle.dir_codec.specs.Metadata.{spelling_of};
+ghost use Rattle.json_spelling.specs.Metadata.{spelling_of};
 ghost use Rattle.caps.specs.CapTexts.{cap_text};
 ghost use Rattle.caps.specs.Reading.{cap_reading};
 ghost use Rattle.dir_codec.specs.Entries.{is_child_cap, IsEntry};

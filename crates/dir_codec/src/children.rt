@@ -6,7 +6,7 @@ ghost use Rattle.json_members.specs.MemberCuts.{first_token};
 ghost use Rattle.serde_json.specs.Data.{Members, object};
 ghost use Rattle.dir_codec.specs.Children.{making};
 ghost use Rattle.dir_codec.specs.Kept.{AreOutcomes};
-ghost use Rattle.dir_codec.specs.Metadata.{json_of};
+ghost use Rattle.json_spelling.specs.Metadata.{json_of};
 ghost use Rattle.dir_codec.specs.Named.{entries_of};
 ghost use Rattle.dir_codec.specs.declared.fault.DirFault.TheVariants.{NoMemory};
 

@@ -7,8 +7,8 @@ ghost use Rattle.json_members.specs.MemberCuts.{first_token};
 ghost use Rattle.dir_codec.specs.Collected.{IsBehindBrace};
 ghost use Rattle.dir_codec.specs.Piecewise.{IsLooked, IsPieceSought};
 
-use crate::comma_search::CommaSearch;
 use json_members::MemberScanner;
+use json_spelling::CommaSearch;
 use std::alloc::{AllocError, Global};
 
 /// The place behind the brace that opens the object which a text begins with. None where it begins with no object.

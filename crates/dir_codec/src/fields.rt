@@ -3,7 +3,7 @@ ghost use Rattle.std.specs.Prelude.{◌≡◌};
 ghost use Rattle.serde_json.specs.Data.{Data, Members, no_members, put};
 ghost use Rattle.dir_codec.specs.Kept.{IsField, AreChildFields};
 
-use crate::spelling::Spelled;
+use json_spelling::Spelled;
 
 /// The value of a field.
 #[derive(Drop)]

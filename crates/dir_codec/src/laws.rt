@@ -1,10 +1,5 @@
 //! What holds of directory texts.
-ghost use Rattle.std.specs.Prelude.{◌≡◌, ◌↔◌, ◌<◌, ◌≤◌, ◌^◌, ℕ, false, List, length, Ok, Err, Some, None};
-ghost use Rattle.serde_json.specs.Data.{Data, depth};
-ghost use Rattle.serde_json.specs.Read.{read};
-ghost use Rattle.serde_json.specs.Written.{has_float, compact_text};
-ghost use Rattle.dir_codec.specs.Sound.{IsSound};
-ghost use Rattle.dir_codec.specs.Metadata.{metadata_of, spelling_of};
+ghost use Rattle.std.specs.Prelude.{◌≡◌, ◌↔◌, ◌<◌, ◌^◌, ℕ, List, length, Ok, Err, Some, None};
 ghost use Rattle.dir_codec.specs.Entries.{IsDirectory};
 ghost use Rattle.dir_codec.specs.DirectoryText.{IsDirectoryText, directory_text};
 ghost use Rattle.dir_codec.specs.Reading.{reading_after, directory_reading, children};
@@ -66,20 +61,6 @@ pub fn written_directories_are_read_back()
     netstrings_are_read_back();
     reading_is_decided();
 }
-
-/// The metadata that an entry keeps are those that its text was read to: a spelling that spells itself stands for the
-/// same value as each text that it is the spelling of.
-pub fn spellings_stand_for_metadata()
-    ensures { (text kept : List ℕ) → spelling_of text ≡ Some kept → spelling_of kept ≡ Some kept
-        → metadata_of kept ≡ metadata_of text }
-{}
-
-/// `serde_json`'s compact text of a value whose numbers are whole ones of 64 bits is read as that value, up to the levels that its
-/// reader goes down.
-pub fn whole_values_are_read_back()
-    ensures { (value : Data) → IsSound value → has_float value ≡ false → depth value ≤ 127
-        → read (compact_text value) ≡ Some value }
-{}
 
 /// The children that JSON names are those that are made of it.
 pub fn made_children_are_named()

@@ -30,12 +30,8 @@ mod part_reader;
 mod taking;
 /// Reads the members of children JSON whose tokens come one at a time.
 mod member_reader;
-/// Pushes the tokens of a piece of a JSON text into what takes them one at a time.
-mod token_pieces;
 /// Where children JSON is cut.
 mod cutting;
-/// Finding a comma outside strings, some bytes of a text at a time.
-mod comma_search;
 /// The children of members, by their names.
 mod naming;
 /// What is made of a child in JSON.
@@ -46,24 +42,6 @@ mod fields;
 mod members;
 /// The four texts of an entry.
 mod parts;
-/// Metadata, and their one spelling.
-mod metadata;
-/// The one spelling of JSON, written while its tokens are read.
-mod spelling;
-/// The one spelling of JSON whose keys rise, written while its tokens come one at a time.
-mod speller;
-/// Reading JSON a piece of its text at a time.
-mod piece_reader;
-/// A tree takes the tokens of pieces.
-mod tree_tokens;
-/// Spelling long metadata, some of their text at a time.
-mod metadata_speller;
-/// Judging JSON whose tokens come one at a time.
-mod judge;
-/// Judging long metadata, some of their text at a time.
-mod judging;
-/// How deep JSON nests, and whether all its numbers are whole.
-mod extent;
 
 /// What holds of directory texts.
 pub mod laws;
@@ -76,5 +54,4 @@ pub use entries::{first_metadata, read_first, read_spelled};
 pub use entry::Entry;
 pub use fault::{DirFault, is_memory};
 pub use finder::{Finder, Finding, Sought, find_child};
-pub use metadata_speller::{MetadataSpeller, MetadataSpelling};
 pub use text_maker::{TextMaker, TextMaking, make_text};

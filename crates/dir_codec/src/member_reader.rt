@@ -9,17 +9,15 @@ ghost use Rattle.serde_json.specs.Data.{Data, Items, array};
 ghost use Rattle.serde_json.specs.Read.{of_json, max_depth};
 ghost use Rattle.dir_codec.specs.Collected.{AreMembersRead};
 ghost use Rattle.dir_codec.specs.Kept.{IsField, IsChildNode, Outcome};
-ghost use Rattle.dir_codec.specs.Speller.{items_with};
+ghost use Rattle.json_spelling.specs.Speller.{items_with};
 ghost use Rattle.dir_codec.specs.MemberReader.{NoneAfter, opens, IsOpen, IsEndedField, IsStillOpen, IsOpenOrEnded, IsBegunValue, AreListed, FitsListed, IsStage, Fits, FitsFirst, ends_array, is_one_text, object_has_ended, IsOn, StandsAt, IsReading};
 
 use crate::child::MemberOutcome;
 use crate::fault::DirFault;
 use crate::fields::{Field, Fields};
 use crate::members::{made_of, opens_array};
-use crate::speller::Speller;
-use crate::spelling::{READ_LEVELS, Stop, opens_object};
-use crate::token_pieces::TakesTokens;
 use json::Token;
+use json_spelling::{READ_LEVELS, Speller, Stop, TakesTokens, opens_object};
 use std::alloc::Global;
 use std::mem;
 

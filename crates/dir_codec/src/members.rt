@@ -12,14 +12,14 @@ ghost use Rattle.dir_codec.specs.Kept.{IsField, AreChildFields, IsObject, IsChil
 ghost use Rattle.json_members.specs.MemberCuts.{first_token};
 ghost use Rattle.dir_codec.specs.Collected.{AreEntered, AreMembersRead};
 ghost use Rattle.json.specs.Print.{IsPrintable};
-ghost use Rattle.dir_codec.specs.Spelled.{data_of, begins_text, begins_array};
+ghost use Rattle.json_spelling.specs.Spelled.{data_of, begins_text, begins_array};
 ghost use Rattle.dir_codec.specs.declared.fault.DirFault.TheVariants.{NoMemory, BadShape};
 
 use crate::child::{MemberOutcome, read_child};
 use crate::fault::DirFault;
 use crate::fields::{Field, Fields};
-use crate::spelling::{Keys, READ_LEVELS, Spelled, Stop, opens_object, spell_items, spell_token};
 use json::{Reader, Scratch, Token};
+use json_spelling::{Keys, READ_LEVELS, Spelled, Stop, opens_object, spell_items, spell_token};
 use std::alloc::{AllocError, Global};
 
 /// What is made of each member of an object, in the order of the text. Where keys rise in each object that is a field, the

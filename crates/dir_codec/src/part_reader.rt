@@ -5,8 +5,7 @@ ghost use Rattle.json.specs.Token.{begin_object};
 ghost use Rattle.dir_codec.specs.Piecewise.{IsPieceTo, is_inner_comma, IsReadSoFar, IsPartReadOn};
 
 use crate::cutting::{Behind, Looked, NextPiece, Piece, next_piece};
-use crate::spelling::Stop;
-use crate::token_pieces::{TakesTokens, push_tokens};
+use json_spelling::{Stop, TakesTokens, push_tokens};
 use std::alloc::{AllocError, Global};
 
 /// Members that are under way, by what takes their tokens.

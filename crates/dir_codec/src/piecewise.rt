@@ -16,7 +16,7 @@ use crate::member_reader::MemberReader;
 use crate::members::read_members;
 use crate::part_reader::{PartRead, PartReader};
 use crate::taking::{TakenOn, Taking, members_in};
-use crate::tree_tokens::tree_in_object;
+use json_spelling::tree_in_object;
 use json_tree::{Remains, TreeBuilder};
 use serde_json::Value;
 use std::alloc::{AllocError, Global};

@@ -10,14 +10,13 @@ ghost use Rattle.serde_json.specs.Written.{compact_text};
 ghost use Rattle.json_tree.specs.Writers.{IsWritten};
 ghost use Rattle.dir_codec.specs.Children.{fields_of};
 ghost use Rattle.dir_codec.specs.Kept.{IsTextFieldAt, IsFieldAt, IsChildNode};
-ghost use Rattle.dir_codec.specs.Spelled.{IsSpelled};
+ghost use Rattle.json_spelling.specs.Spelled.{IsSpelled};
 ghost use Rattle.dir_codec.specs.Taking.{AreTakenBefore, IsTakenChild, IsTakenFrom, IsTakenOn, HasLessToTake, HasLessToTakeOn, child_parts};
 
 use crate::child::MemberOutcome;
-use crate::extent::Extent;
 use crate::fields::{Field, Fields};
 use crate::members::made_of;
-use crate::spelling::Spelled;
+use json_spelling::{Extent, Spelled};
 use json_tree::{Remains, TextWriter, Writing, Written};
 use serde_json::Value;
 use std::alloc::{AllocError, Global};

@@ -8,12 +8,12 @@ ghost use Rattle.dir_codec.specs.declared.text_maker.TextMaking.TheVariants.{Goi
 use crate::child::{Child, MemberOutcome};
 use crate::children::from_children_json;
 use crate::collecting::{Collected, Collecting};
-use crate::comma_search::STEP_BYTES;
 use crate::cutting::behind_brace;
 use crate::encoder::{encode, push_entry};
 use crate::entry::Entry;
 use crate::fault::{DirFault, is_memory};
 use crate::naming::name_some;
+use json_spelling::STEP_BYTES;
 use json_tree::Remains;
 use octets::Text;
 use std::alloc::{AllocError, Global};

@@ -123,7 +123,7 @@ fn made(alloc: Global, json: &[u8]) -> Result<String, NoAnswer> {
     laws::written_directories_are_read_back();
     laws::texts_and_entries_belong_together();
     laws::texts_are_refused_for_the_first_fault();
-    laws::spellings_stand_for_metadata();
+    json_spelling::laws::spellings_stand_for_metadata();
     laws::made_children_are_named();
     let Ok(directory) = from_children_json(alloc, json) else {
         return said(alloc, "no children");

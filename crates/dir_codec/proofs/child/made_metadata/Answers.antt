@@ -1,6 +1,6 @@
 use Rattle.std.proofs.Common.{◌≡◌, codes, Some, sym, ap, ◌∙◌}
 use Rattle.dir_codec.proofs.AtFields.{object_kept}
-use Rattle.dir_codec.proofs.Json.{empty_spelled}
+use Rattle.json_spelling.proofs.Json.{empty_spelled}
 use Rattle.dir_codec.proofs.child.made_metadata.Goals as goal
 
 pub returns-in_default-clause-kept : goal.returns-in_default-clause-kept

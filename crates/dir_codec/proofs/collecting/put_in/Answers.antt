@@ -2,7 +2,7 @@ use Rattle.std.proofs.Common.{string_bytes, sym, subst}
 use Rattle.serde_json.specs.Data.{put}
 use Rattle.dir_codec.specs.Collected.{AreEntered}
 use Rattle.dir_codec.specs.Kept.{IsOutcome, AreOutcomes}
-use Rattle.dir_codec.proofs.AtKeys.{at_put}
+use Rattle.json_spelling.proofs.AtKeys.{at_put}
 use Rattle.dir_codec.proofs.collecting.put_in.Goals as goal
 
 pub loop-key-preserved : goal.loop-key-preserved

@@ -4,7 +4,7 @@ use Rattle.json.proofs.Grammar.{read_key-shorter}
 use Rattle.serde_json.specs.Data.{Members, no_members, put}
 use Rattle.dir_codec.specs.Collected.{AreEntered}
 use Rattle.dir_codec.proofs.PutMembers.{put_next}
-use Rattle.dir_codec.proofs.ReadData.{next_member, no_member, no_key, last_member}
+use Rattle.json_spelling.proofs.ReadData.{next_member, no_member, no_key, last_member}
 use Rattle.dir_codec.proofs.members.gather_children.Goals as goal
 
 pub members-init : goal.members-init

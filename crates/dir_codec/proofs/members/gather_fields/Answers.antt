@@ -2,7 +2,7 @@ use Rattle.std.proofs.Common.{◌≡◌, ◌-◌, length, Some, ◌∙◌, refl,
 use Rattle.json.specs.Json.{read_key, value}
 use Rattle.json.proofs.Grammar.{read_key-shorter}
 use Rattle.serde_json.specs.Data.{no_members, put}
-use Rattle.dir_codec.proofs.ReadData.{next_member, no_member, no_key, last_member}
+use Rattle.json_spelling.proofs.ReadData.{next_member, no_member, no_key, last_member}
 use Rattle.dir_codec.proofs.members.gather_fields.Goals as goal
 
 pub returns-in_err-name-clause-err : goal.returns-in_err-name-clause-err

@@ -7,9 +7,9 @@ use Rattle.serde_json.specs.Data.{null, string}
 use Rattle.serde_json.specs.Read.{of_json, converted}
 use Rattle.serde_json.specs.Written.{compact_text}
 use Rattle.json.specs.Token.{Token}
-use Rattle.dir_codec.proofs.ReadData.{null_read, string_read}
+use Rattle.json_spelling.proofs.ReadData.{null_read, string_read}
 use Rattle.dir_codec.proofs.ReadChildren.{is_passed, an_object, other_field}
-use Rattle.dir_codec.proofs.SoundLemmas.{converted_sound}
+use Rattle.json_spelling.proofs.SoundLemmas.{converted_sound}
 use Rattle.dir_codec.proofs.members.read_field.Goals as goal
 
 pub returns-in_err-token-clause-err : goal.returns-in_err-token-clause-err

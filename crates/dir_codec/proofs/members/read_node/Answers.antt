@@ -5,7 +5,7 @@ use Rattle.json.specs.Reads.{token_of}
 use Rattle.json.proofs.Grammar.{value_is}
 use Rattle.serde_json.specs.Data.{array}
 use Rattle.serde_json.specs.Read.{of_json, converted}
-use Rattle.dir_codec.proofs.ReadData.{array_opened}
+use Rattle.json_spelling.proofs.ReadData.{array_opened}
 use Rattle.dir_codec.proofs.ReadChildren.{no_child, array_first}
 use Rattle.dir_codec.proofs.members.read_node.Goals as goal
 

@@ -4,7 +4,7 @@ use Rattle.json.specs.Reads.{token_of}
 use Rattle.json.proofs.Grammar.{value_is}
 use Rattle.serde_json.specs.Data.{object}
 use Rattle.serde_json.specs.Read.{of_json, converted}
-use Rattle.dir_codec.proofs.ReadData.{object_opened, object_first}
+use Rattle.json_spelling.proofs.ReadData.{object_opened, object_first}
 use Rattle.dir_codec.proofs.ReadChildren.{no_object}
 use Rattle.dir_codec.proofs.members.read_object.Goals as goal
 

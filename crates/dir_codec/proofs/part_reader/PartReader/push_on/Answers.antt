@@ -1,7 +1,7 @@
 use Rattle.std.proofs.Common.{nat_lt, Err, IsUtf8, sym, ap, ◌∙◌, subst}
 use Rattle.serde_json.specs.Read.{max_depth}
 use Rattle.dir_codec.specs.Piecewise.{IsPieceTo, is_inner_comma}
-use Rattle.dir_codec.specs.TokenPieces.{IsPiecePushed, IsPieceRefused}
+use Rattle.json_spelling.specs.TokenPieces.{IsPiecePushed, IsPieceRefused}
 use Rattle.dir_codec.proofs.PartsRead.{CutLaws}
 use Rattle.dir_codec.proofs.Pieces.{piece_read, piece_no_text, piece_refused, all_taken}
 use Rattle.dir_codec.proofs.part_reader.PartReader.push_on.Goals as goal

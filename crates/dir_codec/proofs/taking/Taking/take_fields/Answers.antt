@@ -8,7 +8,7 @@ use Rattle.serde_json.specs.View.{view, members_view}
 use Rattle.serde_json.specs.Written.{compact_text}
 use Rattle.serde_json.specs.declared.value.Value.{Object}
 use Rattle.dir_codec.specs.Kept.{IsTextFieldAt, IsFieldAt, IsChildNode}
-use Rattle.dir_codec.specs.Sound.{IsSound}
+use Rattle.json_spelling.specs.Sound.{IsSound}
 use Rattle.dir_codec.specs.Taking.{IsTakenChild}
 use Rattle.dir_codec.specs.declared.fields.Fields.{Fields}
 use Rattle.dir_codec.specs.declared.taking.TakenChild.{TakenChild}
