@@ -6,7 +6,8 @@ use crate::decoder::{Named, read_named};
 use crate::fault::is_memory;
 use crate::parts::first_entry;
 use caps::Cap;
-use json_spelling::{Judged, Judging, STEP_BYTES, judge};
+use json_spelling::STEP_BYTES;
+use json_spelling::judging::{Judged, Judging, judge};
 use octets::Text;
 use std::alloc::{AllocError, Global};
 

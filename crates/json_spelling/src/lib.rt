@@ -23,14 +23,12 @@ mod metadata_speller;
 /// Judging JSON whose tokens come one at a time.
 mod judge;
 /// Judging long metadata, some of their text at a time.
-mod judging;
-
+pub mod judging;
 /// What holds of spellings.
 pub mod laws;
 
 pub use comma_search::{CommaSearch, STEP_BYTES};
 pub use extent::Extent;
-pub use judging::{Judged, Judging, judge};
 pub use metadata::{spell_bytes, spelling_is_kept};
 pub use metadata_speller::{MetadataSpeller, MetadataSpelling};
 pub use speller::Speller;
