@@ -1,5 +1,4 @@
--- Read DirectoryText first, over Names, Metadata and Entries; then Reading and Faults, Find and Sought, and Children with
--- MadeOf and TextMakers.
+-- Read DirectoryText first, over Names and Entries; then Reading and Faults, Find and Sought.
 pub mod Names
 pub mod Entries
 pub mod DirectoryText
@@ -10,14 +9,3 @@ pub mod Faults
 pub mod Find
 pub mod Sought
 pub mod Cuts
-pub mod Children
-pub mod MadeOf
-pub mod Named
-pub mod Kept
-pub mod Collected
-pub mod TextMakers
-pub mod MemberReader
-pub mod Piecewise
-pub mod Taking
-pub mod Readings
-pub mod Collecting

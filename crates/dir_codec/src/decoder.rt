@@ -164,7 +164,10 @@ pub(crate) fn name_in(alloc: Global, bytes: &[u8]) -> Result<Option<&str>, Alloc
 }
 
 /// The cap that a text is, where it may be a child.
-pub(crate) fn read_cap(alloc: Global, text: &[u8]) -> Result<Cap, DirFault>
+///
+/// # Errors
+/// BadCap where it is no cap's text, NotImmutable where a child can't have the cap, and NoMemory.
+pub fn read_cap(alloc: Global, text: &[u8]) -> Result<Cap, DirFault>
     ensures ok { IfOk result (λ cap. child_reading text.now ≡ Ok cap) }
     ensures child { IfOk result (λ cap. is_child_cap cap ≡ true) }
     ensures kept { IfOk result (λ cap. cap_reading (cap_text cap) ≡ Ok cap) }

@@ -4,8 +4,6 @@ ghost use Rattle.dir_codec.specs.Entries.{IsDirectory};
 ghost use Rattle.dir_codec.specs.DirectoryText.{IsDirectoryText, directory_text};
 ghost use Rattle.dir_codec.specs.Reading.{reading_after, directory_reading, children};
 ghost use Rattle.dir_codec.specs.Sought.{cap_of_child, sought_of, sought_in};
-ghost use Rattle.dir_codec.specs.Children.{making, made};
-ghost use Rattle.dir_codec.specs.MadeOf.{AreMadeOf, RefusesJson};
 ghost use Rattle.dir_codec.specs.Faults.{RefusesDirectory};
 ghost use Rattle.dir_codec.specs.declared.entry.Entry.{Entry};
 ghost use Rattle.dir_codec.specs.declared.fault.DirFault.{DirFault};
@@ -59,22 +57,5 @@ pub fn written_directories_are_read_back()
         → length (directory_text entries) < 2 ^ 64 → directory_reading (directory_text entries) ≡ Ok entries }
 {
     netstrings_are_read_back();
-    reading_is_decided();
-}
-
-/// The children that JSON names are those that are made of it.
-pub fn made_children_are_named()
-    ensures { (entries : List Entry) (json : List ℕ)
-        → ((made json ≡ Some entries) ↔ (making json ≡ Ok entries)) }
-{}
-
-/// Children JSON makes exactly the entries of its object's members, one of each, in the order of their names, and is
-/// refused for the first member that is at fault.
-pub fn children_are_the_members_entries()
-    ensures made { (entries : List Entry) (json : List ℕ)
-        → ((made json ≡ Some entries) ↔ AreMadeOf entries json) }
-    ensures refused { (fault : DirFault) (json : List ℕ)
-        → ((making json ≡ Err fault) ↔ RefusesJson fault json) }
-{
     reading_is_decided();
 }
