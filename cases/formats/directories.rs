@@ -2,7 +2,8 @@
 use crate::formats::words::{count, digits, in_hex, joined, said, truth};
 use caps::print;
 use crate::lines::{Case, NoAnswer};
-use dir_codec::{DirFault, decode, encode, from_children_json, laws};
+use children_reader::from_children_json;
+use dir_codec::{DirFault, decode, encode, laws};
 use std::alloc::{AllocError, Global};
 use tag_hash::push_netstring;
 
@@ -123,8 +124,8 @@ fn made(alloc: Global, json: &[u8]) -> Result<String, NoAnswer> {
     laws::written_directories_are_read_back();
     laws::texts_and_entries_belong_together();
     laws::texts_are_refused_for_the_first_fault();
-    laws::spellings_stand_for_metadata();
-    laws::made_children_are_named();
+    json_spelling::laws::spellings_stand_for_metadata();
+    children_reader::laws::made_children_are_named();
     let Ok(directory) = from_children_json(alloc, json) else {
         return said(alloc, "no children");
     };

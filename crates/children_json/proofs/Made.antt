@@ -12,11 +12,10 @@ use Rattle.serde_json.proofs.OnLiterals.{serde_json_on_literals}
 use Rattle.caps.specs.CapTexts.{IsCapText, cap_text}
 use Rattle.caps.specs.Reading.{cap_reading}
 use Rattle.caps.specs.declared.cap.Cap.{Cap}
-use Rattle.dir_codec.specs.Names.{is_name}
-use Rattle.dir_codec.specs.Metadata.{json_of}
-use Rattle.dir_codec.specs.Children.{nfc_text}
+use Rattle.dir_codec.specs.Names.{is_name, nfc_text}
+use Rattle.json_spelling.specs.Metadata.{json_of}
 use Rattle.dir_codec.specs.Entries.{IsEntry, AreEntriesAbove, IsDirectory}
-use Rattle.dir_codec.specs.MadeOf.{members_listed, HasUri, IsEntryOf, RiseAbove, AreMadeOf}
+use Rattle.children_reader.specs.MadeOf.{members_listed, HasUri, IsEntryOf, RiseAbove, AreMadeOf}
 use Rattle.dir_codec.specs.declared.entry.Entry.{Entry}
 use Rattle.children_json.specs.Texts.{kind, fields_value, entry_value, entries_value, children_text}
 use Rattle.children_json.proofs.Spelled.{spelled}

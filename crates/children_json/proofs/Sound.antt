@@ -6,7 +6,7 @@ use Rattle.serde_json.specs.Data.{Data, object, depth, members_depth}
 use Rattle.serde_json.specs.Read.{read}
 use Rattle.serde_json.specs.Written.{has_float, members_have_float, compact_text}
 use Rattle.dir_codec.specs.Entries.{AreEntriesAbove, IsDirectory}
-use Rattle.dir_codec.specs.Sound.{IsBelowAll, IsSound, MembersAreSound}
+use Rattle.json_spelling.specs.Sound.{IsBelowAll, IsSound, MembersAreSound}
 use Rattle.dir_codec.specs.declared.entry.Entry.{Entry}
 use Rattle.children_json.specs.Texts.{metadata_data, entry_value, entries_value, children_text}
 use Rattle.children_json.proofs.Spelled.{IsSpelled, spelled}

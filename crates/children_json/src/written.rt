@@ -5,7 +5,7 @@ ghost use Rattle.serde_json.specs.Data.{string};
 ghost use Rattle.serde_json.specs.Written.{comma_if, compact_text};
 ghost use Rattle.caps.specs.CapTexts.{cap_text};
 ghost use Rattle.dir_codec.specs.Entries.{IsDirectory};
-ghost use Rattle.dir_codec.specs.Children.{making};
+ghost use Rattle.children_reader.specs.Children.{making};
 ghost use Rattle.children_json.specs.Texts.{kind, entry_member, children_text};
 
 use caps::{Cap, print};

@@ -1,9 +1,9 @@
 //! Directories that are prepared: the text of the directory that children JSON names, made step by step before it is stored.
 ghost use Rattle.std.specs.Prelude.{◌≡◌, IfOk, option_map};
-ghost use Rattle.dir_codec.specs.TextMakers.{IsTextMaker, text_made};
+ghost use Rattle.children_reader.specs.TextMakers.{IsTextMaker, text_made};
 
 use crate::cache::Cache;
-use dir_codec::{TextMaker, TextMaking, make_text};
+use children_reader::{TextMaker, TextMaking, make_text};
 use file_shares::next_piece;
 use std::alloc::{AllocError, Global};
 use std::marker::Model;
@@ -30,7 +30,7 @@ impl Drop for DirectoryAhead {
 
 impl Model for DirectoryAhead {
     ghost use Rattle.std.specs.Prelude.{ℕ, List, IfSome};
-    ghost use Rattle.dir_codec.specs.TextMakers.{IsTextMadeOn};
+    ghost use Rattle.children_reader.specs.TextMakers.{IsTextMadeOn};
 
     ghost Value = { List ℕ };
 

@@ -5,8 +5,9 @@ ghost use Rattle.client_tree.specs.Stored.{HasChildren, stored_name};
 
 use crate::fault::TreeFault;
 use caps::{Cap, print};
+use children_reader::from_children_json;
 use client_core::{Exchange, make_directory};
-use dir_codec::{DirFault, Directory, decode, from_children_json, is_memory};
+use dir_codec::{DirFault, Directory, decode, is_memory};
 use octets::Text;
 use std::alloc::{AllocError, Global};
 use std::collections::BTreeMap;

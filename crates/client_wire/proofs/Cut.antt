@@ -6,7 +6,7 @@ use Rattle.std.specs.Str.{is_utf8}
 use Rattle.std.proofs.lemmas.Bool.Decides.{nat_tests}
 use Rattle.std.proofs.lemmas.List.Splits.{slice_split_none}
 use Rattle.percent_encoding.specs.Percent.{percent_decode}
-use Rattle.dir_codec.specs.Children.{nfc_text}
+use Rattle.dir_codec.specs.Names.{nfc_text}
 use Rattle.path_names.specs.Names.{has_bad_escape, path_segments, segment_texts, max_names, is_empty, first_or_empty, names_of}
 use Rattle.path_names.specs.declared.fault.PathFault.{PathFault}
 use Rattle.path_names.specs.declared.fault.PathFault.TheVariants.{BadEscape, NotUtf8, TooMany, EmptyName}

@@ -15,12 +15,11 @@ use Rattle.tag_hash.specs.NetstringAt.{netstring_at, span_bytes}
 use Rattle.tag_hash.specs.declared.netstrings.Span.{Span}
 use Rattle.tag_hash.specs.declared.netstrings.NetFault.{NetFault}
 use Rattle.dir_codec.specs.Names.{is_name, IsAbove}
-use Rattle.dir_codec.specs.Metadata.{spelling_of}
+use Rattle.json_spelling.specs.Metadata.{spelling_of}
 use Rattle.dir_codec.specs.Entries.{is_child_cap, AreEntriesAbove}
 use Rattle.dir_codec.specs.DirectoryText.{entry_text, IsEntryText, IsTextAbove, written_entry, directory_text}
 use Rattle.dir_codec.specs.Parts.{EntryTexts, cut_netstring, first_netstring, if_all, four_texts, texts_before, first_entry}
 use Rattle.dir_codec.specs.Reading.{child_of, child_reading, with_metadata, with_cap, entry_reading, before_more, then_more, from_texts, read_most, reading_after, directory_reading, children}
-use Rattle.dir_codec.specs.Children.{making, made}
 use Rattle.dir_codec.specs.declared.entry.Entry.{Entry}
 use Rattle.dir_codec.specs.declared.fault.DirFault.{DirFault}
 use Rattle.dir_codec.specs.declared.fault.DirFault.TheVariants.{NotImmutable, NotSorted, BadName, WriteCap}
@@ -310,14 +309,10 @@ pub are_read : NothingElse → ReadsBack → CapsAreRead → (entries : List Ent
 unfolding directory_reading
 are_read nothing law caps entries text short is = texts_read nothing law caps entries [] text short is
 
-ok_is : {A E : Type 0} (r : Result A E) (x : A) → result_ok r ≡ Some x → r ≡ Ok x
+pub ok_is : {A E : Type 0} (r : Result A E) (x : A) → result_ok r ≡ Some x → r ≡ Ok x
 ok_is (Ok y) x is = let same : y ≡ x = cc in ap Ok same
 ok_is (Err e) x is = absurd cc
 
 pub children_are : (entries : List Entry) (text : List ℕ) → (children text ≡ Some entries) ↔ (directory_reading text ≡ Ok entries)
 unfolding children
 children_are entries text = (λ is. ok_is (directory_reading text) entries is, λ is. ap result_ok is)
-
-pub made_are : (entries : List Entry) (json : List ℕ) → (made json ≡ Some entries) ↔ (making json ≡ Ok entries)
-unfolding made
-made_are entries json = (λ is. ok_is (making json) entries is, λ is. ap result_ok is)

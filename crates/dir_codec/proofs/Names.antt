@@ -11,8 +11,7 @@ use Rattle.std.specs.Cmp.{both_ways}
 use Rattle.unicode_normalization.specs.Forms.{Nfc, is_in_form, IsInForm, nfc}
 use Rattle.unicode_normalization.proofs.FormsLemmas.{is_in_form-true, is_in_form_from, nfc_idem}
 use Rattle.std.specs.Cmp.Lexicographic.{slice_cmp}
-use Rattle.dir_codec.specs.Children.{nfc_text}
-use Rattle.dir_codec.specs.Names.{is_name}
+use Rattle.dir_codec.specs.Names.{is_name, nfc_text}
 
 -- a text that is not empty is a name just where it is in NFC
 pub text_is_name : (text : List ℕ) (b : Bool) → IsUtf8 text → (length text == 0) ≡ false → (IsTrue b ↔ IsInForm Nfc (chars text)) → is_name text ≡ b

@@ -7,8 +7,8 @@ use Rattle.std.specs.Prelude.{bytes_eq}
 use Rattle.std.specs.Ordering.{nat_cmp, is_lt}
 use Rattle.std.specs.Cmp.Lexicographic.{slice_cmp}
 use Rattle.caps.specs.declared.cap.Cap.{Cap}
-use Rattle.dir_codec.specs.Judging.{IsJudging, IsJudgedSoFar, IsJudgedOn}
-use Rattle.dir_codec.specs.Metadata.{spelling_of}
+use Rattle.json_spelling.specs.Judging.{IsJudging, IsJudgedSoFar, IsJudgedOn}
+use Rattle.json_spelling.specs.Metadata.{spelling_of}
 use Rattle.dir_codec.specs.Names.{is_name}
 use Rattle.dir_codec.specs.Parts.{EntryTexts, first_entry}
 use Rattle.dir_codec.specs.Reading.{child_reading, with_metadata, with_cap, entry_reading, before_more, reading_after}
@@ -18,8 +18,8 @@ use Rattle.dir_codec.specs.declared.fault.DirFault.{DirFault}
 use Rattle.dir_codec.specs.declared.fault.DirFault.TheVariants.{Torn, NotSorted, BadName, WriteCap, BadMetadata}
 use Rattle.dir_codec.specs.declared.finder.Finder.{Finder}
 use Rattle.dir_codec.specs.declared.finder.Sought.TheVariants.{NoDirectory}
-use Rattle.dir_codec.specs.declared.judging.Judged.{Judged}
-use Rattle.dir_codec.specs.declared.judging.Judging.{Judging}
+use Rattle.json_spelling.specs.declared.judging.Judged.{Judged}
+use Rattle.json_spelling.specs.declared.judging.Judging.{Judging}
 use Rattle.dir_codec.proofs.Belong.{not_zero}
 use Rattle.dir_codec.proofs.EntrySizes.{metadata_sizes, metadata_within}
 use Rattle.dir_codec.proofs.SoughtNames.{one_more_read, more_judged, fault_read}

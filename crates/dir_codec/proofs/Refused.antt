@@ -10,7 +10,7 @@ use Rattle.caps.specs.declared.cap.Cap.{Cap}
 use Rattle.caps.specs.declared.fault.CapFault.{CapFault}
 use Rattle.caps.specs.declared.fault.CapFault.TheVariants.{UnknownKind, Mutable, BadField, BadNumber}
 use Rattle.dir_codec.specs.Names.{is_name, IsAbove}
-use Rattle.dir_codec.specs.Metadata.{spelling_of}
+use Rattle.json_spelling.specs.Metadata.{spelling_of}
 use Rattle.dir_codec.specs.Entries.{is_child_cap}
 use Rattle.dir_codec.specs.Faults.{IsNoChild, text_of_entry, HasNameAndCap, HasFault, RefusesAbove}
 use Rattle.dir_codec.specs.Parts.{EntryTexts, first_entry}

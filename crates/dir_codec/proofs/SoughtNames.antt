@@ -8,13 +8,13 @@ use Rattle.std.specs.Prelude.{bytes_eq}
 use Rattle.std.specs.Result.{result_ok}
 use Rattle.dir_codec.specs.Reading.{before_more, reading_after, directory_reading, children}
 use Rattle.dir_codec.specs.Parts.{first_entry}
-use Rattle.dir_codec.specs.Judging.{IsJudging}
+use Rattle.json_spelling.specs.Judging.{IsJudging}
 use Rattle.dir_codec.specs.Find.{child_named}
 use Rattle.dir_codec.specs.Sought.{cap_of_child, sought_of, sought_among, sought_in, after_those, metadata_of_entry, IsFinding}
 use Rattle.dir_codec.specs.declared.entry.Entry.{Entry}
 use Rattle.dir_codec.specs.declared.fault.DirFault.{DirFault}
 use Rattle.dir_codec.specs.declared.finder.Finder.{Finder}
-use Rattle.dir_codec.specs.declared.judging.Judging.{Judging}
+use Rattle.json_spelling.specs.declared.judging.Judging.{Judging}
 use Rattle.dir_codec.specs.declared.finder.Sought.TheVariants.{NoDirectory}
 use Rattle.dir_codec.proofs.Steps.{after_none, after_one_more, read_all}
 

@@ -3,7 +3,7 @@ use Rattle.std.specs.Prelude.{◌≡◌, ℕ, true, List, [], ◌∷◌, ◌++�
 use Rattle.caps.specs.CapTexts.{IsCapText, cap_text}
 use Rattle.tag_hash.specs.Netstring.{netstring}
 use Rattle.dir_codec.specs.Names.{is_name, IsAbove}
-use Rattle.dir_codec.specs.Metadata.{spelling_of}
+use Rattle.json_spelling.specs.Metadata.{spelling_of}
 use Rattle.dir_codec.specs.Entries.{is_child_cap}
 use Rattle.dir_codec.specs.declared.entry.Entry.{Entry}
 

@@ -5,7 +5,7 @@ use Rattle.caps.specs.declared.cap.Cap.TheVariants.{Chk, Lit, DirChk, DirLit, Ch
 use Rattle.caps.specs.CapTexts.{cap_text}
 use Rattle.caps.specs.Reading.{cap_reading}
 use Rattle.dir_codec.specs.Names.{is_name, IsAbove}
-use Rattle.dir_codec.specs.Metadata.{spelling_of}
+use Rattle.json_spelling.specs.Metadata.{spelling_of}
 use Rattle.dir_codec.specs.declared.entry.Entry.{Entry}
 
 -- a cap that reads a file or a directory that can't change

@@ -5,7 +5,7 @@ use Rattle.caps.specs.Refusals.{RefusesCap}
 use Rattle.caps.specs.declared.cap.Cap.{Cap}
 use Rattle.caps.specs.declared.fault.CapFault.TheVariants.{UnknownKind, Mutable, BadField, BadNumber}
 use Rattle.dir_codec.specs.Names.{is_name, IsAbove}
-use Rattle.dir_codec.specs.Metadata.{spelling_of}
+use Rattle.json_spelling.specs.Metadata.{spelling_of}
 use Rattle.dir_codec.specs.Entries.{is_child_cap, last_name}
 use Rattle.dir_codec.specs.Parts.{EntryTexts}
 use Rattle.dir_codec.specs.DirectoryText.{entry_text, IsTextAbove}

@@ -2,7 +2,7 @@
 use Rattle.std.specs.Prelude.{◌≡◌, ℕ, ◌<◌, ◌≤◌, List, length, drop, Option, Some, IfSome}
 use Rattle.dir_codec.specs.Names.{IsAbove}
 use Rattle.dir_codec.specs.Entries.{IsEntry}
-use Rattle.dir_codec.specs.Metadata.{spelling_of}
+use Rattle.json_spelling.specs.Metadata.{spelling_of}
 use Rattle.dir_codec.specs.Parts.{EntryTexts, first_entry, first_metadata}
 use Rattle.dir_codec.specs.Reading.{before_more, then_more, entry_reading, reading_after}
 use Rattle.dir_codec.specs.declared.entry.Entry.{Entry}

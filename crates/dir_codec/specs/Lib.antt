@@ -1,8 +1,5 @@
--- Read DirectoryText first, over Names, Metadata and Entries; then Reading and Faults, Find and Sought, and Children with
--- MadeOf and TextMakers.
+-- Read DirectoryText first, over Names and Entries; then Reading and Faults, Find and Sought.
 pub mod Names
-pub mod Metadata
-pub mod Spelled
 pub mod Entries
 pub mod DirectoryText
 pub mod Parts
@@ -12,22 +9,3 @@ pub mod Faults
 pub mod Find
 pub mod Sought
 pub mod Cuts
-pub mod Children
-pub mod MadeOf
-pub mod Named
-pub mod Kept
-pub mod Sound
-pub mod Collected
-pub mod TextMakers
-pub mod Speller
-pub mod TokenPieces
-pub mod PieceReaders
-pub mod MetadataSpellers
-pub mod Judge
-pub mod CommaSearch
-pub mod Judging
-pub mod MemberReader
-pub mod Piecewise
-pub mod Taking
-pub mod Readings
-pub mod Collecting

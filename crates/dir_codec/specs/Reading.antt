@@ -8,7 +8,7 @@ use Rattle.caps.specs.declared.fault.CapFault.{CapFault}
 use Rattle.caps.specs.declared.fault.CapFault.TheVariants.{UnknownKind, Mutable, BadField, BadNumber}
 use Rattle.caps.specs.Reading.{cap_reading}
 use Rattle.dir_codec.specs.Names.{is_name}
-use Rattle.dir_codec.specs.Metadata.{spelling_of}
+use Rattle.json_spelling.specs.Metadata.{spelling_of}
 use Rattle.dir_codec.specs.Entries.{is_child_cap}
 use Rattle.dir_codec.specs.Parts.{EntryTexts, first_entry}
 use Rattle.dir_codec.specs.declared.entry.Entry.{Entry}

@@ -4,7 +4,7 @@ use Rattle.caps.specs.declared.cap.Cap.{Cap}
 use Rattle.dir_codec.specs.Parts.{EntryTexts, first_entry}
 use Rattle.dir_codec.specs.Reading.{reading_after, directory_reading}
 use Rattle.dir_codec.specs.Find.{child_named}
-use Rattle.dir_codec.specs.Judging.{IsJudgedSoFar, judged_bytes}
+use Rattle.json_spelling.specs.Judging.{IsJudgedSoFar, judged_bytes}
 use Rattle.dir_codec.specs.declared.entry.Entry.{Entry}
 use Rattle.dir_codec.specs.declared.fault.DirFault.{DirFault}
 use Rattle.dir_codec.specs.declared.finder.Sought.{Sought}

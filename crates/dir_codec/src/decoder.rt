@@ -6,7 +6,7 @@ ghost use Rattle.caps.specs.CapTexts.{cap_text};
 ghost use Rattle.caps.specs.Reading.{cap_reading};
 ghost use Rattle.dir_codec.specs.Names.{is_name, IsAbove};
 ghost use Rattle.dir_codec.specs.Entries.{is_child_cap, IsEntry, IsDirectory};
-ghost use Rattle.dir_codec.specs.Metadata.{spelling_of};
+ghost use Rattle.json_spelling.specs.Metadata.{spelling_of};
 ghost use Rattle.dir_codec.specs.Reading.{child_reading, with_metadata, entry_reading, directory_reading};
 ghost use Rattle.dir_codec.specs.Cuts.{texts_now};
 ghost use Rattle.dir_codec.specs.declared.fault.DirFault.TheVariants.{NoMemory};
@@ -15,10 +15,9 @@ use crate::directory::Directory;
 use crate::entries::{last_name, read_first};
 use crate::entry::Entry;
 use crate::fault::DirFault;
-use crate::metadata::{spell_bytes, spelling_is_kept};
 use crate::parts::Parts;
-use crate::spelling::Keys;
 use caps::{Cap, parse_bytes};
+use json_spelling::{Keys, spell_bytes, spelling_is_kept};
 use octets::Text;
 use std::alloc::{AllocError, Global};
 use unicode_normalization::is_nfc;
@@ -165,7 +164,10 @@ pub(crate) fn name_in(alloc: Global, bytes: &[u8]) -> Result<Option<&str>, Alloc
 }
 
 /// The cap that a text is, where it may be a child.
-pub(crate) fn read_cap(alloc: Global, text: &[u8]) -> Result<Cap, DirFault>
+///
+/// # Errors
+/// BadCap where it is no cap's text, NotImmutable where a child can't have the cap, and NoMemory.
+pub fn read_cap(alloc: Global, text: &[u8]) -> Result<Cap, DirFault>
     ensures ok { IfOk result (λ cap. child_reading text.now ≡ Ok cap) }
     ensures child { IfOk result (λ cap. is_child_cap cap ≡ true) }
     ensures kept { IfOk result (λ cap. cap_reading (cap_text cap) ≡ Ok cap) }

@@ -30,7 +30,7 @@ impl Model for Directory {
 
 impl Directory {
     /// The directory of these entries.
-    pub(crate) fn from_entries(entries: Vec<Entry>) -> Self
+    pub fn from_entries(entries: Vec<Entry>) -> Self
         requires { IsDirectory entries.items }
         ensures { result ≡ entries.items }
     {

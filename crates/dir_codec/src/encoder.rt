@@ -21,7 +21,10 @@ pub fn encode(alloc: Global, directory: &Directory) -> Result<Vec<u8>, AllocErro
 }
 
 /// Appends the text of an entry. What `inside` holds is dropped, and its memory used.
-pub(crate) fn push_entry(
+///
+/// # Errors
+/// `AllocError` where memory is refused.
+pub fn push_entry(
     alloc: Global,
     text: &mut Vec<u8>,
     inside: &mut Vec<u8>,

@@ -2,12 +2,12 @@
 ghost use Rattle.std.specs.Prelude.{◌≡◌, ℕ, List, IfOk};
 ghost use Rattle.dir_codec.specs.Sought.{sought_of, sought_in, IsFinding, IsFoundOn, IsAhead};
 
-use crate::comma_search::STEP_BYTES;
 use crate::decoder::{Named, read_named};
 use crate::fault::is_memory;
-use crate::judging::{Judged, Judging, judge};
 use crate::parts::first_entry;
 use caps::Cap;
+use json_spelling::STEP_BYTES;
+use json_spelling::judging::{Judged, Judging, judge};
 use octets::Text;
 use std::alloc::{AllocError, Global};
 

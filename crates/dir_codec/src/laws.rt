@@ -1,16 +1,9 @@
 //! What holds of directory texts.
-ghost use Rattle.std.specs.Prelude.{◌≡◌, ◌↔◌, ◌<◌, ◌≤◌, ◌^◌, ℕ, false, List, length, Ok, Err, Some, None};
-ghost use Rattle.serde_json.specs.Data.{Data, depth};
-ghost use Rattle.serde_json.specs.Read.{read};
-ghost use Rattle.serde_json.specs.Written.{has_float, compact_text};
-ghost use Rattle.dir_codec.specs.Sound.{IsSound};
-ghost use Rattle.dir_codec.specs.Metadata.{metadata_of, spelling_of};
+ghost use Rattle.std.specs.Prelude.{◌≡◌, ◌↔◌, ◌<◌, ◌^◌, ℕ, List, length, Ok, Err, Some, None};
 ghost use Rattle.dir_codec.specs.Entries.{IsDirectory};
 ghost use Rattle.dir_codec.specs.DirectoryText.{IsDirectoryText, directory_text};
 ghost use Rattle.dir_codec.specs.Reading.{reading_after, directory_reading, children};
 ghost use Rattle.dir_codec.specs.Sought.{cap_of_child, sought_of, sought_in};
-ghost use Rattle.dir_codec.specs.Children.{making, made};
-ghost use Rattle.dir_codec.specs.MadeOf.{AreMadeOf, RefusesJson};
 ghost use Rattle.dir_codec.specs.Faults.{RefusesDirectory};
 ghost use Rattle.dir_codec.specs.declared.entry.Entry.{Entry};
 ghost use Rattle.dir_codec.specs.declared.fault.DirFault.{DirFault};
@@ -64,36 +57,5 @@ pub fn written_directories_are_read_back()
         → length (directory_text entries) < 2 ^ 64 → directory_reading (directory_text entries) ≡ Ok entries }
 {
     netstrings_are_read_back();
-    reading_is_decided();
-}
-
-/// The metadata that an entry keeps are those that its text was read to: a spelling that spells itself stands for the
-/// same value as each text that it is the spelling of.
-pub fn spellings_stand_for_metadata()
-    ensures { (text kept : List ℕ) → spelling_of text ≡ Some kept → spelling_of kept ≡ Some kept
-        → metadata_of kept ≡ metadata_of text }
-{}
-
-/// `serde_json`'s compact text of a value whose numbers are whole ones of 64 bits is read as that value, up to the levels that its
-/// reader goes down.
-pub fn whole_values_are_read_back()
-    ensures { (value : Data) → IsSound value → has_float value ≡ false → depth value ≤ 127
-        → read (compact_text value) ≡ Some value }
-{}
-
-/// The children that JSON names are those that are made of it.
-pub fn made_children_are_named()
-    ensures { (entries : List Entry) (json : List ℕ)
-        → ((made json ≡ Some entries) ↔ (making json ≡ Ok entries)) }
-{}
-
-/// Children JSON makes exactly the entries of its object's members, one of each, in the order of their names, and is
-/// refused for the first member that is at fault.
-pub fn children_are_the_members_entries()
-    ensures made { (entries : List Entry) (json : List ℕ)
-        → ((made json ≡ Some entries) ↔ AreMadeOf entries json) }
-    ensures refused { (fault : DirFault) (json : List ℕ)
-        → ((making json ≡ Err fault) ↔ RefusesJson fault json) }
-{
     reading_is_decided();
 }

@@ -9,7 +9,7 @@ use Rattle.serde_json.specs.Written.{items_have_float, comma_if, items_text, com
 use Rattle.serde_json.proofs.OnLiterals.{serde_json_on_literals}
 use Rattle.base32_text.specs.Base32.{spelling}
 use Rattle.file_shares.specs.Check.{HealthValue}
-use Rattle.dir_codec.specs.Sound.{ItemsAreSound}
+use Rattle.json_spelling.specs.Sound.{ItemsAreSound}
 use Rattle.json_view.specs.Strings.{quoted}
 use Rattle.health_json.specs.Checks.{truth, bad_share_text, counts_text, check_text, literal_check_text}
 use Rattle.health_json.specs.Values.{share_value, shares_value, check_value, literal_check_value, IsCounted}

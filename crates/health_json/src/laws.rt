@@ -7,7 +7,7 @@ ghost use Rattle.file_shares.specs.Check.{HealthValue};
 ghost use Rattle.health_json.specs.Checks.{check_text, sharemap, servers_places, sharemap_text, mapped_check_text, literal_check_text};
 ghost use Rattle.health_json.specs.Values.{check_value, mapped_check_value, literal_check_value, in_key_order, IsCounted};
 
-use dir_codec::laws::whole_values_are_read_back;
+use json_spelling::laws::whole_values_are_read_back;
 
 /// A sharemap has the places that it was made of, and no others, in their order. Where places of one number follow one
 /// another their servers are in one list.

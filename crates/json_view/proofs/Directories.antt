@@ -10,7 +10,7 @@ use Rattle.serde_json.proofs.OnLiterals.{serde_json_on_literals}
 use Rattle.caps.specs.declared.cap.Cap.{Cap}
 use Rattle.caps.specs.declared.cap.Cap.TheVariants.{Chk, Lit, DirChk, DirLit, ChkVerify, DirChkVerify}
 use Rattle.dir_codec.specs.Entries.{AreEntriesAbove, IsDirectory}
-use Rattle.dir_codec.specs.Sound.{IsBelowAll, IsSound, MembersAreSound}
+use Rattle.json_spelling.specs.Sound.{IsBelowAll, IsSound, MembersAreSound}
 use Rattle.dir_codec.specs.declared.entry.Entry.{Entry}
 use Rattle.json_view.specs.Strings.{quoted, needs_no_escape}
 use Rattle.json_view.specs.Nodes.{node_kind, node_members, child_text, dir_text}

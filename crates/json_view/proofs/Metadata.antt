@@ -6,9 +6,9 @@ use Rattle.serde_json.specs.Data.{Data, null, depth}
 use Rattle.serde_json.specs.Find.{as_object}
 use Rattle.serde_json.specs.Read.{read}
 use Rattle.serde_json.specs.Written.{has_float, compact_text}
-use Rattle.dir_codec.specs.Metadata.{is_metadata, if_metadata, json_of, metadata_of, spelling_of}
-use Rattle.dir_codec.specs.Sound.{IsSound}
-use Rattle.dir_codec.proofs.SoundLemmas.{read_sound}
+use Rattle.json_spelling.specs.Metadata.{is_metadata, if_metadata, json_of, metadata_of, spelling_of}
+use Rattle.json_spelling.specs.Sound.{IsSound}
+use Rattle.json_spelling.proofs.SoundLemmas.{read_sound}
 use Rattle.json_view.proofs.Plain.{not_true}
 
 -- the text is that of a value that may stand in a larger one, and is read as that value

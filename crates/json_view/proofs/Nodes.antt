@@ -9,7 +9,7 @@ use Rattle.caps.specs.declared.cap.Cap.TheVariants.{Chk, Lit, DirChk, DirLit, Ch
 use Rattle.caps.specs.declared.cap.VerifyCap.{VerifyCap}
 use Rattle.caps.specs.CapTexts.{cap_text}
 use Rattle.caps.specs.Weakening.{weakened, cap_of}
-use Rattle.dir_codec.specs.Sound.{IsBelowAll, MembersAreSound}
+use Rattle.json_spelling.specs.Sound.{IsBelowAll, MembersAreSound}
 use Rattle.json_view.specs.Strings.{quoted}
 use Rattle.json_view.specs.Nodes.{size_member, verify_member, node_members}
 use Rattle.json_view.specs.Values.{file_size, size_value, verify_value, node_value}

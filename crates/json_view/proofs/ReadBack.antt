@@ -3,7 +3,7 @@ use Rattle.std.proofs.Common.{◌≡◌, ℕ, ◌≤◌, false, List, Some, ap, 
 use Rattle.serde_json.specs.Data.{Data, depth}
 use Rattle.serde_json.specs.Read.{read}
 use Rattle.serde_json.specs.Written.{has_float, compact_text}
-use Rattle.dir_codec.specs.Sound.{IsSound}
+use Rattle.json_spelling.specs.Sound.{IsSound}
 
 -- what `dir_codec` says of values
 abbrev pub ValuesAreReadBack : Type 0

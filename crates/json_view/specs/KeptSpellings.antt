@@ -3,8 +3,8 @@ use Rattle.std.specs.Prelude.{⊤, ℕ, ◌-◌, ◌≤◌, List, length, drop, 
 use Rattle.std.specs.List.{All}
 use Rattle.dir_codec.specs.First.{IsFirstSpelling}
 use Rattle.dir_codec.specs.Parts.{first_metadata}
-use Rattle.dir_codec.specs.MetadataSpellers.{IsMetadataSpeller}
-use Rattle.dir_codec.specs.declared.metadata_speller.MetadataSpeller.{MetadataSpeller}
+use Rattle.json_spelling.specs.MetadataSpellers.{IsMetadataSpeller}
+use Rattle.json_spelling.specs.declared.metadata_speller.MetadataSpeller.{MetadataSpeller}
 use Rattle.json_view.specs.declared.kept_spelling.KeptSpelling.{KeptSpelling}
 
 -- where so many bytes of a text are left, an entry stands whose metadata have this spelling

@@ -7,7 +7,7 @@ use Rattle.caps.specs.declared.cap.Cap.{Cap}
 use Rattle.dir_codec.specs.Reading.{reading_after, directory_reading}
 use Rattle.dir_codec.specs.declared.entry.Entry.{Entry}
 use Rattle.dir_codec.specs.declared.fault.DirFault.{DirFault}
-use Rattle.dir_codec.specs.declared.metadata_speller.MetadataSpeller.{MetadataSpeller}
+use Rattle.json_spelling.specs.declared.metadata_speller.MetadataSpeller.{MetadataSpeller}
 use Rattle.json_view.specs.declared.kept_spelling.KeptSpelling.{KeptSpelling}
 use Rattle.json_view.specs.KeptSpellings.{AreSpellingsIn, IsFirstSpeller}
 use Rattle.json_view.specs.Nodes.{node_members, child_text, dir_text}

@@ -4,7 +4,7 @@ ghost use Rattle.std.specs.Rc.{rc_slice_items};
 ghost use Rattle.serde_json.specs.Written.{comma_if};
 ghost use Rattle.dir_codec.specs.Parts.{first_metadata};
 ghost use Rattle.dir_codec.specs.First.{IsFirstSpelling};
-ghost use Rattle.dir_codec.specs.MetadataSpellers.{IsSpelledOn};
+ghost use Rattle.json_spelling.specs.MetadataSpellers.{IsSpelledOn};
 ghost use Rattle.dir_codec.specs.Reading.{directory_reading};
 ghost use Rattle.dir_codec.specs.declared.fault.DirFault.TheVariants.{NoMemory};
 ghost use Rattle.json_view.specs.Nodes.{child_text};
@@ -14,10 +14,8 @@ ghost use Rattle.json_view.specs.Counts.{count_text};
 
 use crate::kept_spelling::{KeptSpelling, keep_spelling};
 use crate::node::child_len;
-use dir_codec::{
-    DirFault, Entry, MetadataSpeller, MetadataSpelling, first_metadata, is_memory, read_first,
-    read_spelled,
-};
+use dir_codec::{DirFault, Entry, first_metadata, is_memory, read_first, read_spelled};
+use json_spelling::{MetadataSpeller, MetadataSpelling};
 use octets::Text;
 use std::alloc::{AllocError, Global};
 use std::collections::VecDeque;

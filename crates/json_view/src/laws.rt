@@ -12,7 +12,7 @@ ghost use Rattle.json_view.specs.Nodes.{file_text, dir_text};
 ghost use Rattle.json_view.specs.Values.{file_value, file_size, metadata_value, dir_value};
 
 use caps::laws::reading_is_decided;
-use dir_codec::laws::whole_values_are_read_back;
+use json_spelling::laws::whole_values_are_read_back;
 
 /// What stands in a JSON string for a quote, a backslash and control characters. Every other byte stands for itself. For
 /// two texts, one after the other, stands what does for the first, and then what does for the second.

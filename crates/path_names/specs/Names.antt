@@ -4,7 +4,7 @@ use Rattle.std.specs.List.{slice_split, list_any, list_all}
 use Rattle.std.specs.Char.{is_ascii_hexdigit}
 use Rattle.std.specs.Str.{is_utf8}
 use Rattle.percent_encoding.specs.Percent.{percent_decode}
-use Rattle.dir_codec.specs.Children.{nfc_text}
+use Rattle.dir_codec.specs.Names.{nfc_text}
 use Rattle.path_names.specs.declared.fault.PathFault.{PathFault}
 use Rattle.path_names.specs.declared.fault.PathFault.TheVariants.{BadEscape, NotUtf8, TooMany, EmptyName}
 

@@ -3,7 +3,7 @@ ghost use Rattle.std.specs.Prelude.{◌≡◌, ◌≢◌, ◌<◌, true, false, 
 ghost use Rattle.std.specs.List.{list_all, list_any};
 ghost use Rattle.std.specs.Str.{is_utf8};
 ghost use Rattle.percent_encoding.specs.Percent.{percent_decode};
-ghost use Rattle.dir_codec.specs.Children.{nfc_text};
+ghost use Rattle.dir_codec.specs.Names.{nfc_text};
 ghost use Rattle.path_names.specs.Names.{segment_texts, is_empty, names_of};
 ghost use Rattle.path_names.specs.declared.fault.PathFault.TheVariants.{NotUtf8, NoMemory};
 
@@ -83,7 +83,7 @@ fn has_empty(texts: &[Text]) -> bool
 }
 
 /// A text in Normalization Form C (UAX 15), as the names of a directory's children are.
-#[tactic(auto, unfolding(dir_codec::specs::Children::nfc_text))]
+#[tactic(auto, unfolding(dir_codec::specs::Names::nfc_text))]
 fn nfc_of(alloc: Global, text: &Text) -> Result<Text, AllocError>
     ensures { IfOk result (λ name. name ≡ nfc_text text.now) }
 {

@@ -24,7 +24,7 @@ use Rattle.kept_store.specs.declared.calls.Call.TheVariants.{Put, Lose, Toggle}
 use Rattle.grid.specs.Standing.{Standing, standing}
 use Rattle.grid.specs.Placement.{server_of, placed}
 use Rattle.dir_codec.specs.declared.entry.Entry.{Entry as Child}
-use Rattle.dir_codec.specs.Children.{made}
+use Rattle.children_reader.specs.Children.{made}
 use Rattle.chk_file.specs.Upload.{Upload, index, share_of, shares_of}
 use Rattle.chk_file.specs.Marks.{shown, put_marks}
 use Rattle.chk_file.specs.World.{World, with_file}

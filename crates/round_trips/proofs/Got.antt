@@ -7,7 +7,7 @@ use Rattle.caps.specs.Fields.{ReadValue}
 use Rattle.caps.specs.Weakening.{verify_fields}
 use Rattle.caps.specs.CapTexts.{IsCapText}
 use Rattle.caps.specs.declared.cap.Cap.TheVariants.{Chk, DirChk}
-use Rattle.dir_codec.specs.Children.{made}
+use Rattle.children_reader.specs.Children.{made}
 use Rattle.dir_codec.specs.DirectoryText.{directory_text}
 use Rattle.dir_codec.specs.declared.entry.Entry.{Entry as Child}
 use Rattle.chk_file.specs.Upload.{Upload, IsUpload, params, key_of, fields, upload_cap}

@@ -17,7 +17,7 @@ use Rattle.web_ops.specs.declared.reply.Reply.{Reply}
 use Rattle.caps.specs.Fields.{VerifyValue}
 use Rattle.caps.specs.Weakening.{verify_fields, cap_of}
 use Rattle.caps.specs.declared.cap.VerifyCap.{VerifyCap}
-use Rattle.dir_codec.specs.Children.{made}
+use Rattle.children_reader.specs.Children.{made}
 use Rattle.dir_codec.specs.declared.entry.Entry.{Entry as Child}
 use Rattle.chk_file.specs.Look.{Look}
 use Rattle.web_request.specs.declared.request.Request.TheVariants as request

@@ -189,7 +189,7 @@ pub fn what_is_put_is_told_again()
     caps::laws::caps_have_one_text();
     caps::laws::texts_have_one_cap();
     children_json::laws::written_children_are_made();
-    dir_codec::laws::made_children_are_named();
+    children_reader::laws::made_children_are_named();
     tag_hash::laws::digests_are_bytes();
     tag_hash::laws::texts_fix_their_parts();
 }
@@ -250,7 +250,7 @@ pub fn directories_come_back<E: Exchange>()
     caps::laws::caps_have_one_text();
     caps::laws::texts_have_one_cap();
     children_json::laws::written_children_are_made();
-    dir_codec::laws::made_children_are_named();
+    children_reader::laws::made_children_are_named();
     dir_codec::laws::written_directories_are_read_back();
     tag_hash::laws::digests_are_bytes();
     tag_hash::laws::texts_fix_their_parts();

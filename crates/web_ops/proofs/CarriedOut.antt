@@ -24,8 +24,8 @@ use Rattle.web_request.specs.declared.request.Request.{Request}
 use Rattle.web_ops.specs.declared.reply.Reply.{Reply}
 use Rattle.web_ops.specs.declared.reply.Status.TheVariants as status
 use Rattle.dir_codec.specs.declared.entry.Entry.{Entry}
-use Rattle.dir_codec.specs.Children.{made}
-use Rattle.dir_codec.specs.TextMakers.{text_made}
+use Rattle.children_reader.specs.Children.{made}
+use Rattle.children_reader.specs.TextMakers.{text_made}
 use Rattle.dir_codec.specs.DirectoryText.{directory_text}
 use Rattle.web_request.specs.declared.request.Request.TheVariants.{Mkdir}
 use Rattle.web_ops.specs.Encoding.{Encoding, upload_of}

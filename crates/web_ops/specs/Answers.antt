@@ -7,7 +7,7 @@ use Rattle.caps.specs.Kinds.{is_verify_cap}
 use Rattle.caps.specs.Weakening.{verify_fields, weakened}
 use Rattle.dir_codec.specs.declared.entry.Entry.{Entry}
 use Rattle.dir_codec.specs.Reading.{children}
-use Rattle.dir_codec.specs.Children.{made}
+use Rattle.children_reader.specs.Children.{made}
 use Rattle.chk_file.specs.Upload.{upload_cap}
 use Rattle.file_shares.specs.Check.{HealthValue, check}
 use Rattle.chk_file.specs.Look.{Look}

@@ -6,7 +6,7 @@ use Rattle.caps.specs.declared.cap.VerifyCap.{VerifyCap}
 use Rattle.caps.specs.Fields.{ReadValue, VerifyValue}
 use Rattle.caps.specs.Weakening.{verify_fields, weakened}
 use Rattle.dir_codec.specs.declared.entry.Entry.{Entry}
-use Rattle.dir_codec.specs.Children.{made}
+use Rattle.children_reader.specs.Children.{made}
 use Rattle.file_shares.specs.Bound.{Bound}
 use Rattle.file_shares.specs.Check.{HealthValue}
 use Rattle.chk_file.specs.Upload.{upload_cap}

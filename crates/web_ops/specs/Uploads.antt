@@ -3,7 +3,7 @@ use Rattle.std.specs.Prelude.{ℕ, List, length, nat_lt, if◌then◌else◌, Op
 use Rattle.caps.specs.declared.cap.Cap.{Cap}
 use Rattle.caps.specs.declared.cap.Cap.TheVariants.{Chk, Lit, DirChk, DirLit, ChkVerify, DirChkVerify}
 use Rattle.dir_codec.specs.declared.entry.Entry.{Entry}
-use Rattle.dir_codec.specs.Children.{made}
+use Rattle.children_reader.specs.Children.{made}
 use Rattle.dir_codec.specs.DirectoryText.{directory_text}
 use Rattle.chk_file.specs.Upload.{Upload, upload_cap}
 use Rattle.chk_file.specs.World.{World, after_upload}

@@ -6,7 +6,7 @@ use Rattle.std.specs.Str.{is_utf8}
 use Rattle.caps.specs.Reading.{cap_reading}
 use Rattle.caps.specs.declared.cap.Cap.{Cap}
 use Rattle.caps.specs.declared.fault.CapFault.{CapFault}
-use Rattle.dir_codec.specs.Children.{nfc_text}
+use Rattle.dir_codec.specs.Names.{nfc_text}
 use Rattle.path_names.specs.Names.{names_of, segment_texts, has_bad_escape, max_names, is_empty, first_or_empty}
 use Rattle.path_names.specs.declared.fault.PathFault.TheVariants as walk
 use Rattle.web_request.specs.Targets.{origin_of, path_of, query_text, resource_of, below_uri}

@@ -3,7 +3,7 @@ use Rattle.std.specs.Char.{encode_utf8}
 use Rattle.std.specs.Str.{chars, is_utf8}
 use Rattle.percent_encoding.specs.Percent.{percent_decode}
 use Rattle.unicode_normalization.proofs.Computing.{unicode_normalization}
-use Rattle.dir_codec.specs.Children.{nfc_text}
+use Rattle.dir_codec.specs.Names.{nfc_text}
 use Rattle.path_names.specs.Names.{has_bad_escape}
 use Rattle.path_names.proofs.laws.small_paths.Goals as goal
 

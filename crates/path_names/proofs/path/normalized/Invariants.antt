@@ -1,5 +1,5 @@
 use Rattle.std.proofs.Common.{◌≡◌, map, take}
-use Rattle.dir_codec.specs.Children.{nfc_text}
+use Rattle.dir_codec.specs.Names.{nfc_text}
 use Rattle.path_names.proofs.path.normalized.Given as goal
 
 abbrev pub invariant-loop-text : goal.invariant-loop-text

@@ -1,5 +1,5 @@
 use Rattle.std.proofs.Common.{◌≡◌, List, Some, ap}
-use Rattle.dir_codec.specs.Children.{made}
+use Rattle.children_reader.specs.Children.{made}
 use Rattle.dir_codec.specs.declared.entry.Entry.{Entry as Child}
 use Rattle.children_json.specs.Texts.{children_text}
 use Rattle.web_ops.specs.Uploads.{directory_upload, as_directory}

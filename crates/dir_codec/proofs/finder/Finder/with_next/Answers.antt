@@ -4,10 +4,10 @@ use Rattle.std.specs.Bool.{then_some}
 use Rattle.std.specs.Option.{option_or}
 use Rattle.std.specs.Prelude.{bytes_eq}
 use Rattle.dir_codec.specs.Cuts.{texts_now, entry_now}
-use Rattle.dir_codec.specs.Judging.{IsJudgedBehind, judged_bytes}
+use Rattle.json_spelling.specs.Judging.{IsJudgedBehind, judged_bytes}
 use Rattle.dir_codec.specs.Parts.{first_entry}
 use Rattle.dir_codec.specs.Reading.{entry_reading}
-use Rattle.dir_codec.specs.declared.judging.Judged.{Judged}
+use Rattle.json_spelling.specs.declared.judging.Judged.{Judged}
 use Rattle.dir_codec.proofs.EntrySizes.{metadata_sizes}
 use Rattle.dir_codec.proofs.NextEntries.{torn_sought, fault_sought, none_sought, judged_on, entry_sought}
 use Rattle.dir_codec.proofs.SoughtNames.{all_read}

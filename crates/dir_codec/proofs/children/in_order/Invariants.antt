@@ -1,6 +1,0 @@
-use Rattle.std.proofs.Common.{◌≡◌, ◌++◌}
-use Rattle.dir_codec.specs.Named.{entries_of}
-use Rattle.dir_codec.proofs.children.in_order.Given as goal
-
-abbrev pub invariant-loop-name : goal.invariant-loop-name
-invariant-loop-name l = l.entries.items ++ entries_of l.name-iterator ≡ entries_of l.fn.children.entries

@@ -1,5 +1,0 @@
-use Rattle.dir_codec.proofs.Braces.{IsSpaceTo}
-use Rattle.dir_codec.proofs.cutting.behind_brace.Given as goal
-
-abbrev pub invariant-loop-i : goal.invariant-loop-i
-invariant-loop-i l = IsSpaceTo l.json l.i

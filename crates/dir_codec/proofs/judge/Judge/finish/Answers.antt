@@ -1,5 +1,0 @@
-use Rattle.dir_codec.proofs.TokensJudged.{metadata_judged}
-use Rattle.dir_codec.proofs.judge.Judge.finish.Goals as goal
-
-pub returns : goal.returns
-returns c = metadata_judged c.args.self c.unwrap_or.result c.unwrap_or.ensures

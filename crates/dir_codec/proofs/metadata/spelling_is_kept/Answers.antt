@@ -1,6 +1,0 @@
-use Rattle.std.proofs.Common.{IsUtf8, subst}
-use Rattle.dir_codec.proofs.OnePass.{spelling_kept}
-use Rattle.dir_codec.proofs.metadata.spelling_is_kept.Goals as goal
-
-pub returns : goal.returns
-returns c bytes is = spelling_kept bytes c.args.spelled.now is (subst IsUtf8 c.as_str-text.ensures c.as_str-text.utf8)

@@ -1,0 +1,17 @@
+pub mod Json
+pub mod ReadData
+pub mod SoundLemmas
+pub mod Printed
+pub mod Spellings
+pub mod AtKeys
+pub mod PlainTexts
+pub mod OnePass
+pub mod CutPlaces
+pub mod SpelledMetadata
+pub mod PiecesTaken
+pub mod Judged
+pub mod DataFrames
+pub mod Following
+pub mod Unfit
+pub mod TokensJudged
+pub mod TokenPieces
