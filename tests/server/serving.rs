@@ -1,7 +1,7 @@
 //! Words, control requests, figures, and one folder.
 use crate::server::shares::share;
 use folder_shelf::{FolderFault, StoreSettings};
-use gate_core::Tally;
+use gate_base::Tally;
 use gate_limits::{Counts, Latencies, RequestKind};
 use server_board::figures::StoreFigures;
 use server_board::{Asked, Commit, ControlToken, Method, asked_by, metrics_text, status_text};

@@ -11,7 +11,7 @@ use range_view::{Resolved, resolve};
 use share_store::MemStore;
 use std::alloc::Global;
 use std::test::Fail;
-use web_ops::refusal;
+use web_replies::refusal;
 use web_request::{Fields, Head, WebFault, interpret};
 
 /// Each framing fault with its number and its words.

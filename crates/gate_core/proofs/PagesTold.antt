@@ -10,13 +10,13 @@ use Rattle.chk_file.specs.Upload.{Upload}
 use Rattle.chk_file.specs.World.{World, empty}
 use Rattle.chk_file.specs.Look.{Look}
 use Rattle.web_request.specs.declared.fault.WebFault.{WebFault}
-use Rattle.web_ops.specs.Replies.{page_reply, refusal_reply}
+use Rattle.web_replies.specs.Replies.{page_reply, refusal_reply}
 use Rattle.web_ops.specs.Uploads.{after_stored}
-use Rattle.gate_core.specs.declared.pages.Page.{Page}
+use Rattle.gate_base.specs.declared.pages.Page.{Page}
 use Rattle.gate_core.specs.Settings.{GatewaySettings, under, with_pages}
-use Rattle.gate_core.specs.Pages.{page_at, is_elsewhere, is_reading, page_read, page_or_refusal}
-use Rattle.gate_core.specs.Requests.{asked_of}
-use Rattle.gate_core.specs.Browsers.{sent_reply}
+use Rattle.gate_base.specs.Pages.{page_at, is_elsewhere, is_reading, page_read, page_or_refusal}
+use Rattle.gate_base.specs.Requests.{asked_of}
+use Rattle.gate_base.specs.Browsers.{sent_reply}
 use Rattle.gate_core.specs.Answers.{asked_reply, answer}
 use Rattle.gate_core.specs.Items.{Entry, Asked, Lost, Spoiled}
 use Rattle.gate_core.specs.Runs.{upload_by, after_entry, world_after}

@@ -24,7 +24,7 @@ use Rattle.web_request.specs.declared.request.Request.{Request}
 use Rattle.web_request.specs.declared.fault.WebFault.{WebFault}
 use Rattle.web_request.specs.declared.fault.WebFault.TheVariants.{NoMemory}
 use Rattle.web_request.specs.Requests.{interpreted}
-use Rattle.web_ops.specs.declared.reply.Reply.{Reply}
+use Rattle.web_replies.specs.declared.reply.Reply.{Reply}
 use Rattle.web_ops.specs.Encoding.{Encoding, encoding_of, mapping}
 use Rattle.web_ops.specs.Uploads.{upload_in, after_stored}
 use Rattle.web_ops.specs.Answers.{request_reply}
@@ -32,11 +32,11 @@ use Rattle.web_ops.specs.Replied.{IsReply}
 use Rattle.web_ops.specs.Amid.{IsReplyBy}
 use Rattle.web_ops.specs.Changes.{HasRoomFor, IsStoredIn, IsBegunIn, TellsOfIn, Follows}
 use Rattle.web_ops.proofs.Amid.{reply_so}
-use Rattle.gate_core.specs.declared.pages.Page.{Page}
+use Rattle.gate_base.specs.declared.pages.Page.{Page}
 use Rattle.gate_core.specs.Amid.{IsBound, IsGivenFor}
 use Rattle.gate_core.specs.Settings.{GatewaySettings, setup_of, settings_of}
-use Rattle.gate_core.specs.Pages.{reply_elsewhere}
-use Rattle.gate_core.specs.Requests.{Interpreted, web_head, asked_of}
+use Rattle.gate_base.specs.Pages.{reply_elsewhere}
+use Rattle.gate_base.specs.Requests.{Interpreted, web_head, asked_of}
 use Rattle.gate_core.specs.Uploaded.{BringsBytes}
 use Rattle.gate_core.specs.Rooms.{Rooms, brought_by}
 use Rattle.gate_core.specs.Came.{Shows}

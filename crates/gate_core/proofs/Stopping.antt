@@ -7,13 +7,14 @@ use Rattle.http_edge.specs.declared.item.Head.{Head}
 use Rattle.grid.specs.GridState.{GridState, IsHonest}
 use Rattle.grid.specs.Leaves.{Leaves}
 use Rattle.web_ops.specs.Changes.{IsBegunIn}
-use Rattle.gate_core.specs.declared.tally.Tally.{Tally}
-use Rattle.gate_core.specs.Settings.{Setup, GatewaySettings, settings_of, under, encoding_in}
-use Rattle.gate_core.specs.Requests.{asked_of}
+use Rattle.gate_base.specs.declared.tally.Tally.{Tally}
+use Rattle.gate_base.specs.Setup.{Setup}
+use Rattle.gate_core.specs.Settings.{GatewaySettings, settings_of, under, encoding_in}
+use Rattle.gate_base.specs.Requests.{asked_of}
 use Rattle.gate_core.specs.Runs.{upload_asked, upload_by}
 use Rattle.gate_core.specs.Served.{AreServed, AreServedAfter}
 use Rattle.gate_core.specs.Stopped.{upload_at, IsStoppedByMemory}
-use Rattle.gate_core.specs.Tallies.{AreTallied, AreTalliedAfter}
+use Rattle.gate_base.specs.Tallies.{AreTallied, AreTalliedAfter}
 use Rattle.gate_core.proofs.Performed.{nothing_begun}
 use Rattle.gate_core.proofs.Serving.{Leaves-refl, AreServed-none}
 use Rattle.gate_core.proofs.Tallying.{tallied_output}

@@ -9,9 +9,9 @@ use Rattle.http_edge.specs.declared.item.FramingFault.{FramingFault}
 use Rattle.http_edge.specs.declared.reply.Reply.{Reply}
 use Rattle.http_edge.specs.Judge.{is_head_request}
 use Rattle.http_edge.specs.Reply.{rendered, continue_text}
-use Rattle.gate_core.specs.declared.tally.Tally.{Tally}
-use Rattle.gate_core.specs.Wire.{framing_reply}
-use Rattle.gate_core.specs.Tallies.{tally_after, AreTallied, AreTalliedAfter}
+use Rattle.gate_base.specs.declared.tally.Tally.{Tally}
+use Rattle.gate_base.specs.Wire.{framing_reply}
+use Rattle.gate_base.specs.Tallies.{tally_after, AreTallied, AreTalliedAfter}
 
 -- two facts where a result is Ok
 pub both_ok : {T E : Type 0} (r : Result T E) (X Y Z : Type 0) → (X → Y → Z) → OnOk r X → OnOk r Y → OnOk r Z

@@ -10,11 +10,11 @@ use Rattle.caps.specs.StorageIndex.{index_of}
 use Rattle.file_shares.specs.Bound.{Bound}
 use Rattle.file_shares.specs.Fit.{fit}
 use Rattle.chk_file.specs.Amid.{SeesReached}
-use Rattle.web_ops.specs.declared.reply.Reply.{Reply as WebReply}
+use Rattle.web_replies.specs.declared.reply.Reply.{Reply as WebReply}
 use Rattle.web_ops.specs.Amid.{IsReplyBy}
 use Rattle.gate_core.specs.Settings.{GatewaySettings, encoding_in}
-use Rattle.gate_core.specs.Requests.{Interpreted, asked_of}
-use Rattle.gate_core.specs.Browsers.{sent_reply}
+use Rattle.gate_base.specs.Requests.{Interpreted, asked_of}
+use Rattle.gate_base.specs.Browsers.{sent_reply}
 
 -- these are bytes that are bound to the fields
 abbrev pub IsBound : ReadValue → Option (List ℕ) → Type 0

@@ -1,14 +1,9 @@
 -- How many bytes a reply holds while it waits.
-use Rattle.std.specs.Prelude.{ℕ, ◌+◌, ◌==◌, length, min, max, Bool, if◌then◌else◌}
+use Rattle.std.specs.Prelude.{ℕ, length, min, Bool, if◌then◌else◌}
 use Rattle.caps.specs.declared.cap.Cap.{Cap}
 use Rattle.caps.specs.declared.cap.Cap.TheVariants.{Chk, Lit, DirChk, DirLit}
 use Rattle.gate_core.specs.declared.foresight.Wanted.{Wanted}
 use Rattle.gate_core.specs.declared.foresight.Wanted.TheVariants.{Content, Listing}
-
--- None where nothing waits. Else shares of so many bytes, and of what waits no more than the text has, or than are made at a
--- time.
-abbrev pub held_while : ℕ → ℕ → ℕ → ℕ
-held_while shares text waiting = if waiting == 0 then 0 else shares + min waiting (max text 131072)
 
 -- Shares, or a file, that are held until their last byte is made, where the bytes of what a cap names are given: those of a
 -- file that stores don't lend, or the bytes of a literal one.

@@ -6,13 +6,13 @@ use Rattle.grid.specs.GridState.{GridState, IsHonest}
 use Rattle.grid.specs.Leaves.{Leaves}
 use Rattle.chk_file.specs.Upload.{Upload}
 use Rattle.web_ops.specs.Changes.{IsBegunIn}
-use Rattle.gate_core.specs.declared.tally.Tally.{Tally}
+use Rattle.gate_base.specs.declared.tally.Tally.{Tally}
 use Rattle.gate_core.specs.Settings.{GatewaySettings, under}
 use Rattle.gate_core.specs.Runs.{upload_by}
 use Rattle.gate_core.specs.ConnectionState.{ConnectionState, State, secret_at}
 use Rattle.gate_core.specs.AfterCall.{with_held, with_grid, with_tally, cut_state}
 use Rattle.gate_core.specs.Served.{AreServed}
-use Rattle.gate_core.specs.Tallies.{AreTallied}
+use Rattle.gate_base.specs.Tallies.{AreTallied}
 
 -- the upload of an item, where there is one
 abbrev pub upload_at : GatewaySettings → Option Item → Option Upload

@@ -6,10 +6,9 @@ ghost use Rattle.grid.specs.Leaves.{Leaves, IsUnchanged};
 ghost use Rattle.grid.specs.Views.{TellOn};
 ghost use Rattle.chk_file.specs.Cached.{IsCacheCurrent, IsWithin};
 
-use crate::holds::{Holds, Prospect};
-use crate::parameters::Parameters;
 use caps::{Cap, VerifyCap, weaken};
 use chk_file::{Cache, lends};
+use gate_base::{Holds, Parameters, Prospect};
 use grid::Grid;
 use http_edge::{Conn, Head, LastChunks};
 use octets::Bytes;

@@ -14,7 +14,7 @@ use Rattle.gate_core.specs.declared.stage.Stage.{Stage}
 use Rattle.gate_core.specs.declared.stage.Stage.TheVariants as stage
 use Rattle.gate_core.specs.declared.fault.GatewayFault.{GatewayFault}
 use Rattle.gate_core.specs.declared.fault.GatewayFault.TheVariants.{Known, NotOpen, Cut, BadParameters, StillOpen, NoMemory}
-use Rattle.gate_core.specs.declared.tally.Tally.{Tally}
+use Rattle.gate_base.specs.declared.tally.Tally.{Tally}
 use Rattle.gate_core.specs.Settings.{GatewaySettings}
 use Rattle.gate_core.specs.Events.{Event, Open, Bytes, End, Take, caller_of, piece_in, bytes_given_by, is_caller, is_event_of, calls_of, bytes_of_calls, handed}
 use Rattle.gate_core.specs.ConnectionState.{ConnectionState, State, connection_at, waiting, waiting_in, is_over, is_closed_in, stage_refusal, cut_refusal, open_refusal, bytes_refusal, take_refusal}

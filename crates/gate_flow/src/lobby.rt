@@ -13,7 +13,8 @@ ghost use Rattle.gate_flow.specs.declared.want.Want.TheVariants as want;
 use crate::calls::waits;
 use crate::fault::FlowFault;
 use crate::flow::Flow;
-use gate_core::{Gateway, Prospect};
+use gate_base::Prospect;
+use gate_core::Gateway;
 use share_store::Store;
 use std::alloc::Global;
 use std::marker::Model;
@@ -31,11 +32,11 @@ impl<S: Store> Model for Lobby<S> {
     ghost use Rattle.std.specs.Coded.{code_by, coded×, coded_ℕ};
     ghost use Rattle.grid.specs.GridState.{GridState, grid_code};
     ghost use Rattle.gate_core.specs.contracts.connection.Connection as held;
-    ghost use Rattle.gate_core.specs.contracts.pages.Page as page;
+    ghost use Rattle.gate_base.specs.contracts.pages.Page as page;
     ghost use Rattle.gate_core.specs.Settings.{GatewaySettings, settings_code};
     ghost use Rattle.gate_core.specs.ConnectionState.{Connections, State};
-    ghost use Rattle.gate_core.specs.declared.tally.Tally.{Tally};
-    ghost use Rattle.gate_core.specs.Tallies.{tally_code};
+    ghost use Rattle.gate_base.specs.declared.tally.Tally.{Tally};
+    ghost use Rattle.gate_base.specs.Tallies.{tally_code};
 
     ghost Value = { State };
 

@@ -2,12 +2,12 @@
 ghost use Rattle.std.specs.Prelude.{◌≡◌, ◌≢◌, ◌+◌, ◌<◌, ◌≤◌, ◌-◌, ◌^◌, ◌↔◌, if◌then◌else◌, min, IsTrue, IsFalse, IfSome, Some, None, [], false, true};
 ghost use Rattle.gate_core.specs.ConnectionState.{connection_at, waiting};
 ghost use Rattle.gate_core.specs.Kept.{kept_in};
-ghost use Rattle.gate_core.specs.Holds.{held_while};
+ghost use Rattle.gate_base.specs.Holds.{held_while};
 ghost use Rattle.gate_flow.specs.declared.want.Want.TheVariants as want;
 ghost use Rattle.gate_turns.specs.declared.seat.Side.TheVariants as side;
 
 use crate::tools::Tools;
-use gate_core::{Holds, Prospect};
+use gate_base::{Holds, Prospect};
 use gate_flow::{Flow, FlowFault, Lobby, Step, Want};
 use gate_limits::{LONG, Memory, Pace, Stopwatch, Way};
 use gate_turns::{End, Seat, Side, Turned};

@@ -3,7 +3,7 @@ use Rattle.std.specs.Prelude.{ℕ, false, List, [], replicate}
 use Rattle.std.specs.FinMap as finite
 use Rattle.grid.specs.Stamps.{never_raised}
 use Rattle.gate_core.specs.ConnectionState.{State}
-use Rattle.gate_core.specs.Tallies.{nothing_counted}
+use Rattle.gate_base.specs.Tallies.{nothing_counted}
 use Rattle.gate_tasks.specs.Stores.{fresh}
 
 -- for how many bytes each of its stores has room

@@ -1,6 +1,7 @@
 //! What callers ask and are told.
 
-use gate_core::{Gateway, Prospect};
+use gate_base::Prospect;
+use gate_core::Gateway;
 use share_store::{MemStore, Store};
 use std::alloc::Global;
 use std::test::Fail;

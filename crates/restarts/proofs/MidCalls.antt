@@ -20,7 +20,7 @@ use Rattle.chk_file.specs.Marks.{shown, put_marks}
 use Rattle.chk_file.specs.World.{World, with_file}
 use Rattle.web_ops.specs.Changes.{IsBegunIn}
 use Rattle.web_ops.specs.Uploads.{after_stored}
-use Rattle.gate_core.specs.declared.tally.Tally.{Tally}
+use Rattle.gate_base.specs.declared.tally.Tally.{Tally}
 use Rattle.gate_core.specs.Settings.{GatewaySettings, under}
 use Rattle.gate_core.specs.Items.{Entry, Asked, Lost, Spoiled, entries_of_items}
 use Rattle.gate_core.specs.Runs.{upload_by, after_entry}

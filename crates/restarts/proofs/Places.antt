@@ -35,7 +35,7 @@ use Rattle.web_request.specs.declared.request.Request.TheVariants.{Put as PutReq
 use Rattle.web_ops.specs.Encoding.{Encoding, upload_of}
 use Rattle.web_ops.specs.Uploads.{if_long, directory_upload, made_upload, upload_in, after_stored}
 use Rattle.gate_core.specs.Settings.{GatewaySettings, under, encoding_in}
-use Rattle.gate_core.specs.Requests.{Interpreted, asked_of}
+use Rattle.gate_base.specs.Requests.{Interpreted, asked_of}
 use Rattle.gate_core.specs.Items.{Entry, Asked, Lost, Spoiled}
 use Rattle.gate_core.specs.Runs.{upload_asked, upload_by, after_entry}
 use Rattle.restarts.specs.CutOff.{IsCutOff}

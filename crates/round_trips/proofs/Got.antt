@@ -17,7 +17,7 @@ use Rattle.chk_file.specs.Look.{by_held}
 use Rattle.chk_file.specs.Sound.{IsSoundWorld}
 use Rattle.chk_file.specs.World.{World, empty, after_upload}
 use Rattle.web_ops.specs.Encoding.{upload_of}
-use Rattle.web_ops.specs.Replies.{bytes_reply}
+use Rattle.web_replies.specs.Replies.{bytes_reply}
 use Rattle.web_ops.specs.Answers.{with_bytes, made_reply}
 use Rattle.web_ops.specs.Uploads.{as_directory, directory_upload, directory_cap, made_upload, upload_in, after_stored}
 use Rattle.gate_core.specs.Settings.{GatewaySettings, encoding_in}

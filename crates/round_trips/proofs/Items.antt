@@ -10,13 +10,13 @@ use Rattle.web_request.specs.Requests.{interpreted}
 use Rattle.web_request.specs.declared.head.Field.{Field as WebField}
 use Rattle.chk_file.specs.Look.{Look}
 use Rattle.chk_file.specs.World.{World}
-use Rattle.web_ops.specs.declared.reply.Reply.{Reply}
+use Rattle.web_replies.specs.declared.reply.Reply.{Reply}
 use Rattle.web_ops.specs.Answers.{request_reply}
 use Rattle.web_ops.specs.Uploads.{after_stored}
 use Rattle.gate_core.specs.Settings.{GatewaySettings, under, encoding_in}
-use Rattle.gate_core.specs.Requests.{web_field, web_head, Interpreted, asked_of}
-use Rattle.gate_core.specs.Wire.{status_line, wire_reply}
-use Rattle.gate_core.specs.Browsers.{is_condition, sent_reply}
+use Rattle.gate_base.specs.Requests.{web_field, web_head, Interpreted, asked_of}
+use Rattle.gate_base.specs.Wire.{status_line, wire_reply}
+use Rattle.gate_base.specs.Browsers.{is_condition, sent_reply}
 use Rattle.gate_core.specs.Answers.{asked_reply, answer}
 use Rattle.gate_core.specs.Items.{Asked}
 use Rattle.gate_core.specs.Runs.{upload_asked, upload_by, after_entry, told}

@@ -7,13 +7,13 @@ use Rattle.std.proofs.lemmas.Nat.{mod_below}
 use Rattle.std.proofs.lemmas.Fmt.{decimal_by_steps, decimal_injective}
 use Rattle.http_edge.specs.declared.field.Field.{Field as Line}
 use Rattle.http_edge.specs.Reply.{status_text, crlf, field_line, has_length, lines_with_length, lines_for, rendered_head, rendered}
-use Rattle.web_ops.specs.declared.reply.Status.{Status}
-use Rattle.web_ops.specs.declared.reply.Status.TheVariants as status
-use Rattle.web_ops.specs.declared.reply.MediaType.{MediaType}
-use Rattle.web_ops.specs.declared.reply.MediaType.TheVariants.{OctetStream, PlainText, Json, Html, Css, JavaScript, Svg, Png}
-use Rattle.web_ops.specs.declared.reply.Field.{Field}
-use Rattle.web_ops.specs.declared.reply.Field.TheVariants.{ContentRange, UnsatisfiedRange, Allow, Page}
-use Rattle.web_ops.specs.declared.reply.Reply.{Reply}
+use Rattle.web_replies.specs.declared.reply.Status.{Status}
+use Rattle.web_replies.specs.declared.reply.Status.TheVariants as status
+use Rattle.web_replies.specs.declared.reply.MediaType.{MediaType}
+use Rattle.web_replies.specs.declared.reply.MediaType.TheVariants.{OctetStream, PlainText, Json, Html, Css, JavaScript, Svg, Png}
+use Rattle.web_replies.specs.declared.reply.Field.{Field}
+use Rattle.web_replies.specs.declared.reply.Field.TheVariants.{ContentRange, UnsatisfiedRange, Allow, Page}
+use Rattle.web_replies.specs.declared.reply.Reply.{Reply}
 use Rattle.caps.specs.Fields.{VerifyValue}
 use Rattle.caps.specs.Weakening.{verify_fields, cap_of}
 use Rattle.caps.specs.declared.cap.VerifyCap.{VerifyCap}
@@ -22,10 +22,10 @@ use Rattle.dir_codec.specs.declared.entry.Entry.{Entry as Child}
 use Rattle.chk_file.specs.Look.{Look}
 use Rattle.web_request.specs.declared.request.Request.TheVariants as request
 use Rattle.web_ops.specs.Encoding.{Encoding}
-use Rattle.web_ops.specs.Replies.{bytes_reply}
+use Rattle.web_replies.specs.Replies.{bytes_reply}
 use Rattle.web_ops.specs.Answers.{with_bytes, made_reply, checked_reply, request_reply}
 use Rattle.gate_core.specs.Settings.{GatewaySettings, encoding_in}
-use Rattle.gate_core.specs.Wire.{status_line, media_type, further_lines, wire_reply}
+use Rattle.gate_base.specs.Wire.{status_line, media_type, further_lines, wire_reply}
 use Rattle.client_wire.specs.Asks.{meant}
 use Rattle.client_wire.specs.declared.ask.Ask.{Ask}
 use Rattle.client_wire.specs.declared.ask.Ask.TheVariants.{Put, Mkdir, Read, Check}

@@ -14,14 +14,14 @@ use Rattle.chk_file.specs.Held.{uploaded_bytes}
 use Rattle.chk_file.specs.Look.{by_held}
 use Rattle.chk_file.specs.Sound.{IsSoundWorld}
 use Rattle.chk_file.specs.World.{World, after_upload}
-use Rattle.web_ops.specs.Replies.{bytes_reply, cap_reply}
+use Rattle.web_replies.specs.Replies.{bytes_reply, cap_reply}
 use Rattle.web_ops.specs.Encoding.{Encoding}
 use Rattle.web_ops.specs.Answers.{with_bytes, made_reply}
 use Rattle.web_ops.specs.Uploads.{as_directory, directory_upload, directory_cap, made_upload, upload_in, after_stored}
 use Rattle.gate_core.specs.Settings.{GatewaySettings, under, encoding_in}
 use Rattle.gate_core.specs.Secrets.{upload_under}
 use Rattle.gate_core.specs.Items.{Entry}
-use Rattle.gate_core.specs.Browsers.{sent_reply}
+use Rattle.gate_base.specs.Browsers.{sent_reply}
 use Rattle.gate_core.specs.Runs.{after_entry, world_after, told, said}
 use Rattle.cap_binding.specs.Binds.{Binds}
 use Rattle.client_wire.specs.Asks.{meant, IsAsked}

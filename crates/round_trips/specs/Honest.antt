@@ -2,9 +2,9 @@
 use Rattle.std.specs.Prelude.{◌≡◌, ⊤, ℕ, List, Result, Ok, Err}
 use Rattle.chk_file.specs.World.{World}
 use Rattle.chk_file.specs.Look.{Look, by_held}
-use Rattle.web_ops.specs.declared.reply.Status.{Status}
-use Rattle.web_ops.specs.declared.reply.Status.TheVariants as status
-use Rattle.web_ops.specs.declared.reply.Reply.{Reply}
+use Rattle.web_replies.specs.declared.reply.Status.{Status}
+use Rattle.web_replies.specs.declared.reply.Status.TheVariants as status
+use Rattle.web_replies.specs.declared.reply.Reply.{Reply}
 use Rattle.web_ops.specs.Uploads.{upload_in, after_stored}
 use Rattle.web_ops.specs.Answers.{request_reply}
 use Rattle.gate_core.specs.Settings.{GatewaySettings, encoding_in}

@@ -8,8 +8,8 @@ use Rattle.http_edge.specs.declared.item.Item.TheVariants.{Request as RequestIte
 use Rattle.chk_file.specs.Look.{Look}
 use Rattle.web_ops.specs.Answers.{request_reply}
 use Rattle.gate_core.specs.Settings.{GatewaySettings, encoding_in}
-use Rattle.gate_core.specs.Wire.{wire_reply}
-use Rattle.gate_core.specs.Browsers.{sent_reply}
+use Rattle.gate_base.specs.Wire.{wire_reply}
+use Rattle.gate_base.specs.Browsers.{sent_reply}
 use Rattle.client_wire.specs.Asks.{asked_head, meant}
 use Rattle.client_wire.specs.declared.ask.Ask.{Ask}
 

@@ -5,11 +5,11 @@ use Rattle.http_edge.specs.declared.item.Head.{Head}
 use Rattle.caps.specs.Fields.{ReadValue}
 use Rattle.caps.specs.Weakening.{verify_fields}
 use Rattle.chk_file.specs.World.{World}
-use Rattle.web_ops.specs.declared.reply.Reply.{Reply}
-use Rattle.web_ops.specs.Replies.{file_reply}
+use Rattle.web_replies.specs.declared.reply.Reply.{Reply}
+use Rattle.web_replies.specs.Replies.{file_reply}
 use Rattle.gate_core.specs.Settings.{GatewaySettings}
 use Rattle.gate_core.specs.Items.{Entry, Asked}
-use Rattle.gate_core.specs.Browsers.{sent_reply}
+use Rattle.gate_base.specs.Browsers.{sent_reply}
 use Rattle.gate_core.specs.Runs.{after_entry, world_after, said}
 use Rattle.cap_binding.specs.Binds.{Binds}
 use Rattle.client_wire.specs.declared.ask.Ask.{Ask}

@@ -16,15 +16,15 @@ ghost use Rattle.chk_file.specs.Held.{uploaded_bytes};
 ghost use Rattle.chk_file.specs.Look.{Look};
 ghost use Rattle.chk_file.specs.Sound.{IsSoundWorld};
 ghost use Rattle.chk_file.specs.World.{World, empty, after_upload};
-ghost use Rattle.web_ops.specs.declared.reply.Reply.{Reply};
+ghost use Rattle.web_replies.specs.declared.reply.Reply.{Reply};
 ghost use Rattle.web_ops.specs.Answers.{request_reply};
-ghost use Rattle.web_ops.specs.Replies.{cap_reply};
+ghost use Rattle.web_replies.specs.Replies.{cap_reply};
 ghost use Rattle.web_ops.specs.Encoding.{upload_of};
 ghost use Rattle.web_ops.specs.Uploads.{directory_upload, directory_cap};
 ghost use Rattle.gate_core.specs.Settings.{GatewaySettings, under, encoding_in};
 ghost use Rattle.gate_core.specs.Items.{Entry, Asked};
-ghost use Rattle.gate_core.specs.Wire.{wire_reply};
-ghost use Rattle.gate_core.specs.Browsers.{sent_reply};
+ghost use Rattle.gate_base.specs.Wire.{wire_reply};
+ghost use Rattle.gate_base.specs.Browsers.{sent_reply};
 ghost use Rattle.gate_core.specs.Secrets.{upload_under};
 ghost use Rattle.gate_core.specs.Runs.{after_entry, world_after, told};
 ghost use Rattle.cap_binding.specs.Binds.{Binds};
@@ -63,7 +63,7 @@ pub fn asks_are_items()
         ≡ with_asked (under settings secret) ask body w }
 {
     client_wire::laws::requests_are_meant();
-    gate_core::laws::browsers_are_told_the_same();
+    gate_base::laws::browsers_are_told_the_same();
 }
 
 /// Whoever reads a reply off the bytes that are sent for an ask reads the answer of an honest gateway, and all of them that

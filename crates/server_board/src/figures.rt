@@ -1,5 +1,6 @@
 //! What is known of stores, connections and replies.
-use gate_core::{Gateway, Tally};
+use gate_base::Tally;
+use gate_core::Gateway;
 use gate_limits::Counts;
 use share_store::Store;
 use std::alloc::{AllocError, Global};

@@ -3,7 +3,7 @@ use crate::VERSION;
 use crate::commit::Commit;
 use crate::figures::{StoreFigures, reply_figures};
 use crate::request_times::put_request_times;
-use gate_core::Tally;
+use gate_base::Tally;
 use gate_limits::Counts;
 use std::alloc::{AllocError, Global};
 

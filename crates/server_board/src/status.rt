@@ -2,7 +2,7 @@
 use crate::VERSION;
 use crate::commit::Commit;
 use crate::figures::{Named, StoreFigures, connection_figures, reply_figures};
-use gate_core::Tally;
+use gate_base::Tally;
 use gate_limits::Counts;
 use serde_json::{Map, Value};
 use std::alloc::{AllocError, Global};

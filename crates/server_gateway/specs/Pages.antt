@@ -2,9 +2,9 @@
 use Rattle.std.specs.Prelude.{◌≡◌, ◌≤◌, ℕ, Bool, not, nat_eq, ◌||◌, ◌==◌, List, ◌++◌, length, bytes_eq, codes, if◌then◌else◌, Option, Some, None}
 use Rattle.std.specs.List.{list_all, ends_with}
 use Rattle.std.specs.Char.{is_ascii_alphanumeric}
-use Rattle.web_ops.specs.declared.reply.MediaType.{MediaType}
-use Rattle.web_ops.specs.declared.reply.MediaType.TheVariants.{PlainText, Json, Html, Css, JavaScript, Svg, Png}
-use Rattle.gate_core.specs.declared.pages.Page.{Page}
+use Rattle.web_replies.specs.declared.reply.MediaType.{MediaType}
+use Rattle.web_replies.specs.declared.reply.MediaType.TheVariants.{PlainText, Json, Html, Css, JavaScript, Svg, Png}
+use Rattle.gate_base.specs.declared.pages.Page.{Page}
 
 -- a letter or a digit of ASCII, `.`, `-` or `_`
 abbrev pub is_page_byte : ℕ → Bool

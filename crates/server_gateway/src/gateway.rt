@@ -3,11 +3,12 @@ ghost use Rattle.std.specs.Prelude.{◌≡◌, [], length, vec_len, is_some, fal
 ghost use Rattle.std.specs.FinMap as map;
 ghost use Rattle.grid.specs.GridState.{states};
 ghost use Rattle.gate_core.specs.ConnectionState.{AreParameters};
-ghost use Rattle.gate_core.specs.Tallies.{nothing_counted};
+ghost use Rattle.gate_base.specs.Tallies.{nothing_counted};
 
 use crate::secret::Secret;
 use folder_shelf::StoreSettings;
-use gate_core::{Gateway, GatewayFault, Pages};
+use gate_base::Pages;
+use gate_core::{Gateway, GatewayFault};
 use log::Log;
 use server_options::{Options, Shares};
 use server_stores::{ProgramFault, ServerStore, open_stores};

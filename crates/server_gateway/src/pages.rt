@@ -3,7 +3,7 @@ ghost use Rattle.std.specs.Prelude.{◌≡◌, [], All, IfOk, IsTrue};
 ghost use Rattle.std.specs.List.{list_all};
 ghost use Rattle.server_gateway.specs.Pages.{is_page_byte, kind_by_end, page_kind, page_path, IsPageOf, IsFilePage};
 
-use gate_core::{Page, Pages};
+use gate_base::{Page, Pages};
 use log::{Log, info};
 use octets::Bytes;
 use server_options::Options;
@@ -12,7 +12,7 @@ use server_stores::small_files::read_at_most;
 use std::alloc::{AllocError, Global};
 use std::rt::Files;
 use std::{env, fs, io};
-use web_ops::{MediaType, SharedBytes};
+use web_replies::{MediaType, SharedBytes};
 
 /// How many pages there may be.
 const MOST_PAGES: usize = 64;

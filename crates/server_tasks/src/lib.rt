@@ -7,7 +7,7 @@ ghost use Rattle.std.specs.Duration.{as_nanos};
 ghost use Rattle.std.specs.FinMap as map;
 ghost use Rattle.grid.specs.GridState.{states};
 ghost use Rattle.gate_core.specs.ConnectionState.{AreParameters};
-ghost use Rattle.gate_core.specs.Tallies.{nothing_counted};
+ghost use Rattle.gate_base.specs.Tallies.{nothing_counted};
 
 /// The listeners of connections, each with its secret.
 mod listening;

@@ -29,9 +29,9 @@ use Rattle.path_walk.proofs.Amid.{given_amid, seen_amid, walks_so, not_memory}
 use Rattle.health_json.specs.Checks.{literal_check_text}
 use Rattle.web_request.specs.declared.request.Request.{Request}
 use Rattle.web_request.specs.declared.request.Request.TheVariants.{Put, Mkdir, Get, Check}
-use Rattle.web_ops.specs.declared.reply.Reply.{Reply}
+use Rattle.web_replies.specs.declared.reply.Reply.{Reply}
 use Rattle.web_ops.specs.Encoding.{Encoding}
-use Rattle.web_ops.specs.Replies.{json_reply, bytes_reply, not_readable}
+use Rattle.web_replies.specs.Replies.{json_reply, bytes_reply, not_readable}
 use Rattle.web_ops.specs.Answers.{with_bytes, listing_reply, node_reply, walk_reply, health_text, range_to_apply}
 use Rattle.web_ops.specs.Amid.{fields_read, IsNodeBy, IsHealthAmid, IsEndReply, IsWalkReply, IsAnsweredBy, IsReplyBy}
 use Rattle.web_ops.specs.Calls.{IsFoundAmid}

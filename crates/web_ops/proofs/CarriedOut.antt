@@ -21,8 +21,8 @@ use Rattle.chk_file.specs.Marks.{shown}
 use Rattle.chk_file.specs.Upload.{Upload, index, shares_of, upload_cap}
 use Rattle.chk_file.specs.World.{World, after_upload}
 use Rattle.web_request.specs.declared.request.Request.{Request}
-use Rattle.web_ops.specs.declared.reply.Reply.{Reply}
-use Rattle.web_ops.specs.declared.reply.Status.TheVariants as status
+use Rattle.web_replies.specs.declared.reply.Reply.{Reply}
+use Rattle.web_replies.specs.declared.reply.Status.TheVariants as status
 use Rattle.dir_codec.specs.declared.entry.Entry.{Entry}
 use Rattle.children_reader.specs.Children.{made}
 use Rattle.children_reader.specs.TextMakers.{text_made}
@@ -30,7 +30,7 @@ use Rattle.dir_codec.specs.DirectoryText.{directory_text}
 use Rattle.web_request.specs.declared.request.Request.TheVariants.{Mkdir}
 use Rattle.web_ops.specs.Encoding.{Encoding, upload_of}
 use Rattle.web_ops.specs.Uploads.{if_long, as_directory, made_upload, upload_in}
-use Rattle.web_ops.specs.Replies.{cap_reply, store_full, store_down}
+use Rattle.web_replies.specs.Replies.{cap_reply, store_full, store_down}
 use Rattle.web_ops.specs.Answers.{made_reply}
 use Rattle.web_ops.specs.Replied.{IsPutReply, IsMade}
 use Rattle.web_ops.specs.Changes.{TellsOfUpload, IsUploadBegun, IsBegunIn, TellsOf}

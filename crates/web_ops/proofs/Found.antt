@@ -19,8 +19,8 @@ use Rattle.path_walk.specs.Walk.{walked}
 use Rattle.path_walk.specs.Way.{NamesLeadTo, WalkStops}
 use Rattle.path_walk.specs.declared.fault.WalkFault.{WalkFault}
 use Rattle.path_walk.specs.declared.fault.WalkFault.TheVariants.{NoMemory}
-use Rattle.web_ops.specs.declared.reply.Reply.{Reply}
-use Rattle.web_ops.specs.Replies.{json_reply, not_readable, not_enough_shares}
+use Rattle.web_replies.specs.declared.reply.Reply.{Reply}
+use Rattle.web_replies.specs.Replies.{json_reply, not_readable, not_enough_shares}
 use Rattle.web_ops.specs.Answers.{at_end, with_bytes, walk_reply, health_text, checked_reply}
 use Rattle.web_ops.specs.Replied.{MayGive, IsAtEnd, IsAnsweredFrom, IsHealth}
 use Rattle.web_ops.specs.Calls.{IsFound}

@@ -3,4 +3,3 @@ pub mod Found
 pub mod Amid
 pub mod OneLook
 pub mod CarriedOut
-pub mod Parts

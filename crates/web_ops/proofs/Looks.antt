@@ -14,9 +14,9 @@ use Rattle.path_walk.specs.Agree.{GivesSameAt as GivesAgreeAt, GiveSameOn as Giv
 use Rattle.path_walk.specs.declared.fault.WalkFault.{WalkFault}
 use Rattle.web_request.specs.declared.request.Request.{Request}
 use Rattle.web_request.specs.declared.request.Request.TheVariants.{Put, Mkdir, Get, Check}
-use Rattle.web_ops.specs.declared.reply.Reply.{Reply}
+use Rattle.web_replies.specs.declared.reply.Reply.{Reply}
 use Rattle.web_ops.specs.Encoding.{Encoding}
-use Rattle.web_ops.specs.Replies.{json_reply, bytes_reply, not_readable}
+use Rattle.web_replies.specs.Replies.{json_reply, bytes_reply, not_readable}
 use Rattle.caps.specs.Kinds.{is_verify_cap}
 use Rattle.web_ops.specs.Answers.{at_end, with_bytes, listing_reply, content_reply, node_json_reply, node_reply, range_to_apply, health_text, health_reply, request_reply}
 use Rattle.web_ops.specs.Reach.{caps_met}

@@ -7,8 +7,8 @@ use Rattle.caps.specs.Weakening.{verify_fields}
 use Rattle.path_walk.specs.Walk.{FileLookup, walked}
 use Rattle.path_walk.specs.declared.fault.WalkFault.{WalkFault}
 use Rattle.path_walk.proofs.Amid.{walks_one, one_walks}
-use Rattle.web_ops.specs.declared.reply.Reply.{Reply}
-use Rattle.web_ops.specs.Replies.{bytes_reply, not_readable}
+use Rattle.web_replies.specs.declared.reply.Reply.{Reply}
+use Rattle.web_replies.specs.Replies.{bytes_reply, not_readable}
 use Rattle.web_ops.specs.Answers.{with_bytes, listing_reply, node_reply, at_end}
 use Rattle.web_ops.specs.Amid.{fields_read, IsNodeBy, IsEndReply, IsAnsweredBy}
 

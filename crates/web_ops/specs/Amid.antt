@@ -15,9 +15,9 @@ use Rattle.path_walk.specs.declared.fault.WalkFault.{WalkFault}
 use Rattle.health_json.specs.Checks.{literal_check_text}
 use Rattle.web_request.specs.declared.request.Request.{Request}
 use Rattle.web_request.specs.declared.request.Request.TheVariants.{Put, Mkdir, Get, Check}
-use Rattle.web_ops.specs.declared.reply.Reply.{Reply}
+use Rattle.web_replies.specs.declared.reply.Reply.{Reply}
 use Rattle.web_ops.specs.Encoding.{Encoding}
-use Rattle.web_ops.specs.Replies.{json_reply, not_readable}
+use Rattle.web_replies.specs.Replies.{json_reply, not_readable}
 use Rattle.web_ops.specs.Answers.{walk_reply, node_reply, health_text, range_to_apply}
 
 -- ---- at the end of a walk

@@ -18,9 +18,9 @@ use Rattle.json_view.specs.Nodes.{file_text, dir_text}
 use Rattle.health_json.specs.Checks.{check_text, mapped_check_text, literal_check_text}
 use Rattle.web_request.specs.declared.request.Request.{Request}
 use Rattle.web_request.specs.declared.request.Request.TheVariants.{Put, Mkdir, Get, Check}
-use Rattle.web_ops.specs.declared.reply.Reply.{Reply}
+use Rattle.web_replies.specs.declared.reply.Reply.{Reply}
 use Rattle.web_ops.specs.Encoding.{Encoding, upload_of}
-use Rattle.web_ops.specs.Replies.{cap_reply, json_reply, bytes_reply, not_readable, no_child, not_directory, not_enough_shares, is_directory, bad_children}
+use Rattle.web_replies.specs.Replies.{cap_reply, json_reply, bytes_reply, not_readable, no_child, not_directory, not_enough_shares, is_directory, bad_children}
 use Rattle.web_ops.specs.Uploads.{directory_cap}
 
 -- ---- walks

@@ -10,7 +10,7 @@ use Rattle.chk_file.specs.Amid.{AreKeptSeen}
 use Rattle.chk_file.specs.Look.{Look, look_in}
 use Rattle.chk_file.specs.Upload.{Upload}
 use Rattle.web_request.specs.declared.request.Request.{Request}
-use Rattle.web_ops.specs.declared.reply.Reply.{Reply}
+use Rattle.web_replies.specs.declared.reply.Reply.{Reply}
 use Rattle.web_ops.specs.Encoding.{Encoding}
 use Rattle.web_ops.specs.Uploads.{upload_in}
 use Rattle.web_ops.specs.Answers.{request_reply}

@@ -12,9 +12,9 @@ use Rattle.chk_file.specs.AllStand.{AllStand, AllStoodAmid}
 use Rattle.chk_file.specs.Upload.{Upload, index, shares_of}
 use Rattle.chk_file.specs.Marks.{shown}
 use Rattle.chk_file.specs.World.{World}
-use Rattle.web_ops.specs.declared.reply.Reply.{Reply}
-use Rattle.web_ops.specs.declared.reply.Status.TheVariants as status
-use Rattle.web_ops.specs.Replies.{store_full, store_down}
+use Rattle.web_replies.specs.declared.reply.Reply.{Reply}
+use Rattle.web_replies.specs.declared.reply.Status.TheVariants as status
+use Rattle.web_replies.specs.Replies.{store_full, store_down}
 use Rattle.web_ops.specs.Uploads.{after_stored}
 
 -- the stores have room for the shares of an upload, if there is one

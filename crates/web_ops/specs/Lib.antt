@@ -1,8 +1,6 @@
 -- Read Answers first: what each request is answered, over Replies and Uploads. Replied says the same over any stores,
 -- and Amid over stores that others change.
-pub mod Bodies
 pub mod Encoding
-pub mod Replies
 pub mod Uploads
 pub mod Answers
 pub mod Reach

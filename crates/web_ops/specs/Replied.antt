@@ -16,9 +16,9 @@ use Rattle.json_view.specs.Nodes.{file_text}
 use Rattle.health_json.specs.Checks.{literal_check_text}
 use Rattle.web_request.specs.declared.request.Request.{Request}
 use Rattle.web_request.specs.declared.request.Request.TheVariants.{Put, Mkdir, Get, Check}
-use Rattle.web_ops.specs.declared.reply.Reply.{Reply}
+use Rattle.web_replies.specs.declared.reply.Reply.{Reply}
 use Rattle.web_ops.specs.Encoding.{Encoding, upload_of}
-use Rattle.web_ops.specs.Replies.{cap_reply, json_reply, bytes_reply, not_readable, not_enough_shares, is_directory, bad_children, store_full, store_down}
+use Rattle.web_replies.specs.Replies.{cap_reply, json_reply, bytes_reply, not_readable, not_enough_shares, is_directory, bad_children, store_full, store_down}
 use Rattle.web_ops.specs.Uploads.{directory_cap}
 use Rattle.caps.specs.Kinds.{is_verify_cap}
 use Rattle.web_ops.specs.Answers.{walk_reply, listing_reply, health_text, range_to_apply}

@@ -10,10 +10,7 @@ ghost use Rattle.path_walk.specs.Amid.{IsGivenAmid};
 ghost use Rattle.web_ops.specs.Amid.{IsHealthAmid, IsCheckBy};
 ghost use Rattle.web_ops.specs.Calls.{IsFound, IsFoundAmid};
 
-use crate::failed::{Failure, failure_reply};
 use crate::node::walk_refused;
-use crate::replies::json_reply;
-use crate::reply::Reply;
 use caps::{Cap, is_verify_cap, weaken};
 use chk_file::{Cache, Health};
 use grid::Grid;
@@ -21,6 +18,7 @@ use health_json::{check_json, literal_check_json, mapped_check_json};
 use path_walk::{Names, walk};
 use share_store::Store;
 use std::alloc::{AllocError, Global};
+use web_replies::{Failure, Reply, failure_reply, json_reply};
 
 /// How healthy what the names lead to from a cap is, with a map of where its shares are, or without.
 pub fn check<S: Store>(

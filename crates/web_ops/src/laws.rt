@@ -6,7 +6,7 @@ ghost use Rattle.path_walk.specs.Walk.{FileLookup};
 ghost use Rattle.web_request.specs.declared.request.Request.{Request};
 ghost use Rattle.web_request.specs.declared.request.Request.TheVariants.{Get};
 ghost use Rattle.web_ops.specs.Encoding.{Encoding};
-ghost use Rattle.web_ops.specs.declared.reply.Reply.{Reply};
+ghost use Rattle.web_replies.specs.declared.reply.Reply.{Reply};
 ghost use Rattle.web_ops.specs.Answers.{get_reply, request_reply};
 ghost use Rattle.web_ops.specs.Amid.{IsGetBy};
 ghost use Rattle.web_ops.specs.Reach.{caps_met};

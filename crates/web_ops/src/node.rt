@@ -10,9 +10,6 @@ ghost use Rattle.path_walk.specs.Amid.{IsGivenAmid};
 ghost use Rattle.web_ops.specs.Amid.{IsNodeBy, IsGetBy};
 ghost use Rattle.web_ops.specs.Calls.{IsFound, IsFoundAmid};
 
-use crate::failed::{Failure, failure_reply};
-use crate::replies::{bytes_reply, download_reply, json_reply, listing_reply};
-use crate::reply::Reply;
 use caps::{Cap, ReadFields, VerifyFields, is_verify_cap, weaken};
 use chk_file::{Cache, ReadFault, begin, read_counted};
 use dir_codec::is_memory;
@@ -23,6 +20,9 @@ use path_walk::{Names, WalkFault, walk};
 use share_store::Store;
 use std::alloc::{AllocError, Global};
 use std::rc::RcSlice;
+use web_replies::{
+    Failure, Reply, bytes_reply, download_reply, failure_reply, json_reply, listing_reply,
+};
 
 /// The bytes of what the names lead to from a cap, or its JSON.
 pub fn get<S: Store>(

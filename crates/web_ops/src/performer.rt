@@ -18,13 +18,13 @@ ghost use Rattle.web_ops.specs.Changes.{HasRoomFor, IsStoredIn, IsBegunIn, Tells
 
 use crate::checking::check;
 use crate::node::get;
-use crate::reply::Reply;
 use crate::storing::{make_directory, put};
 use chk_file::Cache;
 use grid::Grid;
 use octets::Bytes;
 use share_store::Store;
 use std::alloc::{AllocError, Global};
+use web_replies::Reply;
 use web_request::Request;
 
 /// Carries out a request over a grid, and gives its reply. Files and directories are stored so that any `k` of their `n`

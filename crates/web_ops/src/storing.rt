@@ -8,19 +8,17 @@ ghost use Rattle.chk_file.specs.Upload.{uploaded, upload_cap};
 ghost use Rattle.web_request.specs.declared.request.Request.TheVariants.{Put, Mkdir};
 ghost use Rattle.web_ops.specs.Encoding.{encoding_of};
 ghost use Rattle.web_ops.specs.Uploads.{as_directory, if_long};
-ghost use Rattle.web_ops.specs.Replies.{cap_reply};
+ghost use Rattle.web_replies.specs.Replies.{cap_reply};
 ghost use Rattle.web_ops.specs.Replied.{IsPutReply};
 ghost use Rattle.web_ops.specs.Calls.{IsCarriedOut, IsPerformed};
 
-use crate::failed::{Failure, failure_reply};
-use crate::replies::cap_reply;
-use crate::reply::Reply;
 use caps::Cap;
 use chk_file::{Cache, directory_text_of, upload};
 use grid::{Grid, GridFault};
 use octets::Bytes;
 use share_store::Store;
 use std::alloc::{AllocError, Global};
+use web_replies::{Failure, Reply, cap_reply, failure_reply};
 
 /// Stores a file, and gives its cap.
 pub fn put<S: Store>(

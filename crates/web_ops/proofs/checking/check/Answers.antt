@@ -6,7 +6,7 @@ use Rattle.caps.specs.Kinds.{is_verify_cap}
 use Rattle.web_ops.specs.Answers.{health_reply}
 use Rattle.web_ops.specs.Replied.{IsHealth}
 use Rattle.caps.specs.declared.cap.Cap.{Cap}
-use Rattle.web_ops.specs.declared.reply.Reply.{Reply}
+use Rattle.web_replies.specs.declared.reply.Reply.{Reply}
 use Rattle.web_ops.specs.Amid.{IsHealthAmid}
 use Rattle.web_ops.proofs.Amid.{nowhere_amid, somewhere_amid, walked_amid, health_amid}
 use Rattle.web_ops.proofs.Found.{from_somewhere, walked_to, walk_stopped}

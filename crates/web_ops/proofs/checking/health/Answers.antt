@@ -3,7 +3,7 @@ use Rattle.std.specs.Prelude.{⊤}
 use Rattle.caps.specs.Weakening.{weakened}
 use Rattle.caps.specs.declared.cap.VerifyCap.{VerifyCap}
 use Rattle.web_ops.specs.Answers.{health_text}
-use Rattle.web_ops.specs.Replies.{json_reply}
+use Rattle.web_replies.specs.Replies.{json_reply}
 use Rattle.web_ops.proofs.Found.{checked}
 use Rattle.web_ops.proofs.Amid.{failed_amid, checked_amid, literal_amid}
 use Rattle.web_ops.proofs.checking.health.Goals as goal

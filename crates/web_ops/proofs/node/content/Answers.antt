@@ -1,7 +1,7 @@
 use Rattle.std.proofs.Common.{false, Some, None, Err, inl, inr, sym, ap, subst}
 use Rattle.caps.specs.Weakening.{verify_fields}
 use Rattle.chk_file.specs.Cached.{IsCacheCurrent}
-use Rattle.web_ops.specs.Replies.{bytes_reply}
+use Rattle.web_replies.specs.Replies.{bytes_reply}
 use Rattle.web_ops.specs.Answers.{content_reply, node_reply}
 use Rattle.web_ops.specs.Replied.{IsContent}
 use Rattle.web_ops.specs.Calls.{IsFound, IsFoundAmid}

@@ -2,7 +2,7 @@ use Rattle.caps.specs.Kinds.{is_verify_cap}
 use Rattle.web_ops.specs.Answers.{node_reply}
 use Rattle.std.proofs.Common.{List, sym, ◌∙◌}
 use Rattle.caps.specs.declared.cap.Cap.{Cap}
-use Rattle.web_ops.specs.declared.reply.Reply.{Reply}
+use Rattle.web_replies.specs.declared.reply.Reply.{Reply}
 use Rattle.web_ops.specs.Replied.{IsNode}
 use Rattle.web_ops.proofs.Found.{from_somewhere, walked_to, walk_stopped}
 use Rattle.chk_file.specs.Cached.{CacheEntry}

@@ -1,6 +1,6 @@
 use Rattle.std.proofs.Common.{ap, sym, ◌∙◌}
 use Rattle.std.proofs.lemmas.Result.{IfOk-weaker}
-use Rattle.web_ops.specs.Replies.{json_reply}
+use Rattle.web_replies.specs.Replies.{json_reply}
 use Rattle.web_ops.specs.Answers.{children_reply}
 use Rattle.web_ops.proofs.CarriedOut.{none_of, not_met}
 use Rattle.web_ops.proofs.node.listing.Goals as goal

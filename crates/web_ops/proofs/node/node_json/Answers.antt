@@ -2,7 +2,7 @@ use Rattle.std.proofs.Common.{true, Some, None, Ok, Err, inl, inr, sym, ap, subs
 use Rattle.caps.specs.declared.cap.Cap.TheVariants.{DirChk}
 use Rattle.chk_file.specs.Cached.{IsCacheCurrent}
 use Rattle.json_view.specs.Nodes.{file_text}
-use Rattle.web_ops.specs.Replies.{json_reply}
+use Rattle.web_replies.specs.Replies.{json_reply}
 use Rattle.web_ops.specs.Answers.{listing_reply, node_json_reply, node_reply}
 use Rattle.web_ops.specs.Replied.{IsNodeJson}
 use Rattle.web_ops.specs.Calls.{IsFound, IsFoundAmid}

@@ -2,7 +2,7 @@ use Rattle.std.proofs.Common.{subst}
 use Rattle.std.specs.Prelude.{⊤}
 use Rattle.web_ops.specs.Encoding.{encoding_of, upload_of}
 use Rattle.chk_file.specs.Upload.{upload_cap}
-use Rattle.web_ops.specs.Replies.{cap_reply}
+use Rattle.web_replies.specs.Replies.{cap_reply}
 use Rattle.web_ops.specs.Replied.{IsPutReply}
 use Rattle.web_ops.specs.Uploads.{if_long}
 use Rattle.web_ops.specs.Calls.{IsCarriedOut}

@@ -4,7 +4,7 @@ use Rattle.std.proofs.lemmas.Result.{IfOk-weaker}
 use Rattle.grid.specs.declared.fault.GridFault.TheVariants.{NoMemory, Full, Down}
 use Rattle.chk_file.specs.Upload.{uploaded}
 use Rattle.web_ops.specs.Uploads.{as_directory}
-use Rattle.web_ops.specs.Replies.{cap_reply}
+use Rattle.web_replies.specs.Replies.{cap_reply}
 use Rattle.web_ops.proofs.CarriedOut.{stored, stopped, full_tells, down_tells, rose, unless}
 use Rattle.web_ops.proofs.storing.store.Goals as goal
 

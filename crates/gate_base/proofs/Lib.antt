@@ -1,0 +1,5 @@
+pub mod Turns
+pub mod Queues
+pub mod Plain
+pub mod Browsing
+pub mod Sending

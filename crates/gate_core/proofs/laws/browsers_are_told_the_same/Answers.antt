@@ -1,5 +1,0 @@
-use Rattle.gate_core.proofs.Browsing.{same_for_browsers}
-use Rattle.gate_core.proofs.laws.browsers_are_told_the_same.Goals as goal
-
-pub returns : goal.returns
-returns c = same_for_browsers
