@@ -1,7 +1,8 @@
 use Rattle.std.proofs.Common.{◌+◌, ◌≤◌, ◌∷◌, [], ◌++◌, length, refl, ap, ◌∙◌, arith}
 use Rattle.json.specs.Lex.{between}
 use Rattle.json_seams.specs.Modes.{mode_after, is_outside}
-use Rattle.children_reader.proofs.Windows.{FrontLaws, window, piece_cut, piece_last, piece_to_comma, looked_to}
+use Rattle.children_reader.proofs.Windows.{FrontLaws, piece_cut, piece_last, piece_to_comma, looked_to}
+use Rattle.json_spelling.proofs.CutPlaces.{window}
 use Rattle.children_reader.proofs.cutting.next_piece.Goals as goal
 
 pub returns-in-Some : goal.returns-in-Some
