@@ -23,7 +23,7 @@ git -C "$copy" init -q
 
 cd "$copy/crates/unproved_tests"
 status=0
-rt try --test --seconds 1200 -- "$@" > "$copy/said" 2>&1 || status=$?
+rt try --test --seconds 3600 -- "$@" > "$copy/said" 2>&1 || status=$?
 grep -E '^test |^run=' "$copy/said" || cat "$copy/said"
 passed=$(sed -nE 's/^test result: ok\. ([0-9]+) passed; 0 failed.*/\1/p' "$copy/said")
 if [ "$status" != 0 ] || [ "${passed:-0}" = 0 ]; then
@@ -39,7 +39,7 @@ cd "$copy/crates/unproved_cases"
     cat src/wanted.txt
     echo "cases: $(grep -cvE '^(#|$)' "$copy/asked")"
 } > "$copy/wanted"
-rt try --seconds 1200 < "$copy/asked" > "$copy/answers" 2> "$copy/said" || true
+rt try --seconds 3600 < "$copy/asked" > "$copy/answers" 2> "$copy/said" || true
 grep -E '^(line|cases:) ' "$copy/answers" | diff - "$copy/wanted" || {
     tail -n 30 "$copy/said"
     exit 1
