@@ -2,12 +2,8 @@
 //! servers keep shares.
 #![tactic(auto)]
 
-ghost use Rattle.std.specs.Prelude.{◌≡◌, ◌*◌, ◌<◌, ◌≤◌, ℕ, [], length, vec_len, is_some, false, true, Some, None, Err, IfOk, IfSome, IsOkUnless};
+ghost use Rattle.std.specs.Prelude.{◌≡◌, ◌*◌, is_some, None, IfOk};
 ghost use Rattle.std.specs.Duration.{as_nanos};
-ghost use Rattle.std.specs.FinMap as map;
-ghost use Rattle.grid.specs.GridState.{states};
-ghost use Rattle.gate_core.specs.ConnectionState.{AreParameters};
-ghost use Rattle.gate_base.specs.Tallies.{nothing_counted};
 
 /// The listeners of connections, each with its secret.
 mod listening;
