@@ -84,6 +84,8 @@ def tried(program, kind, count, top):
     lines = lines_of_the_page(grid, copy, program)
     if subprocess.call(["bash", "-ec", lines], stdout=subprocess.DEVNULL, stderr=subprocess.DEVNULL):
         fail("the lines of the page fail")
+    if any(os.path.exists("%s/%d/new" % (copy, at)) for at in FOLDERS):
+        fail("what is unfinished is copied")
     for one in putting:
         one.go_on = False
     for one in putting:
