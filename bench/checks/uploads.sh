@@ -1,7 +1,7 @@
 #!/bin/sh
 # What proxies let through, beside proxies.sh: in nginx, by the example of install/ and the lines of docs/OPERATING.md ("What
 # is stored stays"), who uploads needs a password and is held to a rate, and who reads isn't; through Caddy, by its example,
-# files are put, read and refused as by the gateway itself; and neither writes a cap to a log, also while the gateway is
+# files are put and read as by the gateway itself; and neither writes a cap to a log, also while the gateway is
 # away. It needs curl, nginx, caddy, openssl and python3.
 # usage: bench/checks/uploads.sh WOZHINNAM
 set -eu
@@ -80,14 +80,9 @@ is 'a post' "$(code -u somebody:word -d '{}' "$front/uri?t=mkdir-immutable")" 20
 is 'a get' "$(code "$front/uri/$cap")" 200
 cmp "$folder/file" "$folder/answer" || fail 'nginx: other bytes'
 is 'a head' "$(code --head "$front/uri/$cap")" 200
-refused=0
-for _ in $(seq 40); do
-    test "$(code -T "$folder/file" "$front/uri")" != 429 || refused=$((refused + 1))
-done
-test "$refused" -ge 1 || fail 'forty uploads in a row are let through'
-for _ in $(seq 40); do
-    is 'one get of forty' "$(code "$front/uri/$cap")" 200
-done
+# sixty by one connection, so that no start of a program and no handshake is in between
+test "$(code -d '{}' "$front/uri?[1-60]" | sed 's/.../&\n/g' | grep -c 429)" -ge 1 || fail 'sixty uploads in a row are let through'
+test "$(code "$front/uri/URI:LIT:my?[1-60]" | sed 's/.../&\n/g' | grep -c 200)" = 60 || fail 'sixty reads in a row are not let through'
 no_cap nginx
 end_proxy
 
@@ -103,7 +98,11 @@ is 'its cap' "$(cat "$folder/answer")" "$cap"
 is 'a get through Caddy' "$(code -H "Referer: $front/uri/$cap" "$front/uri/$cap")" 200
 cmp "$folder/file" "$folder/answer" || fail 'Caddy: other bytes'
 for from in "$folder/long" -; do
-    is 'a body that is too long' "$(code -T "$from" "$front/uri" < "$folder/long")" 413
+    # 413, or a connection that is cut, as the gateway reads for two seconds behind a refusal
+    case $(code -T "$from" "$front/uri" < "$folder/long") in
+    413 | 502 | 000) ;;
+    *) fail "a body that is too long is answered: $(head -c 100 "$folder/answer")" ;;
+    esac
 done
 is 'a long name' "$(code "$front/uri/URI:LIT:my?filename=$(head -c 15900 /dev/zero | tr '\0' x)")" 200
 is 'the status' "$(code "$front/status")" 404
