@@ -49,7 +49,7 @@ sed -n '/^## Exit statuses/,/^## /p' "$page" | awk -F'|' '
     awk -F'|' '{ print ".TP\n\\fB" $1 "\\fR\n" $2 }'
 cat << 'END'
 .SH SIGNALS
-SIGTERM and SIGINT end it at once, and cut replies.
+SIGTERM, SIGINT, SIGHUP, SIGUSR1 and SIGUSR2 end it at once, and cut replies; the first process of a container gets none.
 POST /stop at the control address lets replies that are under way go out, for ten seconds at most.
 .SH "SEE ALSO"
 docs/OPERATING.md and install/README.md of its source: stores, what to do when one is lost, and proxies.
