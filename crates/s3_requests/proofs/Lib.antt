@@ -1,0 +1,3 @@
+mod PathLemmas
+mod HeadLemmas
+mod CodeLemmas
