@@ -1,5 +1,5 @@
 -- Bodies in pieces, and the codes in them.
-use Rattle.std.proofs.Common.{◌≡◌, ◌≢◌, ◌⊎◌, ℕ, ◌+◌, ◌-◌, ◌<◌, ◌≤◌, List, [], ◌∷◌, ◌++◌, true, false, codes, length, get_or, take, drop, min, refl, ap, sym, ◌∙◌, arith, append_assoc, append-nil, inl, inr, length-append, length-drop, subst}
+use Rattle.std.proofs.Common.{◌≡◌, ℕ, ◌+◌, ◌-◌, ◌<◌, ◌≤◌, List, ◌++◌, true, false, codes, length, get_or, take, drop, min, refl, ap, sym, ◌∙◌, arith, append_assoc, append-nil, inl, inr, length-append, length-drop, subst}
 use Rattle.std.specs.Char.{is_ascii_alphabetic}
 use Rattle.std.specs.List.{AllPass}
 use Rattle.std.specs.Prelude.{nat_eq, Result, Ok, Err, is_ok, if◌then◌else◌, OnOk}

@@ -24,13 +24,13 @@ answer_statuses Nothing asks.Head = 404 ∷ []
 answer_statuses Nothing asks.Delete = 404 ∷ []
 answer_statuses _ _ = []
 
--- a status says so
-abbrev pub IsAnsweredBy : ObjectAnswer → ObjectAsk → ℕ → Type 0
-IsAnsweredBy answer asked status = Contains (answer_statuses answer asked) status
+-- a status that says so
+abbrev pub IsAnswerStatus : ObjectAnswer → ObjectAsk → ℕ → Type 0
+IsAnswerStatus answer asked status = Contains (answer_statuses answer asked) status
 
 -- it says nothing of the object
 abbrev pub IsNoAnswer : ObjectAsk → ℕ → Type 0
-IsNoAnswer asked status = (answer : ObjectAnswer) → IsAnsweredBy answer asked status → ⊥
+IsNoAnswer asked status = (answer : ObjectAnswer) → IsAnswerStatus answer asked status → ⊥
 
 -- what comes next where the settings were asked for, of a grid that is new or isn't
 abbrev pub IsSettingsStep : SettingsStep → ℕ → Bool → Type 0

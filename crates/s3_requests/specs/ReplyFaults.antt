@@ -1,5 +1,5 @@
 -- What is wrong with a reply that answers nothing (Amazon S3, "Error responses"; RFC 9110, section 15).
-use Rattle.std.specs.Prelude.{◌≡◌, ◌≢◌, ◌⊎◌, ◌≤◌, ◌<◌, ℕ, Bool, true, false, List, codes, Option, Some, None}
+use Rattle.std.specs.Prelude.{◌≡◌, ◌≢◌, ◌⊎◌, ◌≤◌, ◌<◌, ℕ, Bool, true, false, List, codes, Some}
 use Rattle.s3_requests.specs.declared.asks.ObjectAsk.{ObjectAsk}
 use Rattle.s3_requests.specs.declared.replies.KnownCode.{KnownCode}
 use Rattle.s3_requests.specs.declared.replies.KnownCode.TheVariants as known
@@ -60,6 +60,10 @@ pub record IsRefusal (asked : ObjectAsk) (reply : ObjectReply) : Type 0 where
   pub is_admitted : IsStrangerReply reply → ⊥
   pub has_bucket : IsBucketReply asked reply → ⊥
 
+-- a status that is of no class in which replies have faults, as 206
+abbrev pub IsOtherStatus : ℕ → Type 0
+IsOtherStatus status = (status < 300) ⊎ (600 ≤ status)
+
 -- what each fault says of a reply that answers nothing
 abbrev pub IsReplyFault : ObjectFault → ObjectAsk → ObjectReply → Type 0
 IsReplyFault faults.Full asked reply = IsFullReply reply
@@ -69,7 +73,7 @@ IsReplyFault faults.OtherClock asked reply = IsClockReply reply
 IsReplyFault faults.Refused asked reply = IsRefusal asked reply
 IsReplyFault faults.NoBucket asked reply = IsBucketReply asked reply
 IsReplyFault faults.NoConditions asked reply = IsConditionReply asked reply
-IsReplyFault faults.OtherReply asked reply = (reply.status < 300) ⊎ (600 ≤ reply.status)
+IsReplyFault faults.OtherReply asked reply = IsOtherStatus reply.status
 
 -- whether the server is left alone for a while
 abbrev pub rests_after : ObjectFault → Bool

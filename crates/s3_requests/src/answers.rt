@@ -1,7 +1,7 @@
 //! What replies answer.
 ghost use Rattle.std.specs.Prelude.{◌≡◌, ◌↔◌, ◌⊎◌, ◌≤◌, ◌<◌, true, IfOk, IfErr, IfSome, IfNone, MatchOption, IsTrue, Contains};
 ghost use Rattle.s3_requests.specs.RequestHeads.{is_conditional};
-ghost use Rattle.s3_requests.specs.ReplyAnswers.{IsAnsweredBy, IsNoAnswer, IsSettingsStep, put_statuses};
+ghost use Rattle.s3_requests.specs.ReplyAnswers.{IsAnswerStatus, IsNoAnswer, IsSettingsStep, put_statuses};
 ghost use Rattle.s3_requests.specs.ReplyFaults.{IsReplyFault, IsFullReply, IsClockReply, IsStrangerReply, IsBucketReply, IsConditionReply};
 ghost use Rattle.s3_requests.specs.declared.asks.ObjectAsk.TheVariants.{Get};
 
@@ -42,7 +42,7 @@ fn is_put(status: u16) -> bool
 /// What a status says of the object that was asked for, `None` where it says nothing.
 fn said_of(asked: ObjectAsk, status: u16) -> Option<ObjectAnswer>
     ensures { MatchOption result (IsNoAnswer asked status)
-        (λ answer. IsAnsweredBy answer asked status) }
+        (λ answer. IsAnswerStatus answer asked status) }
 {
     match asked {
         ObjectAsk::Get | ObjectAsk::Head => match status {
@@ -142,7 +142,7 @@ fn fault_of(asked: ObjectAsk, reply: ObjectReply) -> ObjectFault
 
 /// What a reply says of the object that was asked for. Or why it says nothing of it.
 pub fn answer_of(asked: ObjectAsk, reply: ObjectReply) -> Result<ObjectAnswer, ObjectFault>
-    ensures answer { IfOk result (λ answer. IsAnsweredBy answer asked reply.status) }
+    ensures answer { IfOk result (λ answer. IsAnswerStatus answer asked reply.status) }
     ensures fault { IfErr result (λ fault. IsReplyFault fault asked reply) }
     ensures none { IfErr result (λ fault. IsNoAnswer asked reply.status) }
 {

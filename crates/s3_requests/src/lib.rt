@@ -18,6 +18,8 @@ mod fault;
 mod answers;
 /// Where an error's code stands in a body.
 mod error_codes;
+/// What holds of names and of what replies answer.
+pub mod laws;
 
 pub use answers::{ObjectAnswer, SettingsStep, answer_of, is_asked_again, settings_step};
 pub use asks::ObjectAsk;

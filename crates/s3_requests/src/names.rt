@@ -31,7 +31,8 @@ fn beginning(alloc: Global, site: &ObjectSite) -> Result<Vec<u8>, AllocError>
 }
 
 /// The name of a share: the prefix and a slash, where there is a prefix, and then 32 digits for its storage index and 4
-/// for its number, in hexadecimal with lower-case letters. `Err` only where memory is refused.
+/// for its number, in hexadecimal with lower-case letters. Nothing in it has to be escaped. `Err` only where memory is
+/// refused.
 pub fn object_name(
     alloc: Global,
     site: &ObjectSite,
@@ -40,16 +41,20 @@ pub fn object_name(
 ) -> Result<Vec<u8>, AllocError>
     ensures name { IfOk result (λ name.
         name.items ≡ object_name site.now.prefix index.now number) }
+    ensures plain { IsObjectSite site.now
+        → IfOk result (λ name. AllPass is_path_byte name.items) }
 {
     let mut name = beginning(alloc, site)?;
     name.extend_from_slice(digits_of(alloc, index, number)?.as_bytes())?;
     Ok(name)
 }
 
-/// The name of the settings: the prefix and a slash, where there is a prefix, and the word `grid`. `Err` only where
-/// memory is refused.
+/// The name of the settings: the prefix and a slash, where there is a prefix, and the word `grid`. Nothing in it
+/// has to be escaped. `Err` only where memory is refused.
 pub fn settings_name(alloc: Global, site: &ObjectSite) -> Result<Vec<u8>, AllocError>
     ensures name { IfOk result (λ name. name.items ≡ settings_name site.now.prefix) }
+    ensures plain { IsObjectSite site.now
+        → IfOk result (λ name. AllPass is_path_byte name.items) }
 {
     let mut name = beginning(alloc, site)?;
     name.extend_from_slice(b"grid")?;

@@ -1,4 +1,4 @@
-use Rattle.std.proofs.Common.{◌≡◌, ◌∙◌, arith}
+use Rattle.std.proofs.Common.{◌∙◌, arith}
 use Rattle.s3_requests.proofs.CodeLemmas.{Counted, begins, end_is, length_is}
 use Rattle.s3_requests.proofs.error_codes.code_at.Goals as goal
 use Rattle.s3_requests.proofs.error_codes.code_at.Goals.{then-count-eq0-via-then-count-eq0, then-count-eq0-via-else-count-eq0+then-count-gt64}

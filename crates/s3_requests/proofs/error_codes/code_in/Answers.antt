@@ -1,4 +1,4 @@
-use Rattle.std.proofs.Common.{◌≡◌, ◌<◌, List, ℕ, take, arith, below_more}
+use Rattle.std.proofs.Common.{take, arith, below_more}
 use Rattle.s3_requests.proofs.CodeLemmas.{first_code, no_code, not_here}
 use Rattle.s3_requests.proofs.error_codes.code_in.Goals as goal
 

@@ -1,5 +1,4 @@
-use Rattle.std.proofs.Common.{rules, ◌≡◌, ◌∙◌}
-use Rattle.s3_requests.specs.RequestHeads.{request_head}
+use Rattle.std.proofs.Common.{rules, ◌∙◌}
 use Rattle.s3_requests.proofs.PathLemmas.{path_plain}
 use Rattle.s3_requests.proofs.HeadLemmas.{one_head}
 use Rattle.s3_requests.proofs.heads.put_head.Goals as goal
