@@ -13,6 +13,8 @@ mod codes;
 mod directories;
 /// Several messages hashed at once.
 mod hash_lanes;
+/// Requests to stores of objects, and their replies.
+mod object_texts;
 /// Shares and crypttexts that are judged in steps.
 mod readings;
 /// Replies of the Redis protocol.
@@ -59,6 +61,7 @@ impl Answers for Formats {
             "code" => codes::answer(alloc, case),
             "directory" => directories::answer(alloc, case),
             "lanes" => self.lanes.answer(alloc, case),
+            "object" => object_texts::answer(alloc, case),
             "reading" => readings::answer(alloc, case),
             "reply" => redis_texts::answer(alloc, case),
             "share" => self.shares.answer(alloc, case),

@@ -1,0 +1,6 @@
+mod PathLemmas
+mod NameLemmas
+mod HeadLemmas
+mod AnswerLemmas
+mod FaultLemmas
+mod CodeLemmas
