@@ -7,7 +7,7 @@ usage: bench/tools/size.py          counts, and compares
 
 What is counted, but for what is made (out/) and what begins with a dot:
   crates       lines of crates.txt that name one
-  code         lines of crates/*/src/*.rt and of tests/*.rs
+  code         lines of crates/*/src/*.rt, of tests/*.rs and of cases/*.rs
   proof        lines of crates/*/proofs/*.antt
   specs        lines of crates/*/specs/*.antt
   words        words of all pages, *.md
@@ -86,7 +86,7 @@ def counted():
     lines = lambda folder, end: sum(len(lines_of(name)) - 1 for name in within(folder, end))
     return {
         "crates": sum(bool(re.match(r"\w+\b.*:", line)) for line in lines_of("crates.txt")),
-        "code": lines("src", ".rt") + sum(len(lines_of(name)) - 1 for name in names if name.startswith("tests/") and name.endswith(".rs")),
+        "code": lines("src", ".rt") + sum(len(lines_of(name)) - 1 for name in names if name.startswith(("tests/", "cases/")) and name.endswith(".rs")),
         "proof": lines("proofs", ".antt"),
         "specs": lines("specs", ".antt"),
         "words": sum(len(line.split()) for name in names if name.endswith(".md") for line in lines_of(name)),
