@@ -117,7 +117,7 @@ def main():
         try:
             tried(program, kind, int(sys.argv[2]) if len(sys.argv) > 2 else 200, top)
         finally:
-            shutil.rmtree(top)
+            shutil.rmtree(top, ignore_errors=True)
 
 
 if __name__ == "__main__":
