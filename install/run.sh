@@ -22,19 +22,34 @@ is_free() { # no word names the port, and nobody listens there
     ! grep -q "$(printf ':%04X [0-9A-F]*:0000 0A ' "$port")" /proc/net/tcp /proc/net/tcp6 2> /dev/null
 }
 ask() { # wget's words, and a token among them, can be seen by other users of the machine
-    host="Host: localhost:${control##*:}" bearer=${token:+"Authorization: Bearer $(cat "$token")"} && set -- "http://$control/stop"
-    if test -n "$curl"; then printf '%s\n' "$host" ${bearer:+"$bearer"} | curl -H @- -sSf --max-time 5 --noproxy '*' -X POST "$1"
-    else wget -qO - --no-proxy -t 1 -T 5 --header "$host" ${bearer:+--header "$bearer"} --post-data= "$1"; fi > /dev/null
+    url=http://$control/stop
+    host="Host: localhost:${control##*:}"
+    bearer=${token:+"Authorization: Bearer $(cat "$token")"} || return 1
+    if test -n "$curl"; then
+        printf '%s\n' "$host" ${bearer:+"$bearer"} | curl -H @- -sSf --max-time 5 --noproxy '*' -X POST "$url"
+    else
+        wget -qO - --no-proxy -t 1 -T 5 --header "$host" ${bearer:+--header "$bearer"} --post-data= "$url"
+    fi > /dev/null
 }
 stop() {
     server=${server:-$!} && test -n "$server" || exit 143
     trap 'kill "$server"' TERM INT HUP
     { ask || kill "$server"; } &
 }
-control=$(given control "$@") port=3457 status=127
-case $control in *:0) echo 'run.sh: --control wants a port other than 0, at which it can be asked to stop' >&2 && exit 2 ;; esac
-test -n "$control" || { until is_free "$@"; do port=$((port + 1)); done && control=127.0.0.1:$port && set -- --control "$control" "$@"; }
-token=$(given control-token-file "$@") && trap '' USR1 USR2 && trap stop TERM INT HUP
+control=$(given control "$@")
+case $control in
+*:0) echo 'run.sh: --control wants a port other than 0, at which it can be asked to stop' >&2 && exit 2 ;;
+'')
+    port=3457
+    until is_free "$@"; do port=$((port + 1)); done
+    control=127.0.0.1:$port
+    set -- --control "$control" "$@"
+    ;;
+esac
+token=$(given control-token-file "$@")
+trap '' USR1 USR2
+trap stop TERM INT HUP
+status=127
 (trap '' HUP && exec "${WOZHINNAM:-wozhinnam}" serve "$@") & server=$!
 while wait "$server"; code=$?; test "$code" != 127 && status=$code && kill -0 "$server" 2> /dev/null; do :; done
 exit "$status"
