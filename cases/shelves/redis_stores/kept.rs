@@ -183,7 +183,7 @@ impl Link for KeepingServer {
         self.waiting.clear();
         self.given = 0;
         if self.fails() {
-            return Err(LinkFault);
+            return Err(LinkFault::Ended);
         }
         Ok(())
     }
@@ -191,18 +191,18 @@ impl Link for KeepingServer {
     fn write_all(&mut self, parts: &[&[u8]]) -> Result<(), LinkFault> {
         let fails = self.fails();
         if fails && !self.is_done {
-            return Err(LinkFault);
+            return Err(LinkFault::Ended);
         }
         let obeyed = self.obey_each(parts);
         if fails || obeyed.is_err() {
-            return Err(LinkFault);
+            return Err(LinkFault::Ended);
         }
         Ok(())
     }
 
     fn read(&mut self, room: &mut [u8]) -> Result<usize, LinkFault> {
         if self.fails() {
-            return Err(LinkFault);
+            return Err(LinkFault::Ended);
         }
         let Some(rest) = self.waiting.get(self.given..) else {
             return Ok(0);

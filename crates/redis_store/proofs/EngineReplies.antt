@@ -26,12 +26,12 @@ one_spelled : {A : Type 0} (Spells : A → List ℕ → Type 0) (a : A) (bytes :
 one_spelled Spells a bytes one = (bytes, [], one, refl, sym (append-nil bytes))
 
 -- what was told and came in a call is the last exchange
-pub last_exchange : (is_open : Bool) (first : Greeting) (old new : Talk) (commands came : List ℕ) (last : List ℕ × List ℕ) (all : List (List ℕ × List ℕ)) → IsToldIn is_open first old new commands came → new ≡ Some (last ∷ all) → last ≡ (commands, came)
-last_exchange is_open first old new commands came last all by is = by_ready by.ready by.told
+pub last_exchange : (is_open : Bool) (first : Greeting) (old new : Talk) (commands came : List ℕ) (last : List ℕ × List ℕ) (all : List (List ℕ × List ℕ)) (before : List (List (List ℕ × List ℕ))) → IsToldIn is_open first old new commands came → new ≡ Some (last ∷ all, before) → last ≡ (commands, came)
+last_exchange is_open first old new commands came last all before by is = by_ready by.ready by.told
   where
     by_ready : (ready : Talk) → new ≡ with_exchange ready commands came → last ≡ (commands, came)
     by_ready None told = cc
-    by_ready (Some before) told = cc
+    by_ready (Some (some, others)) told = cc
 
 -- what a reply gives is the share that stood
 share_stood : (states : List EngineState) (name : List ℕ) (answer : Reply) (share : Option (List ℕ)) → IsGetReply states name answer → GivesShare answer share → IfSome share (λ bytes. 0 < length bytes)

@@ -1,5 +1,5 @@
 -- What was told and what came, as far as it is known.
-use Rattle.std.proofs.Common.{◌≡◌, ℕ, List, [], ◌∷◌, ◌++◌, length, take, drop, None, Some, refl, sym, ap, subst, ◌∙◌, append-nil, append_assoc, ◌≤◌, ◌+◌, ◌-◌, arith, true, Result, Ok, Err, IfOk}
+use Rattle.std.proofs.Common.{◌≡◌, ℕ, List, [], ◌∷◌, ◌++◌, length, take, drop, None, Some, inl, inr, refl, sym, ap, subst, ◌∙◌, append-nil, append_assoc, ◌≤◌, ◌+◌, ◌-◌, arith, true, Result, Ok, Err, IfOk}
 use Rattle.std.proofs.lemmas.List.{length-append, length-drop, length-take-le, take_all, take_at, take-take, take-append-drop}
 use Rattle.resp.specs.declared.limits.Limits.{Limits}
 use Rattle.resp.specs.declared.reply.Reply.{Reply}
@@ -15,26 +15,26 @@ use Rattle.redis_store.specs.Ahead.{before_last, IsToldLast}
 
 pub told_begins : (a : Talk) (told none : List ℕ) → none ≡ [] → with_command a told ≡ with_exchange a told none
 told_begins None told none is = refl
-told_begins (Some all) told none is = ap (λ (l : List ℕ). Some ((told, l) ∷ all)) (sym is)
+told_begins (Some (all, before)) told none is = ap (λ (l : List ℕ). Some ((told, l) ∷ all, before)) (sym is)
 
 pub heard_none : (a : Talk) → with_heard a [] ≡ a
 heard_none None = refl
-heard_none (Some []) = refl
-heard_none (Some (last ∷ all)) = ap (λ (l : List ℕ). Some ((last.0, l) ∷ all)) (append-nil last.1)
+heard_none (Some ([], before)) = refl
+heard_none (Some (last ∷ all, before)) = ap (λ (l : List ℕ). Some ((last.0, l) ∷ all, before)) (append-nil last.1)
 
 heard_twice : (a : Talk) (front back : List ℕ) → with_heard (with_heard a front) back ≡ with_heard a (front ++ back)
 heard_twice None front back = refl
-heard_twice (Some []) front back = refl
-heard_twice (Some (last ∷ all)) front back = ap (λ (l : List ℕ). Some ((last.0, l) ∷ all)) (append_assoc last.1 front back)
+heard_twice (Some ([], before)) front back = refl
+heard_twice (Some (last ∷ all, before)) front back = ap (λ (l : List ℕ). Some ((last.0, l) ∷ all, before)) (append_assoc last.1 front back)
 
 heard_exchange : (a : Talk) (told came part : List ℕ) → with_heard (with_exchange a told came) part ≡ with_exchange a told (came ++ part)
 heard_exchange None told came part = refl
-heard_exchange (Some all) told came part = refl
+heard_exchange (Some (all, before)) told came part = refl
 
 -- what came to what was told last, told ahead of its call
 pub heard_ahead : (a : Talk) (told came : List ℕ) → with_heard (with_command a told) came ≡ with_exchange a told came
 heard_ahead None told came = refl
-heard_ahead (Some all) told came = refl
+heard_ahead (Some (all, before)) told came = refl
 
 pub told_before : {A E : Type 0} (result : Result A E) (Spells : A → List ℕ → Type 0) (first : Greeting) (old new : Talk) (commands : List ℕ) → IsToldLast old commands
     → IfOk result (λ x. (came : List ℕ) × Spells x came × (new ≡ with_heard old came))
@@ -44,7 +44,7 @@ told_before (Ok x) Spells first old new commands last heard = (
   heard.1,
   record {
     ready = before_last old;
-    at_hand = refl;
+    is_ready = inl refl;
     told = heard.2 ∙ ap (λ (t : Talk). with_heard t heard.0) last ∙ heard_ahead (before_last old) commands heard.0;
   },
 )

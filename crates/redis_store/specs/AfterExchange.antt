@@ -2,7 +2,9 @@
 use Rattle.std.specs.Prelude.{◌≡◌, ◌<◌, ◌≤◌, ℕ, ◌*◌, min, Bool, true, false}
 use Rattle.redis_store.specs.declared.connection.Rest.{Rest}
 use Rattle.redis_store.specs.declared.fault.ServerFault.{ServerFault}
-use Rattle.redis_store.specs.declared.fault.ServerFault.TheVariants.{Resting, Link, NoReply, NotAdmitted, NotOpened, Refused, Full, Replica, OtherReply, NoShare, NotShared, NoMemory}
+use Rattle.redis_store.specs.declared.fault.LinkFault.{LinkFault}
+use Rattle.redis_store.specs.declared.fault.LinkFault.TheVariants as link
+use Rattle.redis_store.specs.declared.fault.ServerFault.TheVariants.{Resting, Link, Closed, Late, NoReply, NotAdmitted, NotOpened, Refused, Full, Replica, OtherReply, NoShare, NotShared, NoMemory}
 
 -- for how many seconds the server is left alone the next time: twice as long, and at most 60
 abbrev pub longer : ℕ → ℕ
@@ -32,9 +34,20 @@ IsOfReply OtherReply = Unit {0}
 IsOfReply NoMemory = Unit {0}
 IsOfReply _ = ⊥
 
+-- what a link's fault says of a server: where no byte of a reply came, and else
+abbrev pub unheard : LinkFault → ServerFault
+unheard link.Ended = Closed
+unheard link.Late = Late
+
+abbrev pub stopped : LinkFault → ServerFault
+stopped link.Ended = Link
+stopped link.Late = Late
+
 -- that it is of the connection, of what came over it, or of what a new one was told
 abbrev pub IsOfLink : ServerFault → Type 0
 IsOfLink Link = Unit {0}
+IsOfLink Closed = Unit {0}
+IsOfLink Late = Unit {0}
 IsOfLink NoReply = Unit {0}
 IsOfLink OtherReply = Unit {0}
 IsOfLink NotAdmitted = Unit {0}

@@ -59,8 +59,8 @@ pub fn replies_of_states_meet_the_premise()
 /// What was told and came in a call is the last exchange over the connection, a new one's too.
 pub fn calls_are_last_exchanges()
     ensures { (is_open : Bool) (first : Greeting) (old new : Talk) (commands came : List ℕ)
-        (last : Exchange) (all : List Exchange)
-        → IsToldIn is_open first old new commands came → new ≡ Some (last ∷ all)
+        (last : Exchange) (all : List Exchange) (before : List (List Exchange))
+        → IsToldIn is_open first old new commands came → new ≡ Some (last ∷ all, before)
         → last ≡ (commands, came) }
 {}
 

@@ -205,7 +205,7 @@ impl<L: Link + Drop> RedisStore<L> {
             bulk: self.longest,
             elements: 0,
         };
-        let reply = self.connection.ask(limits, &command)?;
+        let reply = self.connection.ask(limits, &[&command])?;
         match share_in(reply) {
             Ok(share) => {
                 self.connection.well();
@@ -234,7 +234,7 @@ impl<L: Link + Drop> RedisStore<L> {
     {
         let name = self.name_of(index, number)?;
         let command = exists(self.connection.alloc, &name)?;
-        let reply = self.connection.ask(SHORT, &command)?;
+        let reply = self.connection.ask(SHORT, &[&command])?;
         self.judge(&reply)
     }
 
@@ -366,10 +366,10 @@ impl<L: Link + Drop> RedisStore<L> {
         let alloc = self.connection.alloc;
         if share.len() <= COPIED {
             let command = put(alloc, name, share)?;
-            return self.connection.ask(SHORT, &command);
+            return self.connection.ask(SHORT, &[&command]);
         }
         let head = put_head(alloc, name, share.len())?;
-        self.connection.ask_long(&head, share)
+        self.connection.ask(SHORT, &[&head, share, b"\r\n"])
     }
 
     /// Takes away what stands under the key of a share, and says whether something did.
@@ -388,7 +388,7 @@ impl<L: Link + Drop> RedisStore<L> {
     {
         let name = self.name_of(index, number)?;
         let command = delete(self.connection.alloc, &name)?;
-        let reply = self.connection.ask(SHORT, &command)?;
+        let reply = self.connection.ask(SHORT, &[&command])?;
         self.judge(&reply)
     }
 

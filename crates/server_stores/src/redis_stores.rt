@@ -193,7 +193,11 @@ fn why_refused(fault: ServerFault) -> Option<ProgramFault>
     ensures refused { IfSome result (λ refused. (IsDown fault → ⊥) × IsToldAs fault refused) }
 {
     match fault {
-        ServerFault::Link | ServerFault::NotOpened | ServerFault::Resting => None,
+        ServerFault::Link
+        | ServerFault::Closed
+        | ServerFault::Late
+        | ServerFault::NotOpened
+        | ServerFault::Resting => None,
         ServerFault::NoMemory => Some(ProgramFault::NoMemory),
         _ => Some(ProgramFault::Redis(fault)),
     }
