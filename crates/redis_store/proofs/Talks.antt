@@ -1,5 +1,5 @@
 -- What was told and what came, as far as it is known.
-use Rattle.std.proofs.Common.{◌≡◌, ℕ, List, [], ◌∷◌, ◌++◌, length, take, drop, None, Some, inl, inr, refl, sym, ap, subst, ◌∙◌, append-nil, append_assoc, ◌≤◌, ◌+◌, ◌-◌, arith, true, Result, Ok, Err, IfOk}
+use Rattle.std.proofs.Common.{◌≡◌, ℕ, List, [], ◌∷◌, ◌++◌, length, take, drop, None, Some, inl, inr, refl, sym, ap, subst, ◌∙◌, append-nil, append_assoc, ◌≤◌, ◌+◌, ◌-◌, arith, true, false, Result, Ok, Err, IfOk, OnOk}
 use Rattle.std.proofs.lemmas.List.{length-append, length-drop, length-take-le, take_all, take_at, take-take, take-append-drop}
 use Rattle.resp.specs.declared.limits.Limits.{Limits}
 use Rattle.resp.specs.declared.reply.Reply.{Reply}
@@ -8,7 +8,7 @@ use Rattle.resp.specs.Spelled.{SpellsReply}
 use Rattle.resp.specs.Verdict.{IsReadAs}
 use Rattle.redis_store.specs.declared.connection.Greeting.{Greeting}
 use Rattle.redis_store.specs.Exchanges.{Talk, with_command, with_heard, with_exchange}
-use Rattle.redis_store.specs.Told.{IsToldIn}
+use Rattle.redis_store.specs.Told.{IsOpened, IsToldIn}
 use Rattle.redis_store.specs.Ahead.{before_last, IsToldLast}
 
 -- ---- exchanges
@@ -36,19 +36,39 @@ pub heard_ahead : (a : Talk) (told came : List ℕ) → with_heard (with_command
 heard_ahead None told came = refl
 heard_ahead (Some (all, before)) told came = refl
 
-pub told_before : {A E : Type 0} (result : Result A E) (Spells : A → List ℕ → Type 0) (first : Greeting) (old new : Talk) (commands : List ℕ) → IsToldLast old commands
-    → IfOk result (λ x. (came : List ℕ) × Spells x came × (new ≡ with_heard old came))
+pub told_before : {A E C : Type 0} (talk : C → Talk) (result kept : Result A E) (Spells : A → List ℕ → Type 0) (first : Greeting) (old : Talk) (mid new : C) (commands : List ℕ) → IsToldLast old commands
+    → IfOk result (λ x. (came : List ℕ) × Spells x came × (talk mid ≡ with_heard old came)) → OnOk result (new ≡ mid) → kept ≡ result
+    → IfOk kept (λ x. (came : List ℕ) × Spells x came × IsToldIn true first (before_last old) (talk new) commands came)
+told_before {A} {E} talk result kept Spells first old mid new commands last heard same is =
+    subst (λ (r : Result A E). IfOk r (λ x. (came : List ℕ) × Spells x came × IsToldIn true first (before_last old) (talk new) commands came)) (sym is) (of_result result heard same)
+  where
+    of_result : (r : Result A E) → IfOk r (λ x. (came : List ℕ) × Spells x came × (talk mid ≡ with_heard old came)) → OnOk r (new ≡ mid) → IfOk r (λ x. (came : List ℕ) × Spells x came × IsToldIn true first (before_last old) (talk new) commands came)
+    of_result (Ok x) heard same = (
+      heard.0,
+      heard.1,
+      record {
+        ready = before_last old;
+        is_ready = inl refl;
+        told = ap talk same ∙ heard.2 ∙ ap (λ (t : Talk). with_heard t heard.0) last ∙ heard_ahead (before_last old) commands heard.0;
+      },
+    )
+    of_result (Err e) heard same = tt
+
+-- what was told ahead and not answered was told again, over a new connection
+pub told_again : {A E : Type 0} (result : Result A E) (Spells : A → List ℕ → Type 0) (first other : Greeting) (old ended new : Talk) (commands : List ℕ) → IsToldLast old commands → ended ≡ old → other ≡ first
+    → IfOk result (λ x. (came : List ℕ) × Spells x came × IsToldIn false other ended new commands came)
     → IfOk result (λ x. (came : List ℕ) × Spells x came × IsToldIn true first (before_last old) new commands came)
-told_before (Ok x) Spells first old new commands last heard = (
-  heard.0,
-  heard.1,
-  record {
-    ready = before_last old;
-    is_ready = inl refl;
-    told = heard.2 ∙ ap (λ (t : Talk). with_heard t heard.0) last ∙ heard_ahead (before_last old) commands heard.0;
-  },
-)
-told_before (Err e) Spells first old new commands last heard = tt
+told_again (Ok x) Spells first other old ended new commands last same is anew =
+    let opened : IsOpened first ended anew.2.ready = subst (λ f. IsOpened f ended anew.2.ready) is anew.2.is_ready in (
+      anew.0,
+      anew.1,
+      record {
+        ready = anew.2.ready;
+        is_ready = inr (ended, record { told = commands; rest = []; begins = sym (append-nil commands); last = same ∙ last }, opened);
+        told = anew.2.told;
+      },
+    )
+told_again (Err e) Spells first other old ended new commands last same is anew = tt
 
 -- more came in the exchange at hand
 pub more_came : (a b c : Talk) (told old part new : List ℕ) → b ≡ with_exchange a told old → c ≡ with_heard b part → new ≡ old ++ part → c ≡ with_exchange a told new

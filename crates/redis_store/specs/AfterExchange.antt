@@ -1,5 +1,5 @@
 -- How a call leaves a connection.
-use Rattle.std.specs.Prelude.{◌≡◌, ◌<◌, ◌≤◌, ℕ, ◌*◌, min, Bool, true, false}
+use Rattle.std.specs.Prelude.{◌≡◌, ◌⊎◌, ◌<◌, ◌≤◌, ℕ, ◌*◌, min, Bool, true, false}
 use Rattle.redis_store.specs.declared.connection.Rest.{Rest}
 use Rattle.redis_store.specs.declared.fault.ServerFault.{ServerFault}
 use Rattle.redis_store.specs.declared.fault.LinkFault.{LinkFault}
@@ -76,3 +76,7 @@ IsLeftAfter NoShare old is_open new = new ≡ old
 IsLeftAfter NotShared old is_open new = new ≡ old
 IsLeftAfter NoMemory old is_open new = Unit {0}
 IsLeftAfter _ old is_open new = (is_open ≡ false) × IsRestBegun old new
+
+-- What a fault leaves that may have come behind an exchange which went well.
+abbrev pub IsLeftInTheEnd : ServerFault → Rest → Bool → Rest → Type 0
+IsLeftInTheEnd fault old is_open new = (rest : Rest) × ((rest ≡ old) ⊎ IsWell old rest) × IsLeftAfter fault rest is_open new

@@ -4,12 +4,11 @@ use Rattle.resp.specs.declared.reply.Item.TheVariants as item
 use Rattle.resp.specs.declared.reply.Reply.{Reply}
 use Rattle.resp.specs.declared.reply.Reply.TheVariants as reply
 use Rattle.resp.specs.Spelled.{SpellsReply, SpellsAll}
-use Rattle.redis_store.specs.Replies.{GivesShare, IsErrorOf}
-use Rattle.redis_store.specs.Commands.{get_command}
+use Rattle.redis_store.specs.Replies.{GivesShare, IsErrorOf, IsOkReply, IsSetting}
+use Rattle.redis_store.specs.Commands.{get_command, put_command, set_command, config_command}
 use Rattle.redis_store.specs.Exchanges.{Talk, with_exchange, short_limits, value_limits, IsGreeted, IsUnanswered}
 use Rattle.redis_store.specs.declared.connection.Greeting.{Greeting}
 use Rattle.redis_store.specs.Answers.{SaysWhether, SayWhich, GiveShares}
-use Rattle.redis_store.specs.Commands.{put_command}
 use Rattle.redis_store.specs.GridText.{grid_text}
 use Rattle.redis_store.specs.AfterExchange.{IsOfLink}
 use Rattle.redis_store.specs.Strange.{IsStrange}
@@ -88,6 +87,22 @@ pub record IsSaidBy (is_open : Bool) (first : Greeting) (old new : Talk) (comman
   pub is_said : SaysWhether said answer
   pub spelled : SpellsReply short_limits answer came
   pub told : IsToldIn is_open first old new command came
+
+-- It was told to put bytes whatever stands there, and took them.
+pub record IsSetBy (is_open : Bool) (first : Greeting) (old new : Talk) (name content : List ℕ) : Type 0 where
+  pub answer : Reply
+  pub came : List ℕ
+  pub is_done : IsOkReply answer
+  pub spelled : SpellsReply short_limits answer came
+  pub told : IsToldIn is_open first old new (set_command name content) came
+
+-- It was asked for a setting of its own, and said this value.
+pub record IsSettingSaidBy (is_open : Bool) (first : Greeting) (old new : Talk) (name value : List ℕ) : Type 0 where
+  pub answer : Reply
+  pub came : List ℕ
+  pub is_setting : IsSetting answer value
+  pub spelled : SpellsReply short_limits answer came
+  pub told : IsToldIn is_open first old new (config_command name) came
 
 -- It was told so many commands in one exchange, and said of each number from 0 on whether it is among these.
 pub record AreSaidBy (is_open : Bool) (first : Greeting) (old new : Talk) (commands : List ℕ) (count : ℕ) (numbers : List ℕ) : Type 0 where

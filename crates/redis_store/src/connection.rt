@@ -15,7 +15,7 @@ ghost use Rattle.redis_store.specs.Told.{found_reply, IsAtHand, IsOpened, IsTold
 
 use crate::ServerFault;
 use crate::answers::{bytes_in, fault_of, is_done, said_in};
-use crate::commands::{auth, get, put};
+use crate::commands::{PUT, auth, get, put};
 use crate::link::Link;
 use crate::settings_key::{check_grid, grid_text};
 use crate::talk::{hear_all, talk, talk_each, talk_parts};
@@ -290,12 +290,40 @@ impl<L: Link + Drop> Connection<L> {
         ensures first { self.new.first ≡ self.old.first }
     {
         if self.awaits(commands, count) {
-            match self.hear_ahead(limits, count) {
-                Err(ServerFault::Closed) => self.close(),
-                answer => return self.keep(answer),
-            }
+            self.take_ahead(limits, commands, count)
+        } else {
+            self.ask_each(limits, commands, count)
         }
-        self.ask_each(limits, commands, count)
+    }
+
+    /// The replies to just these commands, which are awaited. Where the connection ended before a byte of them came, the
+    /// commands are told once more, over a new one.
+    fn take_ahead(
+        &mut self,
+        limits: Limits,
+        commands: &[u8],
+        count: u16,
+    ) -> Result<Vec<Reply>, ServerFault>
+        requires line { 0 < limits.line }
+        requires awaited { self.old.awaited ≡ ahead commands.now count }
+        ensures open { OnOk result (self.new.is_open ≡ true) }
+        ensures told { IfOk result (λ replies. (came : List ℕ)
+            × SpellsAll (SpellsReply limits) replies.items came
+            × IsToldIn true self.old.first
+            (before_last (L.talk self.old.link)) (L.talk self.new.link) commands.now came) }
+        ensures count { IfOk result (λ replies. vec_len replies ≡ count) }
+        ensures rest { OnOk result (self.new.rest ≡ self.old.rest) }
+        ensures left { IfErr result (λ fault.
+            IsLeftAfter fault self.old.rest self.new.is_open self.new.rest) }
+        ensures not_refused { IfErr result (λ fault. IsErrorReply fault → ⊥) }
+        ensures first { self.new.first ≡ self.old.first }
+    {
+        let answer = self.hear_ahead(limits, count);
+        if !is_closed(&answer) {
+            return self.keep(answer);
+        }
+        self.close();
+        self.ask_each_anew(limits, commands, count)
     }
 
     /// The replies to what was told ahead. After a fault nothing is awaited, and no connection is open.
@@ -436,6 +464,13 @@ impl<L: Link + Drop> Connection<L> {
     }
 }
 
+/// Whether the connection ended before a byte of the answer came.
+fn is_closed<T>(answer: &Result<T, ServerFault>) -> bool
+    ensures { IsTrue result ↔ IsErrOf answer.now ServerFault.Closed }
+{
+    matches!(answer, Err(ServerFault::Closed))
+}
+
 /// Opens a connection, says who asks, and looks whose the server is. Where nothing says so yet it is put there, and
 /// looked at again: another may have come first.
 fn greet<L: Link>(alloc: Global, link: &mut L, first: &Greeting) -> Result<(), ServerFault>
@@ -526,7 +561,7 @@ fn claim<L: Link>(alloc: Global, link: &mut L, first: &Greeting) -> Result<(), S
     ensures of_link { IfErr result (λ fault. IsOfLink fault) }
 {
     let text = grid_text(alloc, &first.settings)?;
-    let command = put(alloc, first.name.as_slice(), &text)?;
+    let command = put(alloc, PUT, first.name.as_slice(), &text)?;
     let reply = talk(alloc, link, SHORT, &command)?;
     match said_in(&reply) {
         Ok(_put) => Ok(()),
