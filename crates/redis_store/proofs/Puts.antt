@@ -7,7 +7,7 @@ use Rattle.redis_store.specs.Commands.{get_command, put_command, config_command}
 use Rattle.redis_store.specs.Exchanges.{Talk, short_limits, with_exchange}
 use Rattle.redis_store.specs.Replies.{IsSetting}
 use Rattle.redis_store.specs.Put.{IsReplaced}
-use Rattle.redis_store.specs.Told.{IsReady, IsToldIn, IsSaidBy, IsSetBy, IsSettingSaidBy, IsShareGivenBy}
+use Rattle.redis_store.specs.Told.{IsToldOver, IsToldIn, IsSaidBy, IsSetBy, IsSettingSaidBy, IsShareGivenBy}
 
 module _ (first : Greeting) (longest : ℕ) (name content : List ℕ) where
   pub stood_before : (is_open said : Bool) (old new : Talk) (key : List ℕ) → said ≡ false → key ≡ name
@@ -50,5 +50,5 @@ setting_said is_open first old one new name commands reply came spelled told is 
   came = came;
   is_setting = says;
   spelled = spelled;
-  told = record { ready = told.ready; is_ready = subst (λ (c : List ℕ). IsReady is_open first c old told.ready) is told.is_ready; told = same ∙ told.told ∙ ap (λ (c : List ℕ). with_exchange told.ready c came) is };
+  told = record { ready = told.ready; over = subst (λ (c : List ℕ). IsToldOver is_open first c old told.ready) is told.over; told = same ∙ told.told ∙ ap (λ (c : List ℕ). with_exchange told.ready c came) is };
 }

@@ -48,7 +48,7 @@ told_before {A} {E} talk result kept Spells first old mid new commands last hear
       heard.1,
       record {
         ready = before_last old;
-        is_ready = inl refl;
+        over = inl refl;
         told = ap talk same ∙ heard.2 ∙ ap (λ (t : Talk). with_heard t heard.0) last ∙ heard_ahead (before_last old) commands heard.0;
       },
     )
@@ -59,12 +59,12 @@ pub told_again : {A E : Type 0} (result : Result A E) (Spells : A → List ℕ �
     → IfOk result (λ x. (came : List ℕ) × Spells x came × IsToldIn false other ended new commands came)
     → IfOk result (λ x. (came : List ℕ) × Spells x came × IsToldIn true first (before_last old) new commands came)
 told_again (Ok x) Spells first other old ended new commands last same is anew =
-    let opened : IsOpened first ended anew.2.ready = subst (λ f. IsOpened f ended anew.2.ready) is anew.2.is_ready in (
+    let opened : IsOpened first ended anew.2.ready = subst (λ f. IsOpened f ended anew.2.ready) is anew.2.over in (
       anew.0,
       anew.1,
       record {
         ready = anew.2.ready;
-        is_ready = inr (ended, record { told = commands; rest = []; begins = sym (append-nil commands); last = same ∙ last }, opened);
+        over = inr (ended, record { told = commands; rest = []; begins = sym (append-nil commands); last = same ∙ last }, opened);
         told = anew.2.told;
       },
     )

@@ -35,13 +35,13 @@ IsOfReply NoMemory = Unit {0}
 IsOfReply _ = ⊥
 
 -- what a link's fault says of a server: where no byte of a reply came, and else
-abbrev pub unheard : LinkFault → ServerFault
-unheard link.Ended = Closed
-unheard link.Late = Late
+abbrev pub fault_before_reply : LinkFault → ServerFault
+fault_before_reply link.Ended = Closed
+fault_before_reply link.Late = Late
 
-abbrev pub stopped : LinkFault → ServerFault
-stopped link.Ended = Link
-stopped link.Late = Late
+abbrev pub fault_in_reply : LinkFault → ServerFault
+fault_in_reply link.Ended = Link
+fault_in_reply link.Late = Late
 
 -- that it is of the connection, of what came over it, or of what a new one was told
 abbrev pub IsOfLink : ServerFault → Type 0

@@ -37,7 +37,7 @@ with_exchange None told came = None
 with_exchange (Some (all, before)) told came = Some ((told, came) ∷ all, before)
 
 -- A beginning of these commands was told, and nothing came to it.
-pub record IsUnanswered (old : Talk) (commands : List ℕ) (new : Talk) : Type 0 where
+pub record IsToldInPart (old : Talk) (commands : List ℕ) (new : Talk) : Type 0 where
   pub told : List ℕ
   pub rest : List ℕ
   pub begins : commands ≡ told ++ rest

@@ -6,7 +6,7 @@ use Rattle.resp.specs.declared.reply.Reply.TheVariants as reply
 use Rattle.resp.specs.Spelled.{SpellsReply, SpellsAll}
 use Rattle.redis_store.specs.Replies.{GivesShare, IsErrorOf, IsOkReply, IsSetting}
 use Rattle.redis_store.specs.Commands.{get_command, put_command, set_command, config_command}
-use Rattle.redis_store.specs.Exchanges.{Talk, with_exchange, short_limits, value_limits, IsGreeted, IsUnanswered}
+use Rattle.redis_store.specs.Exchanges.{Talk, with_exchange, short_limits, value_limits, IsGreeted, IsToldInPart}
 use Rattle.redis_store.specs.declared.connection.Greeting.{Greeting}
 use Rattle.redis_store.specs.Answers.{SaysWhether, SayWhich, GiveShares}
 use Rattle.redis_store.specs.GridText.{grid_text}
@@ -70,14 +70,14 @@ IsAtHand false first old new = IsOpened first old new
 
 -- The connection over which commands are told: the one that was open, which was told nothing more, or else a new one. One
 -- that was open may have ended before a byte came to the commands: then it is one new one too.
-abbrev pub IsReady : Bool → Greeting → List ℕ → Talk → Talk → Type 0
-IsReady true first commands old ready = (ready ≡ old) ⊎ ((ended : Talk) × IsUnanswered old commands ended × IsOpened first ended ready)
-IsReady false first commands old ready = IsOpened first old ready
+abbrev pub IsToldOver : Bool → Greeting → List ℕ → Talk → Talk → Type 0
+IsToldOver true first commands old ready = (ready ≡ old) ⊎ ((ended : Talk) × IsToldInPart old commands ended × IsOpened first ended ready)
+IsToldOver false first commands old ready = IsOpened first old ready
 
 -- Commands were told in one exchange, in which these bytes came.
 pub record IsToldIn (is_open : Bool) (first : Greeting) (old new : Talk) (commands came : List ℕ) : Type 0 where
   pub ready : Talk
-  pub is_ready : IsReady is_open first commands old ready
+  pub over : IsToldOver is_open first commands old ready
   pub told : new ≡ with_exchange ready commands came
 
 -- The server was told a command and said that one is there, was put or was taken away, or none.

@@ -1,6 +1,6 @@
 //! Why a server gave no answer.
 ghost use Rattle.std.specs.Prelude.{◌≡◌, ◌⊎◌};
-ghost use Rattle.redis_store.specs.AfterExchange.{stopped, unheard};
+ghost use Rattle.redis_store.specs.AfterExchange.{fault_in_reply, fault_before_reply};
 ghost use Rattle.redis_store.specs.declared.fault.ServerFault.TheVariants.{NoReply, NoMemory};
 
 use resp::RespFault;
@@ -29,7 +29,7 @@ impl fmt::Display for LinkFault {
 impl LinkFault {
     /// What it says where no byte of a reply came.
     pub(crate) fn unheard(self) -> ServerFault
-        ensures { result ≡ unheard self }
+        ensures { result ≡ fault_before_reply self }
     {
         match self {
             Self::Ended => ServerFault::Closed,
@@ -124,7 +124,7 @@ impl From<IoError> for LinkFault {
 }
 
 impl From<LinkFault> for ServerFault {
-    ghost from_gives = { λ fault e. e ≡ stopped fault };
+    ghost from_gives = { λ fault e. e ≡ fault_in_reply fault };
 
     fn from(fault: LinkFault) -> Self {
         match fault {

@@ -1,7 +1,7 @@
 //! A way to a server.
 ghost use Rattle.std.specs.Prelude.{◌≡◌, ◌≤◌, None, length, take, IfOk, OnOk, OnErr};
 ghost use Rattle.std.specs.List.{flat_map};
-ghost use Rattle.redis_store.specs.Exchanges.{Talk, IsUnanswered, with_connection, with_command, with_heard};
+ghost use Rattle.redis_store.specs.Exchanges.{Talk, IsToldInPart, with_connection, with_command, with_heard};
 
 use crate::fault::LinkFault;
 
@@ -22,7 +22,7 @@ pub trait Link {
     fn write_all(&mut self, parts: &[&[u8]]) -> Result<(), LinkFault>
         ensures told { OnOk result (talk self.new
             ≡ with_command (talk self.old) (flat_map (λ part. part.now) parts.now)) }
-        ensures stopped { OnErr result (IsUnanswered (talk self.old)
+        ensures stopped { OnErr result (IsToldInPart (talk self.old)
             (flat_map (λ part. part.now) parts.now) (talk self.new)) };
 
     /// Reads bytes to the front of `room`, and says how many. None is the end.

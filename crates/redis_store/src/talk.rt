@@ -2,7 +2,7 @@
 ghost use Rattle.std.specs.Prelude.{◌≡◌, ◌<◌, ◌≤◌, ◌+◌, ◌++◌, ℕ, List, [], length, take, drop, vec_len, IfOk, IfErr, IsErrOf, OnOk};
 ghost use Rattle.std.specs.List.{flat_map};
 ghost use Rattle.redis_store.specs.AfterExchange.{IsOfLink};
-ghost use Rattle.redis_store.specs.Exchanges.{IsUnanswered, with_heard, with_exchange};
+ghost use Rattle.redis_store.specs.Exchanges.{IsToldInPart, with_heard, with_exchange};
 ghost use Rattle.resp.specs.Command.{line_end};
 ghost use Rattle.resp.specs.Spelled.{SpellsReply, SpellsAll};
 
@@ -44,7 +44,7 @@ pub(crate) fn talk_parts<L: Link>(
     ensures exchanged { IfOk result (λ reply. (came : List ℕ) × SpellsReply limits reply came
         × (L.talk link.new ≡ with_exchange (L.talk link.old)
         (flat_map (λ part. part.now) parts.now) came)) }
-    ensures closed { IsErrOf result ServerFault.Closed → IsUnanswered (L.talk link.old)
+    ensures closed { IsErrOf result ServerFault.Closed → IsToldInPart (L.talk link.old)
         (flat_map (λ part. part.now) parts.now) (L.talk link.new) }
     ensures of_link { IfErr result (λ fault. IsOfLink fault) }
 {
@@ -71,7 +71,7 @@ fn tell<L: Link>(link: &mut L, parts: &[&[u8]], came: &mut Vec<u8>) -> Result<()
     requires { came.old.items ≡ [] }
     ensures told { OnOk result (L.talk link.new ≡ with_exchange (L.talk link.old)
         (flat_map (λ part. part.now) parts.now) came.new.items) }
-    ensures closed { IsErrOf result ServerFault.Closed → IsUnanswered (L.talk link.old)
+    ensures closed { IsErrOf result ServerFault.Closed → IsToldInPart (L.talk link.old)
         (flat_map (λ part. part.now) parts.now) (L.talk link.new) }
     ensures of_link { IfErr result (λ fault. IsOfLink fault) }
 {
@@ -94,7 +94,7 @@ pub(crate) fn talk_each<L: Link>(
         × SpellsAll (SpellsReply limits) replies.items came
         × (L.talk link.new ≡ with_exchange (L.talk link.old) commands.now came)) }
     ensures count { IfOk result (λ replies. vec_len replies ≡ count) }
-    ensures closed { IsErrOf result ServerFault.Closed → IsUnanswered (L.talk link.old)
+    ensures closed { IsErrOf result ServerFault.Closed → IsToldInPart (L.talk link.old)
         commands.now (L.talk link.new) }
     ensures of_link { IfErr result (λ fault. IsOfLink fault) }
 {
