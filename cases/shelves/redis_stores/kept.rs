@@ -132,11 +132,23 @@ impl KeepingServer {
         self.say(!stood)
     }
 
+    /// Puts what is to stand under a name, whatever does.
+    fn replace(&mut self, name: &[u8], content: &[u8]) -> Result<(), AllocError> {
+        self.kept.retain(|one| one.name.as_slice() != name);
+        let name = Bytes::from_slice(self.alloc, name)?;
+        let content = Bytes::from_slice(self.alloc, content)?;
+        self.kept.push(Kept { name, content })?;
+        self.waiting.extend_from_slice(b"+OK\r\n")
+    }
+
     /// Does what a command says, and puts the answer behind those before it.
     fn obey(&mut self, words: &[Bytes]) -> Result<(), AllocError> {
         match words {
             [verb, name, content] if verb.as_slice() == b"SETNX".as_slice() => {
                 self.put(name.as_slice(), content.as_slice())
+            }
+            [verb, name, content] if verb.as_slice() == b"SET".as_slice() => {
+                self.replace(name.as_slice(), content.as_slice())
             }
             [verb, name] if verb.as_slice() == b"EXISTS".as_slice() => {
                 let stands = self.found(name.as_slice()).is_some();
@@ -183,7 +195,7 @@ impl Link for KeepingServer {
         self.waiting.clear();
         self.given = 0;
         if self.fails() {
-            return Err(LinkFault);
+            return Err(LinkFault::Ended);
         }
         Ok(())
     }
@@ -191,18 +203,18 @@ impl Link for KeepingServer {
     fn write_all(&mut self, parts: &[&[u8]]) -> Result<(), LinkFault> {
         let fails = self.fails();
         if fails && !self.is_done {
-            return Err(LinkFault);
+            return Err(LinkFault::Ended);
         }
         let obeyed = self.obey_each(parts);
         if fails || obeyed.is_err() {
-            return Err(LinkFault);
+            return Err(LinkFault::Ended);
         }
         Ok(())
     }
 
     fn read(&mut self, room: &mut [u8]) -> Result<usize, LinkFault> {
         if self.fails() {
-            return Err(LinkFault);
+            return Err(LinkFault::Ended);
         }
         let Some(rest) = self.waiting.get(self.given..) else {
             return Ok(0);
@@ -270,8 +282,8 @@ fn gives(
     }
 }
 
-/// What one store put the next one finds: its numbers, both shares, one of them long, that they are kept, and that
-/// one is lost once.
+/// What one store put the next one finds: its numbers, both shares, one of them long, that they are kept, that other bytes
+/// are put in the stead of one, and that one is lost once.
 pub(super) fn left_to_another(alloc: Global) -> Result<String, NoAnswer> {
     let long = vec![in alloc; 7; 20000]?;
     let mut one = store_over(alloc, KeepingServer::new(alloc, 0, false), of_grid())?;
@@ -280,11 +292,13 @@ pub(super) fn left_to_another(alloc: Global) -> Result<String, NoAnswer> {
     let ten = put(alloc, &mut one, 10, b"ten")?;
     let mut other = store_over(alloc, one.into_link(), of_grid())?;
     let numbers = other.numbers(INDEX)?;
-    let another = put(alloc, &mut other, 7, b"another")?;
+    let again = (put(alloc, &mut other, 7, b"seven")?, put(alloc, &mut other, 2, &long)?);
     let kept = gives(&mut other, 7, b"seven")? && gives(&mut other, 2, &long)?;
+    let another = put(alloc, &mut other, 7, b"another")?;
+    let replaced = gives(&mut other, 7, b"another")?;
     let lost = (other.lose(INDEX, 2), other.lose(INDEX, 2));
     let numbers = numbers.as_slice();
-    Ok(format!(in alloc; "{seven:?} {two:?} {ten:?} {numbers:?} {another:?} {kept} {lost:?}")?)
+    Ok(format!(in alloc; "{seven:?} {two:?} {ten:?} {numbers:?} {again:?} {kept} {another:?} {replaced} {lost:?}")?)
 }
 
 /// What stores of other settings are told over the server that another one left, and that none is used: of another

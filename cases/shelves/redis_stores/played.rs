@@ -53,8 +53,8 @@ impl Played {
         for byte in bytes {
             match *byte {
                 b'\r' => {}
-                b'\n' => self.told.push(b' ').map_err(|_| LinkFault)?,
-                other => self.told.push(other).map_err(|_| LinkFault)?,
+                b'\n' => self.told.push(b' ').map_err(|_| LinkFault::Ended)?,
+                other => self.told.push(other).map_err(|_| LinkFault::Ended)?,
             }
         }
         Ok(())
@@ -64,7 +64,7 @@ impl Played {
 impl Link for Played {
     fn connect(&mut self) -> Result<(), LinkFault> {
         self.waiting.clear();
-        self.told.push(b'|').map_err(|_| LinkFault)
+        self.told.push(b'|').map_err(|_| LinkFault::Ended)
     }
 
     fn write_all(&mut self, parts: &[&[u8]]) -> Result<(), LinkFault> {

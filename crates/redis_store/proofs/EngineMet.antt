@@ -12,7 +12,7 @@ use Rattle.resp.specs.declared.reply.Reply.{Reply}
 use Rattle.resp.specs.declared.reply.Reply.TheVariants as reply
 use Rattle.resp.specs.Command.{command}
 use Rattle.resp.specs.Spelled.{Writes, SpellsItem, SpellsAll, SpellsElement, SpellsReply}
-use Rattle.redis_store.specs.Commands.{get_command, put_command, delete_command}
+use Rattle.redis_store.specs.Commands.{get_command, delete_command}
 use Rattle.redis_store.specs.Engine.{EngineValue, EngineState, nothing, of_bytes, of_other_kind, StoodUnder, SaysValue, IsGetReply, IsExistsReply, IsEngineExchange}
 
 -- ---- one reading of what came
@@ -143,15 +143,15 @@ module _ (one_reply : OneReply) (commands_are : CommandsAreReplies) where
       (λ i. name i ∷ more.0 i, λ differ. absurd (differ verbs))
 
   -- and of none with another count of words
-  not_put : (names : List (List ℕ)) (name content : List ℕ) → length (flat_map get_command names) ≤ 4294967295 → flat_map get_command names ≡ put_command name content → ⊥
-  not_put [] name content small e = omega (arith, ap length e, long_command (codes "SETNX" ∷ name ∷ content ∷ []))
-  not_put (n ∷ names) name content small e =
+  not_put : (verb : List ℕ) → length verb ≤ 16 → (names : List (List ℕ)) (name content : List ℕ) → length (flat_map get_command names) ≤ 4294967295 → flat_map get_command names ≡ command (verb ∷ name ∷ content ∷ []) → ⊥
+  not_put verb few [] name content small e = omega (arith, ap length e, long_command (verb ∷ name ∷ content ∷ []))
+  not_put verb few (n ∷ names) name content small e =
       let rest : List ℕ = flat_map get_command names in
       let one : length n ≤ 4294967295 = omega (arith, small, length-append (get_command n) rest, holds_two (codes "GET") n) in
-      let both = holds_three (codes "SETNX") name content in
+      let both = holds_three verb name content in
       let two : length name ≤ 4294967295 = omega (arith, small, ap length e, both) in
       let three : length content ≤ 4294967295 = omega (arith, small, ap length e, both) in
-      let same = same_command (codes "GET" ∷ n ∷ []) (codes "SETNX" ∷ name ∷ content ∷ []) rest [] (omega arith) (omega arith) (omega arith, (one, tt)) (omega arith, (two, (three, tt))) (e ∙ sym (append-nil (put_command name content))) in
+      let same = same_command (codes "GET" ∷ n ∷ []) (verb ∷ name ∷ content ∷ []) rest [] (omega arith) (omega arith) (omega arith, (one, tt)) (omega (arith, few), (two, (three, tt))) (e ∙ sym (append-nil (command (verb ∷ name ∷ content ∷ [])))) in
       let long : 2 ≡ 3 = ap length same.0 in
       omega (arith, long)
 
@@ -200,7 +200,8 @@ premise_met one_reply commands_are limits states names answers came small says s
       exist = λ another others replies told many there.
           let none = (same_told one_reply commands_are (codes "GET") (codes "EXISTS") (omega arith) (omega arith) names others bound told).1 (λ same. (let long : 3 ≡ 6 = ap length same in omega (arith, long))) in
           none_zip (IsExistsReply states) others replies none many;
-      put = λ another name content answer told there. absurd (not_put one_reply commands_are names name content bound told);
+      put = λ another name content answer told there. absurd (not_put one_reply commands_are (codes "SETNX") (omega arith) names name content bound told);
+      replace = λ another name content answer told there. absurd (not_put one_reply commands_are (codes "SET") (omega arith) names name content bound told);
       delete = λ another name answer told there.
           let one : flat_map get_command names ≡ flat_map delete_command (name ∷ []) = told ∙ sym (append-nil (delete_command name)) in
           let none = (same_told one_reply commands_are (codes "GET") (codes "DEL") (omega arith) (omega arith) names (name ∷ []) bound one).1 (λ same. (let first : 71 ≡ 68 = ap (λ (l : List ℕ). get_or l 0 0) same in omega (arith, first))) in

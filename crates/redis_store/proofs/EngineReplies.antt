@@ -9,11 +9,12 @@ use Rattle.resp.specs.declared.reply.Reply.{Reply}
 use Rattle.resp.specs.Spelled.{SpellsReply, SpellsAll}
 use Rattle.redis_store.specs.declared.connection.Greeting.{Greeting}
 use Rattle.redis_store.specs.Keys.{key}
-use Rattle.redis_store.specs.Commands.{get_command, exists_command, put_command, delete_command, exists_below, get_below}
+use Rattle.redis_store.specs.Commands.{get_command, exists_command, put_command, set_command, delete_command, exists_below, get_below}
 use Rattle.redis_store.specs.Replies.{GivesShare}
 use Rattle.redis_store.specs.Answers.{SayWhich, GiveShares, numbered_share}
 use Rattle.redis_store.specs.Exchanges.{Talk, with_exchange, short_limits, value_limits}
-use Rattle.redis_store.specs.Told.{IsToldIn, IsSaidBy, AreSaidBy, IsShareGivenBy, AreSharesGivenBy}
+use Rattle.redis_store.specs.Put.{IsPutBy}
+use Rattle.redis_store.specs.Told.{IsToldIn, IsSaidBy, AreSaidBy, IsSetBy, IsShareGivenBy, AreSharesGivenBy}
 use Rattle.redis_store.specs.Engine.{EngineValue, EngineState, nothing, of_bytes, of_other_kind, is_something, StoodUnder, IsGetReply, IsExistsReply, IsEngineExchange}
 use Rattle.redis_store.specs.EngineShares.{value_share, AreSeenUnder, shares_seen, number_if, numbers_seen}
 
@@ -25,13 +26,18 @@ one_told f name = sym (append-nil (f name))
 one_spelled : {A : Type 0} (Spells : A → List ℕ → Type 0) (a : A) (bytes : List ℕ) → Spells a bytes → SpellsAll Spells (a ∷ []) bytes
 one_spelled Spells a bytes one = (bytes, [], one, refl, sym (append-nil bytes))
 
+exchanges_of : Talk → List (List ℕ × List ℕ)
+exchanges_of None = []
+exchanges_of (Some (all, before)) = all
+
 -- what was told and came in a call is the last exchange
-pub last_exchange : (is_open : Bool) (first : Greeting) (old new : Talk) (commands came : List ℕ) (last : List ℕ × List ℕ) (all : List (List ℕ × List ℕ)) → IsToldIn is_open first old new commands came → new ≡ Some (last ∷ all) → last ≡ (commands, came)
-last_exchange is_open first old new commands came last all by is = by_ready by.ready by.told
+pub last_exchange : (is_open : Bool) (first : Greeting) (old new : Talk) (commands came : List ℕ) (last : List ℕ × List ℕ) (all : List (List ℕ × List ℕ)) (before : List (List (List ℕ × List ℕ))) → IsToldIn is_open first old new commands came → new ≡ Some (last ∷ all, before) → last ≡ (commands, came)
+unfolding exchanges_of
+last_exchange is_open first old new commands came last all before by is = by_ready by.ready by.told
   where
     by_ready : (ready : Talk) → new ≡ with_exchange ready commands came → last ≡ (commands, came)
     by_ready None told = cc
-    by_ready (Some before) told = cc
+    by_ready (Some (some, others)) told = let same : last ∷ all ≡ (commands, came) ∷ some = ap exchanges_of (sym is ∙ told) in cc
 
 -- what a reply gives is the share that stood
 share_stood : (states : List EngineState) (name : List ℕ) (answer : Reply) (share : Option (List ℕ)) → IsGetReply states name answer → GivesShare answer share → IfSome share (λ bytes. 0 < length bytes)
@@ -55,15 +61,19 @@ module _ (is_open : Bool) (first : Greeting) (old new : Talk) (states : List Eng
       let each = engine.exist short_limits (name ∷ []) (by.answer ∷ []) (one_told exists_command name) refl (one_spelled (SpellsReply short_limits) by.answer by.came by.spelled) in
       let at = each.0 said by.is_said in (at.0, at.1, sym at.2)
 
-  pub put_stood : (content : List ℕ) (said : Bool) (by : IsSaidBy is_open first old new (put_command name content) said) → IsEngineExchange states (put_command name content, by.came)
+  pub anew_stood : (content : List ℕ) (said : Bool) (by : IsSaidBy is_open first old new (put_command name content) said) → IsEngineExchange states (put_command name content, by.came)
       → (value : EngineValue) × StoodUnder states name value × (is_something value ≡ true) × (said ≡ true → value ≡ of_bytes content)
-  put_stood content true by engine =
+  anew_stood content true by engine =
       let step = (engine.put short_limits name content by.answer refl by.spelled).done by.is_said in
       let there : Contains (step.2.0 ++ step.0 ∷ step.1 ∷ step.2.1) step.1 = Contains-append_right step.2.0 (step.0 ∷ step.1 ∷ step.2.1) step.1 (1, omega arith, refl) in
       (of_bytes content, (step.1, subst (λ (l : List EngineState). Contains l step.1) (sym step.2.2) there, step.4), refl, λ _. refl)
-  put_stood content false by engine =
+  anew_stood content false by engine =
       let at = (engine.put short_limits name content by.answer refl by.spelled).kept by.is_said in
       (at.0, at.1, at.2, λ is. absurd (let never : false ≡ true = is in cc))
+
+  pub set_stood : (content : List ℕ) (by : IsSetBy is_open first old new name content) → IsEngineExchange states (set_command name content, by.came)
+      → StoodUnder states name (of_bytes content)
+  set_stood content by engine = engine.replace short_limits name content by.answer refl by.spelled by.is_done
 
   pub lost_stood : (said : Bool) (by : IsSaidBy is_open first old new (delete_command name) said) → IsEngineExchange states (delete_command name, by.came)
       → StoodUnder states name nothing
@@ -72,6 +82,29 @@ module _ (is_open : Bool) (first : Greeting) (old new : Talk) (states : List Eng
       let there : Contains (step.2.0 ++ step.0 ∷ step.1 ∷ step.2.1) step.1 = Contains-append_right step.2.0 (step.0 ∷ step.1 ∷ step.2.1) step.1 (1, omega arith, refl) in
       (step.1, subst (λ (l : List EngineState). Contains l step.1) (sym step.2.2) there, step.4)
   lost_stood false by engine = (engine.delete short_limits name by.answer refl by.spelled).none by.is_said
+
+-- ---- a share that was put
+
+bytes_of : (value : EngineValue) (content : List ℕ) → Some content ≡ value_share value → value ≡ of_bytes content
+bytes_of nothing content is = cc
+bytes_of (of_bytes []) content is = cc
+bytes_of (of_bytes (byte ∷ bytes)) content is = cc
+bytes_of of_other_kind content is = cc
+
+-- in its last exchange
+pub put_stood : (is_open : Bool) (first : Greeting) (old new : Talk) (states : List EngineState) (longest : ℕ) (name content : List ℕ) (put : Bool) (last : List ℕ × List ℕ) (all : List (List ℕ × List ℕ)) (before : List (List (List ℕ × List ℕ)))
+    → IsPutBy is_open first old new longest name content put → 0 < length content → new ≡ Some (last ∷ all, before) → IsEngineExchange states last → StoodUnder states name (of_bytes content)
+put_stood is_open first old new states longest name content true last all before (inl by) some is engine =
+    let same = last_exchange is_open first old new (put_command name content) by.came last all before by.told is in
+    let at = anew_stood is_open first old new states name content true by (subst (IsEngineExchange states) same engine) in
+    subst (StoodUnder states name) (at.3 refl) at.1
+put_stood is_open first old new states longest name content true last all before (inr by) some is engine =
+    let same = last_exchange true first by.between new (set_command name content) by.put.came last all before by.put.told is in
+    set_stood true first by.between new states name content by.put (subst (IsEngineExchange states) same engine)
+put_stood is_open first old new states longest name content false last all before by some is engine =
+    let same = last_exchange true first by.between new (get_command name) by.given.came last all before by.given.told is in
+    let at = given_stood true first by.between new states name longest (Some content) by.given some (subst (IsEngineExchange states) same engine) in
+    subst (StoodUnder states name) (bytes_of at.0 content at.2) at.1
 
 -- ---- a command of each number, and as many replies
 

@@ -67,7 +67,7 @@ asked_few (Some limit) made = omega arith
 
 module _ (past now : History) (grid : List ℕ) (made : ℕ) (states : List EngineState) (told : AreToldAmid past now grid made states) (index : List ℕ) (in_range : (number : ℕ) → number < made → IsKeyInRange index number) where
   -- what stood under a number stood there at some moment of the call
-  stood_amid : (number : ℕ) (value : EngineValue) → number < made → StoodUnder states (key grid index number) value → (c : Shares) × StoodAmid past now c × (value_share value ≡ get c (index, number))
+  pub stood_amid : (number : ℕ) (value : EngineValue) → number < made → StoodUnder states (key grid index number) value → (c : Shares) × StoodAmid past now c × (value_share value ≡ get c (index, number))
   stood_amid number value lt stood =
       let at = told stood.0 stood.1 in
       (at.0, at.1, ap value_share (sym stood.2) ∙ sym (at.2.each index number (in_range number lt) lt))
@@ -151,8 +151,3 @@ module _ (past now : History) (grid : List ℕ) (made : ℕ) (states : List Engi
   presence_amid alone number value lt stood =
       let at = share_amid number value lt stood in
       (at.0, at.1, stands_alone alone number value lt stood ∙ ap is_some at.2)
-
-  pub some_amid : HaveSharesAlone grid states → (number : ℕ) (value : EngineValue) → number < made → StoodUnder states (key grid index number) value → is_something value ≡ true → (c : Shares) × StoodAmid past now c × IsSome (get c (index, number))
-  some_amid alone number value lt stood some =
-      let at = stood_amid number value lt stood in
-      (at.0, at.1, ap is_some (sym at.2) ∙ sym (stands_alone alone number value lt stood) ∙ some)

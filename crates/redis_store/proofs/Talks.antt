@@ -1,5 +1,5 @@
 -- What was told and what came, as far as it is known.
-use Rattle.std.proofs.Common.{◌≡◌, ℕ, List, [], ◌∷◌, ◌++◌, length, take, drop, None, Some, refl, sym, ap, subst, ◌∙◌, append-nil, append_assoc, ◌≤◌, ◌+◌, ◌-◌, arith, true, Result, Ok, Err, IfOk}
+use Rattle.std.proofs.Common.{◌≡◌, ℕ, List, [], ◌∷◌, ◌++◌, length, take, drop, None, Some, inl, inr, refl, sym, ap, subst, ◌∙◌, append-nil, append_assoc, ◌≤◌, ◌+◌, ◌-◌, arith, true, false, Result, Ok, Err, IfOk, OnOk}
 use Rattle.std.proofs.lemmas.List.{length-append, length-drop, length-take-le, take_all, take_at, take-take, take-append-drop}
 use Rattle.resp.specs.declared.limits.Limits.{Limits}
 use Rattle.resp.specs.declared.reply.Reply.{Reply}
@@ -8,47 +8,67 @@ use Rattle.resp.specs.Spelled.{SpellsReply}
 use Rattle.resp.specs.Verdict.{IsReadAs}
 use Rattle.redis_store.specs.declared.connection.Greeting.{Greeting}
 use Rattle.redis_store.specs.Exchanges.{Talk, with_command, with_heard, with_exchange}
-use Rattle.redis_store.specs.Told.{IsToldIn}
+use Rattle.redis_store.specs.Told.{IsOpened, IsToldIn}
 use Rattle.redis_store.specs.Ahead.{before_last, IsToldLast}
 
 -- ---- exchanges
 
 pub told_begins : (a : Talk) (told none : List ℕ) → none ≡ [] → with_command a told ≡ with_exchange a told none
 told_begins None told none is = refl
-told_begins (Some all) told none is = ap (λ (l : List ℕ). Some ((told, l) ∷ all)) (sym is)
+told_begins (Some (all, before)) told none is = ap (λ (l : List ℕ). Some ((told, l) ∷ all, before)) (sym is)
 
 pub heard_none : (a : Talk) → with_heard a [] ≡ a
 heard_none None = refl
-heard_none (Some []) = refl
-heard_none (Some (last ∷ all)) = ap (λ (l : List ℕ). Some ((last.0, l) ∷ all)) (append-nil last.1)
+heard_none (Some ([], before)) = refl
+heard_none (Some (last ∷ all, before)) = ap (λ (l : List ℕ). Some ((last.0, l) ∷ all, before)) (append-nil last.1)
 
 heard_twice : (a : Talk) (front back : List ℕ) → with_heard (with_heard a front) back ≡ with_heard a (front ++ back)
 heard_twice None front back = refl
-heard_twice (Some []) front back = refl
-heard_twice (Some (last ∷ all)) front back = ap (λ (l : List ℕ). Some ((last.0, l) ∷ all)) (append_assoc last.1 front back)
+heard_twice (Some ([], before)) front back = refl
+heard_twice (Some (last ∷ all, before)) front back = ap (λ (l : List ℕ). Some ((last.0, l) ∷ all, before)) (append_assoc last.1 front back)
 
 heard_exchange : (a : Talk) (told came part : List ℕ) → with_heard (with_exchange a told came) part ≡ with_exchange a told (came ++ part)
 heard_exchange None told came part = refl
-heard_exchange (Some all) told came part = refl
+heard_exchange (Some (all, before)) told came part = refl
 
 -- what came to what was told last, told ahead of its call
 pub heard_ahead : (a : Talk) (told came : List ℕ) → with_heard (with_command a told) came ≡ with_exchange a told came
 heard_ahead None told came = refl
-heard_ahead (Some all) told came = refl
+heard_ahead (Some (all, before)) told came = refl
 
-pub told_before : {A E : Type 0} (result : Result A E) (Spells : A → List ℕ → Type 0) (first : Greeting) (old new : Talk) (commands : List ℕ) → IsToldLast old commands
-    → IfOk result (λ x. (came : List ℕ) × Spells x came × (new ≡ with_heard old came))
+pub told_before : {A E C : Type 0} (talk : C → Talk) (result kept : Result A E) (Spells : A → List ℕ → Type 0) (first : Greeting) (old : Talk) (mid new : C) (commands : List ℕ) → IsToldLast old commands
+    → IfOk result (λ x. (came : List ℕ) × Spells x came × (talk mid ≡ with_heard old came)) → OnOk result (new ≡ mid) → kept ≡ result
+    → IfOk kept (λ x. (came : List ℕ) × Spells x came × IsToldIn true first (before_last old) (talk new) commands came)
+told_before {A} {E} talk result kept Spells first old mid new commands last heard same is =
+    subst (λ (r : Result A E). IfOk r (λ x. (came : List ℕ) × Spells x came × IsToldIn true first (before_last old) (talk new) commands came)) (sym is) (of_result result heard same)
+  where
+    of_result : (r : Result A E) → IfOk r (λ x. (came : List ℕ) × Spells x came × (talk mid ≡ with_heard old came)) → OnOk r (new ≡ mid) → IfOk r (λ x. (came : List ℕ) × Spells x came × IsToldIn true first (before_last old) (talk new) commands came)
+    of_result (Ok x) heard same = (
+      heard.0,
+      heard.1,
+      record {
+        ready = before_last old;
+        over = inl refl;
+        told = ap talk same ∙ heard.2 ∙ ap (λ (t : Talk). with_heard t heard.0) last ∙ heard_ahead (before_last old) commands heard.0;
+      },
+    )
+    of_result (Err e) heard same = tt
+
+-- what was told ahead and not answered was told again, over a new connection
+pub told_again : {A E : Type 0} (result : Result A E) (Spells : A → List ℕ → Type 0) (first other : Greeting) (old ended new : Talk) (commands : List ℕ) → IsToldLast old commands → ended ≡ old → other ≡ first
+    → IfOk result (λ x. (came : List ℕ) × Spells x came × IsToldIn false other ended new commands came)
     → IfOk result (λ x. (came : List ℕ) × Spells x came × IsToldIn true first (before_last old) new commands came)
-told_before (Ok x) Spells first old new commands last heard = (
-  heard.0,
-  heard.1,
-  record {
-    ready = before_last old;
-    at_hand = refl;
-    told = heard.2 ∙ ap (λ (t : Talk). with_heard t heard.0) last ∙ heard_ahead (before_last old) commands heard.0;
-  },
-)
-told_before (Err e) Spells first old new commands last heard = tt
+told_again (Ok x) Spells first other old ended new commands last same is anew =
+    let opened : IsOpened first ended anew.2.ready = subst (λ f. IsOpened f ended anew.2.ready) is anew.2.over in (
+      anew.0,
+      anew.1,
+      record {
+        ready = anew.2.ready;
+        over = inr (ended, record { told = commands; rest = []; begins = sym (append-nil commands); last = same ∙ last }, opened);
+        told = anew.2.told;
+      },
+    )
+told_again (Err e) Spells first other old ended new commands last same is anew = tt
 
 -- more came in the exchange at hand
 pub more_came : (a b c : Talk) (told old part new : List ℕ) → b ≡ with_exchange a told old → c ≡ with_heard b part → new ≡ old ++ part → c ≡ with_exchange a told new

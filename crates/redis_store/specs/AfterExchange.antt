@@ -1,8 +1,10 @@
 -- How a call leaves a connection.
-use Rattle.std.specs.Prelude.{◌≡◌, ◌<◌, ◌≤◌, ℕ, ◌*◌, min, Bool, true, false}
+use Rattle.std.specs.Prelude.{◌≡◌, ◌⊎◌, ◌<◌, ◌≤◌, ℕ, ◌*◌, min, Bool, true, false}
 use Rattle.redis_store.specs.declared.connection.Rest.{Rest}
 use Rattle.redis_store.specs.declared.fault.ServerFault.{ServerFault}
-use Rattle.redis_store.specs.declared.fault.ServerFault.TheVariants.{Resting, Link, NoReply, NotAdmitted, NotOpened, Refused, Full, Replica, OtherReply, NoShare, NotShared, NoMemory}
+use Rattle.redis_store.specs.declared.fault.LinkFault.{LinkFault}
+use Rattle.redis_store.specs.declared.fault.LinkFault.TheVariants as link
+use Rattle.redis_store.specs.declared.fault.ServerFault.TheVariants.{Resting, Link, Closed, Late, NoReply, NotAdmitted, NotOpened, Refused, Full, Replica, OtherReply, NoShare, NotShared, NoMemory}
 
 -- for how many seconds the server is left alone the next time: twice as long, and at most 60
 abbrev pub longer : ℕ → ℕ
@@ -32,9 +34,20 @@ IsOfReply OtherReply = Unit {0}
 IsOfReply NoMemory = Unit {0}
 IsOfReply _ = ⊥
 
+-- what a link's fault says of a server: where no byte of a reply came, and else
+abbrev pub fault_before_reply : LinkFault → ServerFault
+fault_before_reply link.Ended = Closed
+fault_before_reply link.Late = Late
+
+abbrev pub fault_in_reply : LinkFault → ServerFault
+fault_in_reply link.Ended = Link
+fault_in_reply link.Late = Late
+
 -- that it is of the connection, of what came over it, or of what a new one was told
 abbrev pub IsOfLink : ServerFault → Type 0
 IsOfLink Link = Unit {0}
+IsOfLink Closed = Unit {0}
+IsOfLink Late = Unit {0}
 IsOfLink NoReply = Unit {0}
 IsOfLink OtherReply = Unit {0}
 IsOfLink NotAdmitted = Unit {0}
@@ -63,3 +76,7 @@ IsLeftAfter NoShare old is_open new = new ≡ old
 IsLeftAfter NotShared old is_open new = new ≡ old
 IsLeftAfter NoMemory old is_open new = Unit {0}
 IsLeftAfter _ old is_open new = (is_open ≡ false) × IsRestBegun old new
+
+-- What a fault leaves that may have come behind an exchange which went well.
+abbrev pub IsLeftInTheEnd : ServerFault → Rest → Bool → Rest → Type 0
+IsLeftInTheEnd fault old is_open new = (rest : Rest) × ((rest ≡ old) ⊎ IsWell old rest) × IsLeftAfter fault rest is_open new

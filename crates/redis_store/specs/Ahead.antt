@@ -10,8 +10,8 @@ ahead commands count = Some (record { commands = commands; count = count })
 -- the talk before the last exchange
 abbrev pub before_last : Talk → Talk
 before_last None = None
-before_last (Some []) = Some []
-before_last (Some (last ∷ all)) = Some all
+before_last (Some ([], before)) = Some ([], before)
+before_last (Some (last ∷ all, before)) = Some (all, before)
 
 -- These commands were told last, and nothing came since.
 abbrev pub IsToldLast : Talk → List ℕ → Type 0

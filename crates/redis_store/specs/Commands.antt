@@ -1,4 +1,4 @@
--- The commands that a server is told (Redis: AUTH, GET, DEL, SETNX, EXISTS).
+-- The commands that a server is told (Redis: AUTH, GET, DEL, SETNX, SET, EXISTS, CONFIG GET).
 use Rattle.std.specs.Prelude.{ℕ, List, [], ◌∷◌, codes, min, Option, None, Some}
 use Rattle.std.specs.List.{flat_map, range_with_len}
 use Rattle.resp.specs.Command.{command}
@@ -16,6 +16,14 @@ delete_command name = command (codes "DEL" ∷ name ∷ [])
 -- bytes put where nothing stands: in one step of the server, so of several who put at once one does
 abbrev pub put_command : List ℕ → List ℕ → List ℕ
 put_command name content = command (codes "SETNX" ∷ name ∷ content ∷ [])
+
+-- bytes put whatever stands there
+abbrev pub set_command : List ℕ → List ℕ → List ℕ
+set_command name content = command (codes "SET" ∷ name ∷ content ∷ [])
+
+-- what the server says of a setting of its own
+abbrev pub config_command : List ℕ → List ℕ
+config_command name = command (codes "CONFIG" ∷ codes "GET" ∷ name ∷ [])
 
 abbrev pub exists_command : List ℕ → List ℕ
 exists_command name = command (codes "EXISTS" ∷ name ∷ [])

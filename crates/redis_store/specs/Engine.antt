@@ -1,12 +1,12 @@
--- What a Redis server is assumed to do (Redis: GET, EXISTS, SETNX, DEL, and its page on pipelining).
+-- What a Redis server is assumed to do (Redis: GET, EXISTS, SETNX, SET, DEL, and its page on pipelining).
 use Rattle.std.specs.Prelude.{◌≡◌, ℕ, Bool, true, false, List, ◌∷◌, ◌++◌, length, None, Some, Contains}
 use Rattle.std.specs.List.{flat_map, AllZip}
 use Rattle.resp.specs.declared.limits.Limits.{Limits}
 use Rattle.resp.specs.declared.reply.Reply.{Reply}
 use Rattle.resp.specs.Spelled.{SpellsReply, SpellsAll}
-use Rattle.redis_store.specs.Replies.{IsValue, IsOtherKind}
+use Rattle.redis_store.specs.Replies.{IsOkReply, IsValue, IsOtherKind}
 use Rattle.redis_store.specs.Answers.{SaysWhether}
-use Rattle.redis_store.specs.Commands.{get_command, exists_command, put_command, delete_command}
+use Rattle.redis_store.specs.Commands.{get_command, exists_command, put_command, set_command, delete_command}
 use Rattle.redis_store.specs.Exchanges.{Exchange}
 
 -- ---- states
@@ -61,6 +61,10 @@ pub record IsSetReply (states : List EngineState) (name content : List ℕ) (ans
   pub kept : SaysWhether false answer
       → (value : EngineValue) × StoodUnder states name value × (is_something value ≡ true)
 
+-- `SET`: where it says `+OK`, in one of these states these bytes stood under the name.
+abbrev pub IsReplaceReply : List EngineState → List ℕ → List ℕ → Reply → Type 0
+IsReplaceReply states name content answer = IsOkReply answer → StoodUnder states name (of_bytes content)
+
 -- `DEL`: where it says one something stood under the name and nothing did next, and where it says none nothing stood.
 pub record IsDeleteReply (states : List EngineState) (name : List ℕ) (answer : Reply) : Type 0 where
   pub done : SaysWhether true answer
@@ -87,5 +91,7 @@ pub record IsEngineExchange (states : List EngineState) (exchange : Exchange) : 
       → AllZip (IsExistsReply states) names answers
   pub put : (limits : Limits) (name content : List ℕ) (answer : Reply) → exchange.0 ≡ put_command name content
       → SpellsReply limits answer exchange.1 → IsSetReply states name content answer
+  pub replace : (limits : Limits) (name content : List ℕ) (answer : Reply) → exchange.0 ≡ set_command name content
+      → SpellsReply limits answer exchange.1 → IsReplaceReply states name content answer
   pub delete : (limits : Limits) (name : List ℕ) (answer : Reply) → exchange.0 ≡ delete_command name
       → SpellsReply limits answer exchange.1 → IsDeleteReply states name answer

@@ -10,30 +10,38 @@ use Rattle.redis_store.specs.Replies.{IsOkReply}
 abbrev pub Exchange : Type 0
 Exchange = List ℕ × List ℕ
 
--- the exchanges over a connection, the last one first, where they are known
+-- the exchanges over the connection at hand, the last one first, and those over each connection that was let go, the
+-- last one first, where they are known
 abbrev pub Talk : Type 0
-Talk = Option (List Exchange)
+Talk = Option (List Exchange × List (List Exchange))
+
+-- a new connection was made
+abbrev pub with_connection : Talk → Talk
+with_connection None = None
+with_connection (Some (all, before)) = Some ([], all ∷ before)
 
 -- these bytes were told, which begins an exchange
 abbrev pub with_command : Talk → List ℕ → Talk
 with_command None bytes = None
-with_command (Some all) bytes = Some ((bytes, []) ∷ all)
+with_command (Some (all, before)) bytes = Some ((bytes, []) ∷ all, before)
 
 -- These bytes came, in the exchange that was begun last. What comes before anything was told is in none.
 abbrev pub with_heard : Talk → List ℕ → Talk
 with_heard None bytes = None
-with_heard (Some []) bytes = Some []
-with_heard (Some (last ∷ all)) bytes = Some ((last.0, last.1 ++ bytes) ∷ all)
+with_heard (Some ([], before)) bytes = Some ([], before)
+with_heard (Some (last ∷ all, before)) bytes = Some ((last.0, last.1 ++ bytes) ∷ all, before)
 
 -- one exchange more, where these bytes were told and those came
 abbrev pub with_exchange : Talk → List ℕ → List ℕ → Talk
 with_exchange None told came = None
-with_exchange (Some all) told came = Some ((told, came) ∷ all)
+with_exchange (Some (all, before)) told came = Some ((told, came) ∷ all, before)
 
--- nothing was told yet
-abbrev pub IsSilent : Talk → Type 0
-IsSilent None = Unit {0}
-IsSilent (Some all) = all ≡ []
+-- A beginning of these commands was told, and nothing came to it.
+pub record IsToldInPart (old : Talk) (commands : List ℕ) (new : Talk) : Type 0 where
+  pub told : List ℕ
+  pub rest : List ℕ
+  pub begins : commands ≡ told ++ rest
+  pub last : new ≡ with_command old told
 
 -- how large a reply without a share may be
 abbrev pub short_limits : Limits
@@ -43,9 +51,8 @@ short_limits = record { line = 512; bulk = 512; elements = 16 }
 abbrev pub value_limits : ℕ → Limits
 value_limits longest = record { line = 512; bulk = longest; elements = 0 }
 
--- A new connection: nothing was told but the password where there is one, and it was taken.
-abbrev pub IsGreeted : Option (List ℕ) → Talk → Type 0
-IsGreeted None talk = IsSilent talk
-IsGreeted (Some password) None = Unit {0}
-IsGreeted (Some password) (Some all) = (reply : Reply) × (came : List ℕ) × IsOkReply reply × SpellsReply short_limits reply came
-    × (all ≡ (auth_command password, came) ∷ [])
+-- One new connection was made, and nothing was told but the password where there is one, and it was taken.
+abbrev pub IsGreeted : Option (List ℕ) → Talk → Talk → Type 0
+IsGreeted None old new = new ≡ with_connection old
+IsGreeted (Some password) old new = (reply : Reply) × (came : List ℕ) × IsOkReply reply × SpellsReply short_limits reply came
+    × (new ≡ with_exchange (with_connection old) (auth_command password) came)

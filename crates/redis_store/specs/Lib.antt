@@ -1,5 +1,5 @@
 -- Read GridText and Strange for whose a server is and Keys for where a share stands, then Exchanges, Told and Ahead:
--- what a connection was told and what came. Commands, Replies and Answers are its bytes. AfterExchange says how a
+-- what a connection was told and what came, and Put. Commands, Replies and Answers are its bytes. AfterExchange says how a
 -- connection is left. Engine is what a server is assumed to do, and EngineShares what is seen of shares then.
 pub mod Keys
 pub mod GridText
@@ -9,6 +9,7 @@ pub mod Replies
 pub mod Exchanges
 pub mod Answers
 pub mod Told
+pub mod Put
 pub mod Ahead
 pub mod AfterExchange
 pub mod Engine

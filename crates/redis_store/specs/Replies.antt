@@ -1,6 +1,7 @@
 -- What replies say, whatever was asked.
-use Rattle.std.specs.Prelude.{◌≡◌, ◌⊎◌, ℕ, List, [], codes, nat_eq, IsTrue, Option, Some, None}
+use Rattle.std.specs.Prelude.{◌≡◌, ◌⊎◌, ℕ, List, [], ◌∷◌, codes, nat_eq, IsTrue, Option, Some, None}
 use Rattle.std.specs.List.{starts_with}
+use Rattle.resp.specs.declared.reply.Element.TheVariants as element
 use Rattle.resp.specs.declared.reply.Item.TheVariants as item
 use Rattle.resp.specs.declared.reply.Reply.{Reply}
 use Rattle.resp.specs.declared.reply.Reply.TheVariants as reply
@@ -13,6 +14,10 @@ IsOkReply answer = answer ≡ reply.One (item.Text (codes "OK"))
 abbrev pub IsValue : Reply → Option (List ℕ) → Type 0
 IsValue answer None = answer ≡ reply.One item.Null
 IsValue answer (Some bytes) = answer ≡ reply.One (item.Bulk bytes)
+
+-- a word and the value of a setting
+abbrev pub IsSetting : Reply → List ℕ → Type 0
+IsSetting answer value = (word : List ℕ) × (answer ≡ reply.Several (element.One (item.Bulk word) ∷ element.One (item.Bulk value) ∷ []))
 
 -- an error reply: the server heard what it was told, and doesn't do it
 abbrev pub IsError : Reply → Type 0

@@ -4,12 +4,11 @@ use Rattle.resp.specs.declared.reply.Item.TheVariants as item
 use Rattle.resp.specs.declared.reply.Reply.{Reply}
 use Rattle.resp.specs.declared.reply.Reply.TheVariants as reply
 use Rattle.resp.specs.Spelled.{SpellsReply, SpellsAll}
-use Rattle.redis_store.specs.Replies.{GivesShare, IsErrorOf}
-use Rattle.redis_store.specs.Commands.{get_command}
-use Rattle.redis_store.specs.Exchanges.{Talk, with_exchange, short_limits, value_limits, IsGreeted}
+use Rattle.redis_store.specs.Replies.{GivesShare, IsErrorOf, IsOkReply, IsSetting}
+use Rattle.redis_store.specs.Commands.{get_command, put_command, set_command, config_command}
+use Rattle.redis_store.specs.Exchanges.{Talk, with_exchange, short_limits, value_limits, IsGreeted, IsToldInPart}
 use Rattle.redis_store.specs.declared.connection.Greeting.{Greeting}
 use Rattle.redis_store.specs.Answers.{SaysWhether, SayWhich, GiveShares}
-use Rattle.redis_store.specs.Commands.{put_command}
 use Rattle.redis_store.specs.GridText.{grid_text}
 use Rattle.redis_store.specs.AfterExchange.{IsOfLink}
 use Rattle.redis_store.specs.Strange.{IsStrange}
@@ -34,13 +33,13 @@ pub record IsClaimed (name text : List ℕ) (old new : Talk) : Type 0 where
   pub put : SpellsReply short_limits answer put_came
   pub told : new ≡ with_exchange (with_exchange old (get_command name) none_came) (put_command name text) put_came
 
--- A new connection: the password was taken where there is one, and whose the server is was asked last, and the text of
+-- One new connection: the password was taken where there is one, and whose the server is was asked last, and the text of
 -- the settings that are wanted came. Nothing else was told, but for that text where none stood.
-pub record IsOpened (first : Greeting) (talk : Talk) : Type 0 where
+pub record IsOpened (first : Greeting) (old talk : Talk) : Type 0 where
   pub greeted : Talk
   pub before : Talk
   pub came : List ℕ
-  pub admitted : IsGreeted first.password greeted
+  pub admitted : IsGreeted first.password old greeted
   pub asked : (before ≡ greeted) ⊎ IsClaimed first.name (grid_text first.settings) greeted before
   pub ours : SpellsReply short_limits (reply.One (item.Bulk (grid_text first.settings))) came
   pub told : talk ≡ with_exchange before (get_command first.name) came
@@ -65,14 +64,20 @@ IsToldOf fault first talk = IsOfLink fault
 -- An open connection was told nothing more, and another is new.
 abbrev pub IsAtHand : Bool → Greeting → Talk → Talk → Type 0
 IsAtHand true first old new = new ≡ old
-IsAtHand false first old new = IsOpened first new
+IsAtHand false first old new = IsOpened first old new
 
 -- ---- one exchange
 
--- Commands were told in one exchange, in which these bytes came: over the connection that was open, or else a new one.
+-- The connection over which commands are told: the one that was open, which was told nothing more, or else a new one. One
+-- that was open may have ended before a byte came to the commands: then it is one new one too.
+abbrev pub IsToldOver : Bool → Greeting → List ℕ → Talk → Talk → Type 0
+IsToldOver true first commands old ready = (ready ≡ old) ⊎ ((ended : Talk) × IsToldInPart old commands ended × IsOpened first ended ready)
+IsToldOver false first commands old ready = IsOpened first old ready
+
+-- Commands were told in one exchange, in which these bytes came.
 pub record IsToldIn (is_open : Bool) (first : Greeting) (old new : Talk) (commands came : List ℕ) : Type 0 where
   pub ready : Talk
-  pub at_hand : IsAtHand is_open first old ready
+  pub over : IsToldOver is_open first commands old ready
   pub told : new ≡ with_exchange ready commands came
 
 -- The server was told a command and said that one is there, was put or was taken away, or none.
@@ -82,6 +87,22 @@ pub record IsSaidBy (is_open : Bool) (first : Greeting) (old new : Talk) (comman
   pub is_said : SaysWhether said answer
   pub spelled : SpellsReply short_limits answer came
   pub told : IsToldIn is_open first old new command came
+
+-- It was told to put bytes whatever stands there, and took them.
+pub record IsSetBy (is_open : Bool) (first : Greeting) (old new : Talk) (name content : List ℕ) : Type 0 where
+  pub answer : Reply
+  pub came : List ℕ
+  pub is_done : IsOkReply answer
+  pub spelled : SpellsReply short_limits answer came
+  pub told : IsToldIn is_open first old new (set_command name content) came
+
+-- It was asked for a setting of its own, and said this value.
+pub record IsSettingSaidBy (is_open : Bool) (first : Greeting) (old new : Talk) (name value : List ℕ) : Type 0 where
+  pub answer : Reply
+  pub came : List ℕ
+  pub is_setting : IsSetting answer value
+  pub spelled : SpellsReply short_limits answer came
+  pub told : IsToldIn is_open first old new (config_command name) came
 
 -- It was told so many commands in one exchange, and said of each number from 0 on whether it is among these.
 pub record AreSaidBy (is_open : Bool) (first : Greeting) (old new : Talk) (commands : List ℕ) (count : ℕ) (numbers : List ℕ) : Type 0 where

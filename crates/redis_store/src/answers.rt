@@ -2,7 +2,7 @@
 ghost use Rattle.std.specs.Prelude.{◌≡◌, ◌↔◌, ◌+◌, ◌++◌, ◌∷◌, ◌<◌, ◌^◌, ℕ, Bool, List, Option, [], All, IsTrue, IfSome, IfNone, IfOk, IfErr, OnOk, length, map, vec_len, if◌then◌else◌};
 ghost use Rattle.resp.specs.declared.reply.Item.TheVariants as item;
 ghost use Rattle.resp.specs.declared.reply.Reply.TheVariants as replies;
-ghost use Rattle.redis_store.specs.Replies.{IsOkReply, IsValue, IsOtherKind, GivesShare};
+ghost use Rattle.redis_store.specs.Replies.{IsOkReply, IsSetting, IsValue, IsOtherKind, GivesShare};
 ghost use Rattle.redis_store.specs.Answers.{SaysWhether, SayWhich, GiveShares, numbered_share, IsFaultOf};
 ghost use Rattle.share_store.specs.NumberedShares.{numbered_bytes};
 ghost use Rattle.std.specs.Option.{option_map};
@@ -11,7 +11,7 @@ ghost use Rattle.redis_store.specs.AfterExchange.{IsOfReply};
 
 use crate::ServerFault;
 use octets::Bytes;
-use resp::{Item, Reply};
+use resp::{Element, Item, Reply};
 use std::alloc::{AllocError, Global};
 use std::rc::RcSlice;
 
@@ -115,6 +115,21 @@ pub(crate) fn lent(share: Option<Bytes>) -> Result<Option<RcSlice<u8>>, ServerFa
     match share {
         Some(bytes) => Ok(Some(RcSlice::from_vec(bytes.into_vec())?)),
         None => Ok(None),
+    }
+}
+
+/// The value of a setting of the server's own. `None` where the reply is another.
+pub(crate) fn setting_in(alloc: Global, reply: &Reply) -> Result<Option<Bytes>, AllocError>
+    ensures { IfOk result (λ value. IfSome value (IsSetting reply.now)) }
+{
+    let Reply::Several(elements) = reply else {
+        return Ok(None);
+    };
+    match elements.as_slice() {
+        [Element::One(Item::Bulk(_)), Element::One(Item::Bulk(value))] => {
+            Ok(Some(Bytes::from_slice(alloc, value.as_slice())?))
+        }
+        _ => Ok(None),
     }
 }
 

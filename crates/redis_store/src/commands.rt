@@ -1,7 +1,7 @@
 //! Commands.
-ghost use Rattle.std.specs.Prelude.{◌≡◌, ◌++◌, ℕ, List, length, IfOk};
-ghost use Rattle.resp.specs.Command.{line_end};
-ghost use Rattle.redis_store.specs.Commands.{auth_command, get_command, delete_command, put_command, exists_command, exists_below, get_below};
+ghost use Rattle.std.specs.Prelude.{◌≡◌, ◌++◌, ◌∷◌, ℕ, List, [], length, IfOk};
+ghost use Rattle.resp.specs.Command.{command, line_end};
+ghost use Rattle.redis_store.specs.Commands.{auth_command, config_command, get_command, delete_command, exists_command, exists_below, get_below};
 
 use crate::keys::spell_key;
 use resp::{command, command_head};
@@ -67,19 +67,42 @@ pub(crate) fn get_each_below(
 }
 
 /// Puts bytes under a name where nothing stands.
-pub(crate) fn put(alloc: Global, name: &[u8], content: &[u8]) -> Result<Vec<u8>, AllocError>
-    ensures { IfOk result (λ bytes. bytes.items ≡ put_command name.now content.now) }
+pub(crate) const PUT: &[u8] = b"SETNX";
+
+/// Puts bytes under a name, whatever stands there.
+pub(crate) const REPLACE: &[u8] = b"SET";
+
+/// Puts bytes under a name, by [`PUT`] or [`REPLACE`].
+pub(crate) fn put(
+    alloc: Global,
+    verb: &[u8],
+    name: &[u8],
+    content: &[u8],
+) -> Result<Vec<u8>, AllocError>
+    ensures { IfOk result (λ bytes.
+        bytes.items ≡ command (verb.now ∷ name.now ∷ content.now ∷ [])) }
 {
-    command(alloc, &[b"SETNX", name, content])
+    command(alloc, &[verb, name, content])
 }
 
-/// Puts so many bytes under a name where nothing stands: the command as far as those bytes, behind which CR and LF have
-/// to come.
-pub(crate) fn put_head(alloc: Global, name: &[u8], len: usize) -> Result<Vec<u8>, AllocError>
+/// Puts so many bytes under a name: the command as far as those bytes, behind which CR and LF have to come.
+pub(crate) fn put_head(
+    alloc: Global,
+    verb: &[u8],
+    name: &[u8],
+    len: usize,
+) -> Result<Vec<u8>, AllocError>
     ensures { IfOk result (λ bytes. (content : List ℕ) → length content ≡ len
-        → bytes.items ++ content ++ line_end ≡ put_command name.now content) }
+        → bytes.items ++ content ++ line_end ≡ command (verb.now ∷ name.now ∷ content ∷ [])) }
 {
-    command_head(alloc, &[b"SETNX", name], len)
+    command_head(alloc, &[verb, name], len)
+}
+
+/// Asks for a setting of the server's own.
+pub(crate) fn config(alloc: Global, name: &[u8]) -> Result<Vec<u8>, AllocError>
+    ensures { IfOk result (λ bytes. bytes.items ≡ config_command name.now) }
+{
+    command(alloc, &[b"CONFIG", b"GET", name])
 }
 
 /// Takes away what stands under a name.

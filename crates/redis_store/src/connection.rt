@@ -1,7 +1,7 @@
 //! A connection that is made anew where it is needed.
-ghost use Rattle.std.specs.Prelude.{◌≡◌, ◌<◌, ◌++◌, ◌⊎◌, ◌↔◌, ℕ, List, Bool, None, Some, true, false, vec_len, IsTrue, IfSome, IfOk, IfErr, OnOk};
+ghost use Rattle.std.specs.Prelude.{◌≡◌, ◌<◌, ◌⊎◌, ◌↔◌, ℕ, List, Bool, None, Some, true, false, vec_len, IsTrue, IfSome, IfOk, IfErr, IsErrOf, OnOk};
+ghost use Rattle.std.specs.List.{flat_map};
 ghost use Rattle.std.specs.Option.{ForSome};
-ghost use Rattle.resp.specs.Command.{line_end};
 ghost use Rattle.resp.specs.Spelled.{SpellsReply, SpellsAll};
 ghost use Rattle.resp.specs.declared.reply.Reply.{Reply};
 ghost use Rattle.redis_store.specs.Replies.{IsOkReply, IsError, IsValue};
@@ -15,10 +15,10 @@ ghost use Rattle.redis_store.specs.Told.{found_reply, IsAtHand, IsOpened, IsTold
 
 use crate::ServerFault;
 use crate::answers::{bytes_in, fault_of, is_done, said_in};
-use crate::commands::{auth, get, put};
+use crate::commands::{PUT, auth, get, put};
 use crate::link::Link;
 use crate::settings_key::{check_grid, grid_text};
-use crate::talk::{hear_all, talk, talk_each, talk_long};
+use crate::talk::{hear_all, talk, talk_each, talk_parts};
 use folder_shelf::StoreSettings;
 use octets::Bytes;
 use resp::{Limits, Reply};
@@ -115,36 +115,38 @@ impl<L: Link + Drop> Connection<L> {
         }
     }
 
-    /// Tells a command and gives its reply. Where no connection is open one is opened first.
-    pub(crate) fn ask(&mut self, limits: Limits, command: &[u8]) -> Result<Reply, ServerFault>
+    /// Tells a command, whose parts are written one behind the other, and gives its reply. Where no connection is open one
+    /// is opened first. Where one was open and ended before a byte of the reply came, the command is told once more, over
+    /// a new one.
+    pub(crate) fn ask(&mut self, limits: Limits, parts: &[&[u8]]) -> Result<Reply, ServerFault>
         requires { 0 < limits.line }
         ensures open { OnOk result (self.new.is_open ≡ true) }
         ensures told { IfOk result (λ reply. (came : List ℕ) × SpellsReply limits reply came
-            × IsToldIn self.old.is_open self.old.first
-            (L.talk self.old.link) (L.talk self.new.link) command.now came) }
+            × IsToldIn self.old.is_open self.old.first (L.talk self.old.link)
+            (L.talk self.new.link) (flat_map (λ part. part.now) parts.now) came) }
         ensures rest { OnOk result (self.new.rest ≡ self.old.rest) }
         ensures left { IfErr result (λ fault.
             IsLeftAfter fault self.old.rest self.new.is_open self.new.rest) }
         ensures not_refused { IfErr result (λ fault. IsErrorReply fault → ⊥) }
         ensures first { self.new.first ≡ self.old.first }
     {
-        self.ready()?;
-        match talk(self.alloc, &mut self.link, limits, command) {
-            Ok(reply) => Ok(reply),
-            Err(fault) => {
-                self.let_go(fault);
-                Err(fault)
+        if self.is_open {
+            match talk_parts(self.alloc, &mut self.link, limits, parts) {
+                Err(ServerFault::Closed) => self.close(),
+                answer => return self.keep(answer),
             }
         }
+        self.ask_anew(limits, parts)
     }
 
-    /// The same of a command's beginning, a share's bytes, which are written from where they are, and CR and LF.
-    pub(crate) fn ask_long(&mut self, head: &[u8], share: &[u8]) -> Result<Reply, ServerFault>
+    /// Tells a command over a new connection, and gives its reply.
+    fn ask_anew(&mut self, limits: Limits, parts: &[&[u8]]) -> Result<Reply, ServerFault>
+        requires line { 0 < limits.line }
+        requires none_open { self.old.is_open ≡ false }
         ensures open { OnOk result (self.new.is_open ≡ true) }
-        ensures told { IfOk result (λ reply. (came : List ℕ) × SpellsReply short_limits reply came
-            × IsToldIn self.old.is_open self.old.first
-            (L.talk self.old.link) (L.talk self.new.link)
-            (head.now ++ share.now ++ line_end) came) }
+        ensures told { IfOk result (λ reply. (came : List ℕ) × SpellsReply limits reply came
+            × IsToldIn false self.old.first (L.talk self.old.link)
+            (L.talk self.new.link) (flat_map (λ part. part.now) parts.now) came) }
         ensures rest { OnOk result (self.new.rest ≡ self.old.rest) }
         ensures left { IfErr result (λ fault.
             IsLeftAfter fault self.old.rest self.new.is_open self.new.rest) }
@@ -152,16 +154,11 @@ impl<L: Link + Drop> Connection<L> {
         ensures first { self.new.first ≡ self.old.first }
     {
         self.ready()?;
-        match talk_long(self.alloc, &mut self.link, SHORT, head, share) {
-            Ok(reply) => Ok(reply),
-            Err(fault) => {
-                self.let_go(fault);
-                Err(fault)
-            }
-        }
+        let answer = talk_parts(self.alloc, &mut self.link, limits, parts);
+        self.keep(answer)
     }
 
-    /// Tells several commands in one exchange, and gives a reply to each.
+    /// Tells several commands in one exchange, and gives a reply to each. The connection is that of [`Self::ask`].
     pub(crate) fn ask_each(
         &mut self,
         limits: Limits,
@@ -181,9 +178,52 @@ impl<L: Link + Drop> Connection<L> {
         ensures not_refused { IfErr result (λ fault. IsErrorReply fault → ⊥) }
         ensures first { self.new.first ≡ self.old.first }
     {
+        if self.is_open {
+            match talk_each(self.alloc, &mut self.link, limits, commands, count) {
+                Err(ServerFault::Closed) => self.close(),
+                answer => return self.keep(answer),
+            }
+        }
+        self.ask_each_anew(limits, commands, count)
+    }
+
+    /// Tells several commands in one exchange over a new connection, and gives a reply to each.
+    fn ask_each_anew(
+        &mut self,
+        limits: Limits,
+        commands: &[u8],
+        count: u16,
+    ) -> Result<Vec<Reply>, ServerFault>
+        requires line { 0 < limits.line }
+        requires none_open { self.old.is_open ≡ false }
+        ensures open { OnOk result (self.new.is_open ≡ true) }
+        ensures told { IfOk result (λ replies. (came : List ℕ)
+            × SpellsAll (SpellsReply limits) replies.items came
+            × IsToldIn false self.old.first
+            (L.talk self.old.link) (L.talk self.new.link) commands.now came) }
+        ensures count { IfOk result (λ replies. vec_len replies ≡ count) }
+        ensures rest { OnOk result (self.new.rest ≡ self.old.rest) }
+        ensures left { IfErr result (λ fault.
+            IsLeftAfter fault self.old.rest self.new.is_open self.new.rest) }
+        ensures not_refused { IfErr result (λ fault. IsErrorReply fault → ⊥) }
+        ensures first { self.new.first ≡ self.old.first }
+    {
         self.ready()?;
-        match talk_each(self.alloc, &mut self.link, limits, commands, count) {
-            Ok(replies) => Ok(replies),
+        let answer = talk_each(self.alloc, &mut self.link, limits, commands, count);
+        self.keep(answer)
+    }
+
+    /// Hands an answer on. Where it is a fault the connection is let go, and the server left alone for a while.
+    fn keep<T>(&mut self, answer: Result<T, ServerFault>) -> Result<T, ServerFault>
+        requires { IfErr answer (λ fault. IsOfLink fault) }
+        ensures answer { result ≡ answer }
+        ensures kept { OnOk answer (self.new ≡ self.old) }
+        ensures left { IfErr answer (λ fault.
+            IsLeftAfter fault self.old.rest self.new.is_open self.new.rest) }
+        ensures first { self.new.first ≡ self.old.first }
+    {
+        match answer {
+            Ok(value) => Ok(value),
             Err(fault) => {
                 self.let_go(fault);
                 Err(fault)
@@ -223,7 +263,7 @@ impl<L: Link + Drop> Connection<L> {
     }
 
     /// The replies to several commands that were told ahead, just these and nothing behind them. Else they are told now,
-    /// in one exchange.
+    /// in one exchange, and so they are where the connection ended before a byte of the replies came.
     pub(crate) fn take_each(
         &mut self,
         limits: Limits,
@@ -250,19 +290,27 @@ impl<L: Link + Drop> Connection<L> {
         ensures first { self.new.first ≡ self.old.first }
     {
         if self.awaits(commands, count) {
-            self.hear_ahead(limits, count)
+            self.take_ahead(limits, commands, count)
         } else {
             self.ask_each(limits, commands, count)
         }
     }
 
-    /// The replies to what was told ahead, in the time of an exchange from now on.
-    fn hear_ahead(&mut self, limits: Limits, count: u16) -> Result<Vec<Reply>, ServerFault>
-        requires { 0 < limits.line }
+    /// The replies to just these commands, which are awaited. Where the connection ended before a byte of them came, the
+    /// commands are told once more, over a new one.
+    fn take_ahead(
+        &mut self,
+        limits: Limits,
+        commands: &[u8],
+        count: u16,
+    ) -> Result<Vec<Reply>, ServerFault>
+        requires line { 0 < limits.line }
+        requires awaited { self.old.awaited ≡ ahead commands.now count }
         ensures open { OnOk result (self.new.is_open ≡ true) }
-        ensures heard { IfOk result (λ replies. (came : List ℕ)
+        ensures told { IfOk result (λ replies. (came : List ℕ)
             × SpellsAll (SpellsReply limits) replies.items came
-            × (L.talk self.new.link ≡ with_heard (L.talk self.old.link) came)) }
+            × IsToldIn true self.old.first
+            (before_last (L.talk self.old.link)) (L.talk self.new.link) commands.now came) }
         ensures count { IfOk result (λ replies. vec_len replies ≡ count) }
         ensures rest { OnOk result (self.new.rest ≡ self.old.rest) }
         ensures left { IfErr result (λ fault.
@@ -270,18 +318,34 @@ impl<L: Link + Drop> Connection<L> {
         ensures not_refused { IfErr result (λ fault. IsErrorReply fault → ⊥) }
         ensures first { self.new.first ≡ self.old.first }
     {
+        let answer = self.hear_ahead(limits, count);
+        if !is_closed(&answer) {
+            return self.keep(answer);
+        }
+        self.close();
+        self.ask_each_anew(limits, commands, count)
+    }
+
+    /// The replies to what was told ahead. After a fault nothing is awaited, and no connection is open.
+    fn hear_ahead(&mut self, limits: Limits, count: u16) -> Result<Vec<Reply>, ServerFault>
+        requires line { 0 < limits.line }
+        requires none_open { self.old.is_open ≡ false }
+        ensures open { OnOk result (self.new.is_open ≡ true) }
+        ensures heard { IfOk result (λ replies. (came : List ℕ)
+            × SpellsAll (SpellsReply limits) replies.items came
+            × (L.talk self.new.link ≡ with_heard (L.talk self.old.link) came)) }
+        ensures count { IfOk result (λ replies. vec_len replies ≡ count) }
+        ensures closed { IsErrOf result ServerFault.Closed
+            → L.talk self.new.link ≡ L.talk self.old.link }
+        ensures of_link { IfErr result (λ fault. IsOfLink fault) }
+        ensures rest { self.new.rest ≡ self.old.rest }
+        ensures first { self.new.first ≡ self.old.first }
+    {
         self.awaited = None;
         self.link.give_time();
-        match hear_all(self.alloc, &mut self.link, limits, count) {
-            Ok(replies) => {
-                self.is_open = true;
-                Ok(replies)
-            }
-            Err(fault) => {
-                self.let_go(fault);
-                Err(fault)
-            }
-        }
+        let replies = hear_all(self.alloc, &mut self.link, limits, count)?;
+        self.is_open = true;
+        Ok(replies)
     }
 
     /// Opens a connection where none is open. Nothing is done where the server is left alone. Replies that were awaited
@@ -364,6 +428,7 @@ impl<L: Link + Drop> Connection<L> {
     /// Lets the connection go, and what was awaited over it.
     fn close(&mut self)
         ensures closed { (self.new.is_open ≡ false) × (self.new.awaited ≡ None) }
+        ensures talk { L.talk self.new.link ≡ L.talk self.old.link }
         ensures rest { self.new.rest ≡ self.old.rest }
         ensures first { self.new.first ≡ self.old.first }
     {
@@ -399,10 +464,17 @@ impl<L: Link + Drop> Connection<L> {
     }
 }
 
+/// Whether the connection ended before a byte of the answer came.
+fn is_closed<T>(answer: &Result<T, ServerFault>) -> bool
+    ensures { IsTrue result ↔ IsErrOf answer.now ServerFault.Closed }
+{
+    matches!(answer, Err(ServerFault::Closed))
+}
+
 /// Opens a connection, says who asks, and looks whose the server is. Where nothing says so yet it is put there, and
 /// looked at again: another may have come first.
 fn greet<L: Link>(alloc: Global, link: &mut L, first: &Greeting) -> Result<(), ServerFault>
-    ensures opened { OnOk result (IsOpened first.now (L.talk link.new)) }
+    ensures opened { OnOk result (IsOpened first.now (L.talk link.old) (L.talk link.new)) }
     ensures wrong { IfErr result (λ fault. IsToldOf fault first.now (L.talk link.new)) }
 {
     connect_as(alloc, link, &first.password)?;
@@ -423,7 +495,7 @@ fn connect_as<L: Link>(
     link: &mut L,
     password: &Option<Bytes>,
 ) -> Result<(), ServerFault>
-    ensures greeted { OnOk result (IsGreeted password.now (L.talk link.new)) }
+    ensures greeted { OnOk result (IsGreeted password.now (L.talk link.old) (L.talk link.new)) }
     ensures of_link { IfErr result (λ fault. IsOfLink fault) }
 {
     link.connect()?;
@@ -489,7 +561,7 @@ fn claim<L: Link>(alloc: Global, link: &mut L, first: &Greeting) -> Result<(), S
     ensures of_link { IfErr result (λ fault. IsOfLink fault) }
 {
     let text = grid_text(alloc, &first.settings)?;
-    let command = put(alloc, first.name.as_slice(), &text)?;
+    let command = put(alloc, PUT, first.name.as_slice(), &text)?;
     let reply = talk(alloc, link, SHORT, &command)?;
     match said_in(&reply) {
         Ok(_put) => Ok(()),

@@ -1,19 +1,40 @@
 //! Why a server gave no answer.
 ghost use Rattle.std.specs.Prelude.{◌≡◌, ◌⊎◌};
-ghost use Rattle.redis_store.specs.declared.fault.ServerFault.TheVariants.{Link, NoReply, NoMemory};
+ghost use Rattle.redis_store.specs.AfterExchange.{fault_in_reply, fault_before_reply};
+ghost use Rattle.redis_store.specs.declared.fault.ServerFault.TheVariants.{NoReply, NoMemory};
 
 use resp::RespFault;
 use std::alloc::{AllocError, AllocFailed};
 use std::fmt;
-use std::io::Error as IoError;
+use std::io::{Error as IoError, ErrorKind};
 
-/// A stream failed: no connection was made, one ended, or its time was up.
+/// Why a link failed.
 #[derive(Clone, Copy, PartialEq, Eq)]
-pub struct LinkFault;
+pub enum LinkFault {
+    /// No connection was made, or the one at hand ended.
+    Ended,
+    /// Its time was up.
+    Late,
+}
 
 impl fmt::Display for LinkFault {
     fn fmt<W: fmt::Write>(&self, f: &mut fmt::Formatter<W>) -> fmt::Result {
-        f.write_str("the stream failed")
+        f.write_str(match self {
+            LinkFault::Ended => "there is no connection",
+            LinkFault::Late => "its time was up",
+        })
+    }
+}
+
+impl LinkFault {
+    /// What it says where no byte of a reply came.
+    pub(crate) fn unheard(self) -> ServerFault
+        ensures { result ≡ fault_before_reply self }
+    {
+        match self {
+            Self::Ended => ServerFault::Closed,
+            Self::Late => ServerFault::Late,
+        }
     }
 }
 
@@ -26,8 +47,12 @@ impl fmt::Display for LinkFault {
 pub enum ServerFault {
     /// It was not asked, since it failed less than the seconds before that it is left alone then.
     Resting,
-    /// No connection was made, or it ended, or its time was up.
+    /// No connection was made, or it ended within a reply.
     Link,
+    /// The connection ended before a byte of the reply came.
+    Closed,
+    /// No connection was made within a second, no byte moved for a second, or the exchange took longer than it may.
+    Late,
     /// What came is no reply, or one that is too large.
     NoReply,
     /// The server didn't take the password.
@@ -64,6 +89,8 @@ impl fmt::Display for ServerFault {
         let words = match self {
             ServerFault::Resting => "the server is left alone for a while",
             ServerFault::Link => "the connection failed",
+            ServerFault::Closed => "the connection ended before the reply",
+            ServerFault::Late => "the server took too long",
             ServerFault::NoReply => "what came is no reply",
             ServerFault::NotAdmitted => "the server refused the password",
             ServerFault::NotOpened => "the server refused what a new connection is asked",
@@ -88,16 +115,22 @@ impl fmt::Display for ServerFault {
 }
 
 impl From<IoError> for LinkFault {
-    fn from(_: IoError) -> Self {
-        LinkFault
+    fn from(error: IoError) -> Self {
+        match error.kind() {
+            ErrorKind::WouldBlock | ErrorKind::TimedOut => LinkFault::Late,
+            _ => LinkFault::Ended,
+        }
     }
 }
 
 impl From<LinkFault> for ServerFault {
-    ghost from_gives = { λ _ e. e ≡ Link };
+    ghost from_gives = { λ fault e. e ≡ fault_in_reply fault };
 
-    fn from(_: LinkFault) -> Self {
-        ServerFault::Link
+    fn from(fault: LinkFault) -> Self {
+        match fault {
+            LinkFault::Ended => ServerFault::Link,
+            LinkFault::Late => ServerFault::Late,
+        }
     }
 }
 

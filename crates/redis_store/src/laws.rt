@@ -2,7 +2,7 @@
 //! does what is assumed of one.
 ghost use Rattle.std.specs.FinMap as map;
 ghost use Rattle.std.specs.List.{flat_map, AllZip};
-ghost use Rattle.std.specs.Prelude.{◌≡◌, ◌≢◌, ◌<◌, ◌^◌, ℕ, Bool, true, List, ◌∷◌, Option, Some, All, Contains, IfSome, IsSome, length};
+ghost use Rattle.std.specs.Prelude.{◌≡◌, ◌≢◌, ◌<◌, ◌^◌, ℕ, Bool, true, List, ◌∷◌, Option, Some, All, Contains, IfSome, length};
 ghost use Rattle.folder_shelf.specs.SettingsText.{AreSettings};
 ghost use Rattle.folder_shelf.specs.declared.settings.StoreSettings.{StoreSettings};
 ghost use Rattle.folder_shelf.specs.Names.{IsKeyInRange};
@@ -18,7 +18,8 @@ ghost use Rattle.redis_store.specs.Keys.{key};
 ghost use Rattle.redis_store.specs.GridText.{grid_text, grid_name};
 ghost use Rattle.redis_store.specs.declared.connection.Greeting.{Greeting};
 ghost use Rattle.redis_store.specs.Exchanges.{Exchange, Talk};
-ghost use Rattle.redis_store.specs.Commands.{get_command, delete_command, put_command, exists_command, exists_below, get_below, asked_below};
+ghost use Rattle.redis_store.specs.Commands.{get_command, delete_command, exists_command, exists_below, get_below, asked_below};
+ghost use Rattle.redis_store.specs.Put.{IsPutBy};
 ghost use Rattle.redis_store.specs.Told.{IsToldIn, IsSaidBy, AreSaidBy, IsShareGivenBy, AreSharesGivenBy};
 ghost use Rattle.redis_store.specs.Engine.{EngineValue, EngineState, nothing, of_bytes, is_something, StoodUnder, SaysValue, IsEngineExchange};
 ghost use Rattle.redis_store.specs.EngineShares.{value_share, HaveSharesAlone, AreSeenUnder, shares_seen, numbers_seen, AreKeysInRange, AreToldAmid};
@@ -59,8 +60,8 @@ pub fn replies_of_states_meet_the_premise()
 /// What was told and came in a call is the last exchange over the connection, a new one's too.
 pub fn calls_are_last_exchanges()
     ensures { (is_open : Bool) (first : Greeting) (old new : Talk) (commands came : List ℕ)
-        (last : Exchange) (all : List Exchange)
-        → IsToldIn is_open first old new commands came → new ≡ Some (last ∷ all)
+        (last : Exchange) (all : List Exchange) (before : List (List Exchange))
+        → IsToldIn is_open first old new commands came → new ≡ Some (last ∷ all, before)
         → last ≡ (commands, came) }
 {}
 
@@ -105,15 +106,14 @@ pub fn numbers_said_stood()
         × (numbers ≡ numbers_seen 0 values) }
 {}
 
-/// Where `put` answered, something stood at the share's place at some moment of the exchange, and where it answered
-/// that it put the share, these bytes did.
+/// Where `put` answered, the share's bytes stood at its place at some moment of the last exchange.
 pub fn share_put_stood()
     ensures { (is_open : Bool) (first : Greeting) (old new : Talk) (states : List EngineState)
-        (name content : List ℕ) (said : Bool)
-        (by : IsSaidBy is_open first old new (put_command name content) said)
-        → IsEngineExchange states (put_command name content, by.came)
-        → (value : EngineValue) × StoodUnder states name value × (is_something value ≡ true)
-        × (said ≡ true → value ≡ of_bytes content) }
+        (longest : ℕ) (name content : List ℕ) (put : Bool)
+        (last : Exchange) (all : List Exchange) (before : List (List Exchange))
+        → IsPutBy is_open first old new longest name content put → 0 < length content
+        → new ≡ Some (last ∷ all, before) → IsEngineExchange states last
+        → StoodUnder states name (of_bytes content) }
 {}
 
 /// Where `lose` answered, nothing stood at the share's place at some moment of the exchange.
@@ -179,13 +179,16 @@ pub fn numbers_said_are_seen_amid()
         → SeesAmid past now (λ view. numbers ≡ numbers_for view index) }
 {}
 
-/// Over such a store, where `put` answered, a share stood at its place at some moment of the call.
+/// Over a store that tells the states of the last exchange, where `put` answered, the share stood at its place at some
+/// moment of the call.
 pub fn share_put_stood_amid()
     ensures { (is_open : Bool) (first : Greeting) (old new : Talk) (states : List EngineState)
-        (grid index content : List ℕ) (number made : ℕ) (said : Bool) (past now : History)
-        (by : IsSaidBy is_open first old new (put_command (key grid index number) content) said)
-        → IsEngineExchange states (put_command (key grid index number) content, by.came)
-        → AreToldAmid past now grid made states → HaveSharesAlone grid states
+        (longest : ℕ) (grid index content : List ℕ) (number made : ℕ) (put : Bool)
+        (last : Exchange) (all : List Exchange) (before : List (List Exchange))
+        (past now : History)
+        → IsPutBy is_open first old new longest (key grid index number) content put
+        → 0 < length content → new ≡ Some (last ∷ all, before) → IsEngineExchange states last
+        → AreToldAmid past now grid made states
         → AreKeysInRange index made → number < made
-        → (c : Shares) × StoodAmid past now c × IsSome (map.get c (index, number)) }
+        → (c : Shares) × StoodAmid past now c × (map.get c (index, number) ≡ Some content) }
 {}

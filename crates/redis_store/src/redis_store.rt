@@ -1,6 +1,6 @@
 //! The store.
 ghost use Rattle.std.specs.FinMap as map;
-ghost use Rattle.std.specs.Prelude.{◌≡◌, ◌≤◌, ◌<◌, ◌+◌, ◌↔◌, ℕ, List, [], None, Some, false, true, length, All, codes, map as mapped, OnOk, OnErr, IfOk, IfErr, IfSome, IsOkAnd, IsErrOf, IsSomeAnd};
+ghost use Rattle.std.specs.Prelude.{◌≡◌, ◌≤◌, ◌<◌, ◌+◌, ◌↔◌, ◌∷◌, ℕ, List, Option, [], None, Some, false, true, length, All, codes, map as mapped, OnOk, OnErr, IfOk, IfErr, IfSome, IsOkAnd, IsErrOf, IsSomeAnd, IsTrue};
 ghost use Rattle.std.specs.Option.{option_map};
 ghost use Rattle.std.specs.Rc.{rc_slice_items};
 ghost use Rattle.resp.specs.Spelled.{SpellsReply};
@@ -10,14 +10,20 @@ ghost use Rattle.redis_store.specs.Keys.{key};
 ghost use Rattle.redis_store.specs.Exchanges.{short_limits, with_command};
 ghost use Rattle.redis_store.specs.Ahead.{ahead, before_last};
 ghost use Rattle.redis_store.specs.Answers.{SaysWhether};
-ghost use Rattle.redis_store.specs.Commands.{get_command, delete_command, put_command, exists_command, exists_below, get_below, asked_below};
+ghost use Rattle.redis_store.specs.Commands.{get_command, delete_command, put_command, set_command, exists_command, exists_below, get_below, asked_below};
+ghost use Rattle.resp.specs.Command.{command};
 ghost use Rattle.redis_store.specs.GridText.{grid_name};
-ghost use Rattle.redis_store.specs.AfterExchange.{IsErrorReply, IsLeftAfter, IsWell};
-ghost use Rattle.redis_store.specs.Told.{IsAtHand, IsToldIn, IsSaidBy, AreSaidBy, IsShareGivenBy, AreSharesGivenBy, IsRefusedBy};
+ghost use Rattle.redis_store.specs.AfterExchange.{IsErrorReply, IsLeftAfter, IsLeftInTheEnd, IsWell};
+ghost use Rattle.redis_store.specs.Told.{IsAtHand, IsToldIn, IsSaidBy, AreSaidBy, IsSetBy, IsSettingSaidBy, IsShareGivenBy, AreSharesGivenBy, IsRefusedBy};
+ghost use Rattle.redis_store.specs.Put.{IsPutBy, IsPutRefusedBy};
 
 use crate::ServerFault;
-use crate::answers::{lent, numbers_in, said_in, share_in, shares_in};
-use crate::commands::{delete, exist_below, exists, get, get_each_below, put, put_head};
+use crate::answers::{
+    fault_of, is_done, lent, numbers_in, said_in, setting_in, share_in, shares_in,
+};
+use crate::commands::{
+    PUT, REPLACE, config, delete, exist_below, exists, get, get_each_below, put, put_head,
+};
 use crate::connection::{Connection, Greeting, SHORT};
 use crate::keys::spell_key;
 use crate::link::Link;
@@ -122,6 +128,28 @@ impl<L: Link + Drop> RedisStore<L> {
         self.connection.ready()
     }
 
+    /// What the server says of a setting of its own, as `maxmemory-policy` (`CONFIG GET`). `None` where it doesn't say.
+    pub fn setting(&mut self, name: &[u8]) -> Result<Option<Bytes>, ServerFault>
+        ensures said { IfOk result (λ value. IfSome value (λ bytes. IsSettingSaidBy
+            self.old.connection.is_open self.old.connection.first
+            (L.talk self.old.connection.link) (L.talk self.new.connection.link)
+            name.now bytes)) }
+        ensures well { OnOk result ((self.new.connection.is_open ≡ true)
+            × IsWell self.old.connection.rest self.new.connection.rest) }
+        ensures left { IfErr result (λ fault. IsLeftAfter fault self.old.connection.rest
+            self.new.connection.is_open self.new.connection.rest) }
+        ensures failures { self.new.failures ≡ self.old.failures }
+        ensures same { (self.new.grid ≡ self.old.grid) × (self.new.longest ≡ self.old.longest)
+            × (self.new.connection.first ≡ self.old.connection.first) }
+    {
+        let alloc = self.connection.alloc;
+        let command = config(alloc, name)?;
+        let reply = self.connection.ask(SHORT, &[&command])?;
+        let value = setting_in(alloc, &reply)?;
+        self.connection.well();
+        Ok(value)
+    }
+
     /// The link to the server.
     pub fn into_link(self) -> L
         ensures { result ≡ self.connection.link }
@@ -205,7 +233,7 @@ impl<L: Link + Drop> RedisStore<L> {
             bulk: self.longest,
             elements: 0,
         };
-        let reply = self.connection.ask(limits, &command)?;
+        let reply = self.connection.ask(limits, &[&command])?;
         match share_in(reply) {
             Ok(share) => {
                 self.connection.well();
@@ -234,7 +262,7 @@ impl<L: Link + Drop> RedisStore<L> {
     {
         let name = self.name_of(index, number)?;
         let command = exists(self.connection.alloc, &name)?;
-        let reply = self.connection.ask(SHORT, &command)?;
+        let reply = self.connection.ask(SHORT, &[&command])?;
         self.judge(&reply)
     }
 
@@ -318,22 +346,24 @@ impl<L: Link + Drop> RedisStore<L> {
         }
     }
 
-    /// Puts a share's bytes under its key where nothing stands, and says whether it did. Where the answer is lost it
-    /// may be done or not, and stays so: another may have found it standing and said so.
+    /// Puts a share's bytes under its key where nothing stands, and says whether it did. Where something stands it is looked
+    /// at: what is other bytes than these is replaced by them, and that is a put too, since the bytes of a share follow
+    /// from its place. Where the answer is lost it may be done or not, and stays so: another may have found it standing and
+    /// said so.
     fn offer(&mut self, index: &[u8; 16], number: u16, share: &[u8]) -> Result<bool, ServerFault>
-        ensures said { IfOk result (λ said. IsSaidBy
+        ensures said { IfOk result (λ put. IsPutBy
             self.old.connection.is_open self.old.connection.first
             (L.talk self.old.connection.link) (L.talk self.new.connection.link)
-            (put_command (key self.old.grid index.now number) share.now) said) }
-        ensures full { IsErrOf result ServerFault.Full → IsRefusedBy
+            self.old.longest (key self.old.grid index.now number) share.now put) }
+        ensures full { IsErrOf result ServerFault.Full → IsPutRefusedBy
             self.old.connection.is_open self.old.connection.first
             (L.talk self.old.connection.link) (L.talk self.new.connection.link)
-            (put_command (key self.old.grid index.now number) share.now) (codes "OOM ") }
+            (key self.old.grid index.now number) share.now (codes "OOM ") }
         ensures of_grid { OnOk result ((number < self.old.connection.first.settings.made)
             × (length share.now ≤ self.old.longest)) }
         ensures well { OnOk result ((self.new.connection.is_open ≡ true)
             × IsWell self.old.connection.rest self.new.connection.rest) }
-        ensures left { IfErr result (λ fault. IsLeftAfter fault self.old.connection.rest
+        ensures left { IfErr result (λ fault. IsLeftInTheEnd fault self.old.connection.rest
             self.new.connection.is_open self.new.connection.rest) }
         ensures same { (self.new.grid ≡ self.old.grid) × (self.new.longest ≡ self.old.longest)
             × (self.new.connection.first ≡ self.old.connection.first) }
@@ -344,16 +374,95 @@ impl<L: Link + Drop> RedisStore<L> {
             return Err(ServerFault::NoShare);
         }
         let name = self.name_of(index, number)?;
-        let reply = self.offer_under(&name, share)?;
+        if self.put_anew(&name, share)? {
+            return Ok(true);
+        }
+        if self.is_there(index, number, share)? {
+            return Ok(false);
+        }
+        self.replace(&name, share)?;
+        Ok(true)
+    }
+
+    /// Whether it is a share's bytes that stand under its key.
+    fn is_there(&mut self, index: &[u8; 16], number: u16, share: &[u8]) -> Result<bool, ServerFault>
+        ensures given { IfOk result (λ is_there. (found : Option (List ℕ)) × IsShareGivenBy
+            self.old.connection.is_open self.old.connection.first
+            (L.talk self.old.connection.link) (L.talk self.new.connection.link)
+            self.old.longest (get_command (key self.old.grid index.now number)) found
+            × (IsTrue is_there ↔ (found ≡ Some share.now))) }
+        ensures not_full { IsErrOf result ServerFault.Full → ⊥ }
+        ensures well { OnOk result ((self.new.connection.is_open ≡ true)
+            × IsWell self.old.connection.rest self.new.connection.rest) }
+        ensures left { IfErr result (λ fault. IsLeftAfter fault self.old.connection.rest
+            self.new.connection.is_open self.new.connection.rest) }
+        ensures same { (self.new.grid ≡ self.old.grid) × (self.new.longest ≡ self.old.longest)
+            × (self.new.connection.first ≡ self.old.connection.first) }
+        ensures failures { self.new.failures ≡ self.old.failures }
+    {
+        match self.fetch(index, number) {
+            Ok(stands) => Ok(is_share(&stands, share)),
+            Err(ServerFault::Full) => Err(ServerFault::Refused),
+            Err(fault) => Err(fault),
+        }
+    }
+
+    /// Puts a share's bytes under a name where nothing stands, and says whether it did.
+    fn put_anew(&mut self, name: &[u8], share: &[u8]) -> Result<bool, ServerFault>
+        ensures said { IfOk result (λ said. IsSaidBy
+            self.old.connection.is_open self.old.connection.first
+            (L.talk self.old.connection.link) (L.talk self.new.connection.link)
+            (put_command name.now share.now) said) }
+        ensures full { IsErrOf result ServerFault.Full → IsRefusedBy
+            self.old.connection.is_open self.old.connection.first
+            (L.talk self.old.connection.link) (L.talk self.new.connection.link)
+            (put_command name.now share.now) (codes "OOM ") }
+        ensures well { OnOk result ((self.new.connection.is_open ≡ true)
+            × IsWell self.old.connection.rest self.new.connection.rest) }
+        ensures left { IfErr result (λ fault. IsLeftAfter fault self.old.connection.rest
+            self.new.connection.is_open self.new.connection.rest) }
+        ensures same { (self.new.grid ≡ self.old.grid) × (self.new.longest ≡ self.old.longest)
+            × (self.new.connection.first ≡ self.old.connection.first) }
+        ensures failures { self.new.failures ≡ self.old.failures }
+    {
+        let reply = self.tell_put(PUT, name, share)?;
         self.judge(&reply)
     }
 
-    /// The reply to a share's bytes put under a name where nothing stands. Many bytes aren't copied.
-    fn offer_under(&mut self, name: &[u8], share: &[u8]) -> Result<Reply, ServerFault>
+    /// Puts a share's bytes under a name, whatever stands there.
+    fn replace(&mut self, name: &[u8], share: &[u8]) -> Result<(), ServerFault>
+        ensures done { OnOk result (IsSetBy
+            self.old.connection.is_open self.old.connection.first
+            (L.talk self.old.connection.link) (L.talk self.new.connection.link)
+            name.now share.now) }
+        ensures full { IsErrOf result ServerFault.Full → IsRefusedBy
+            self.old.connection.is_open self.old.connection.first
+            (L.talk self.old.connection.link) (L.talk self.new.connection.link)
+            (set_command name.now share.now) (codes "OOM ") }
+        ensures well { OnOk result ((self.new.connection.is_open ≡ true)
+            × IsWell self.old.connection.rest self.new.connection.rest) }
+        ensures left { IfErr result (λ fault. IsLeftAfter fault self.old.connection.rest
+            self.new.connection.is_open self.new.connection.rest) }
+        ensures same { (self.new.grid ≡ self.old.grid) × (self.new.longest ≡ self.old.longest)
+            × (self.new.connection.first ≡ self.old.connection.first) }
+        ensures failures { self.new.failures ≡ self.old.failures }
+    {
+        let reply = self.tell_put(REPLACE, name, share)?;
+        if is_done(&reply) {
+            self.connection.well();
+            return Ok(());
+        }
+        let fault = fault_of(&reply);
+        self.connection.reject(fault);
+        Err(fault)
+    }
+
+    /// The reply to a share's bytes put under a name, by [`PUT`] or [`REPLACE`]. Many bytes aren't copied.
+    fn tell_put(&mut self, verb: &[u8], name: &[u8], share: &[u8]) -> Result<Reply, ServerFault>
         ensures told { IfOk result (λ reply. (came : List ℕ) × SpellsReply short_limits reply came
             × IsToldIn self.old.connection.is_open self.old.connection.first
             (L.talk self.old.connection.link) (L.talk self.new.connection.link)
-            (put_command name.now share.now) came) }
+            (command (verb.now ∷ name.now ∷ share.now ∷ [])) came) }
         ensures open { OnOk result (self.new.connection.is_open ≡ true) }
         ensures rest { OnOk result (self.new.connection.rest ≡ self.old.connection.rest) }
         ensures left { IfErr result (λ fault. IsLeftAfter fault self.old.connection.rest
@@ -365,11 +474,11 @@ impl<L: Link + Drop> RedisStore<L> {
     {
         let alloc = self.connection.alloc;
         if share.len() <= COPIED {
-            let command = put(alloc, name, share)?;
-            return self.connection.ask(SHORT, &command);
+            let command = put(alloc, verb, name, share)?;
+            return self.connection.ask(SHORT, &[&command]);
         }
-        let head = put_head(alloc, name, share.len())?;
-        self.connection.ask_long(&head, share)
+        let head = put_head(alloc, verb, name, share.len())?;
+        self.connection.ask(SHORT, &[&head, share, b"\r\n"])
     }
 
     /// Takes away what stands under the key of a share, and says whether something did.
@@ -388,7 +497,7 @@ impl<L: Link + Drop> RedisStore<L> {
     {
         let name = self.name_of(index, number)?;
         let command = delete(self.connection.alloc, &name)?;
-        let reply = self.connection.ask(SHORT, &command)?;
+        let reply = self.connection.ask(SHORT, &[&command])?;
         self.judge(&reply)
     }
 
@@ -419,6 +528,16 @@ impl<L: Link + Drop> RedisStore<L> {
                 Err(fault)
             }
         }
+    }
+}
+
+/// Whether what stands under a key is a share of these bytes.
+fn is_share(stands: &Option<RcSlice<u8>>, share: &[u8]) -> bool
+    ensures { IsTrue result ↔ (option_map rc_slice_items stands.now ≡ Some share.now) }
+{
+    match stands {
+        None => false,
+        Some(bytes) => bytes.as_slice() == share,
     }
 }
 
@@ -627,21 +746,21 @@ impl<L: Link + Drop> Store for RedisStore<L> {
         Ok(None)
     }
 
-    /// `SETNX key bytes`.
+    /// `SETNX key bytes`, and where something stands `GET key`, and where that is other bytes `SET key bytes`.
     fn put(&mut self, index: [u8; 16], number: u16, bytes: RcSlice<u8>) -> Result<bool, StoreFault>
         requires { 0 < length (rc_slice_items bytes) }
         ensures rises { self.old.failures ≤ self.new.failures }
         ensures down { IsErrOf result StoreFault.Down ↔ (self.old.failures < self.new.failures) }
-        ensures said { IfOk result (λ said. IsSaidBy
+        ensures said { IfOk result (λ put. IsPutBy
             self.old.connection.is_open self.old.connection.first
             (L.talk self.old.connection.link) (L.talk self.new.connection.link)
-            (put_command (key self.old.grid index number) (rc_slice_items bytes)) said) }
+            self.old.longest (key self.old.grid index number) (rc_slice_items bytes) put) }
         ensures of_grid { OnOk result ((number < self.old.connection.first.settings.made)
             × (length (rc_slice_items bytes) ≤ self.old.longest)) }
-        ensures full_said { IsErrOf result StoreFault.Full → IsRefusedBy
+        ensures full_said { IsErrOf result StoreFault.Full → IsPutRefusedBy
             self.old.connection.is_open self.old.connection.first
             (L.talk self.old.connection.link) (L.talk self.new.connection.link)
-            (put_command (key self.old.grid index number) (rc_slice_items bytes)) (codes "OOM ") }
+            (key self.old.grid index number) (rc_slice_items bytes) (codes "OOM ") }
         ensures full_well { IsErrOf result StoreFault.Full →
             (self.new.connection.is_open ≡ true)
             × IsWell self.old.connection.rest self.new.connection.rest }
@@ -649,7 +768,7 @@ impl<L: Link + Drop> Store for RedisStore<L> {
             (self.new.connection.is_open ≡ true)
             × IsWell self.old.connection.rest self.new.connection.rest) }
         ensures left { self.old.failures < self.new.failures →
-            IsSomeAnd self.new.last_fault (λ fault. IsLeftAfter fault
+            IsSomeAnd self.new.last_fault (λ fault. IsLeftInTheEnd fault
             self.old.connection.rest self.new.connection.is_open self.new.connection.rest) }
         ensures same { (self.new.grid ≡ self.old.grid) × (self.new.longest ≡ self.old.longest)
             × (self.new.connection.first ≡ self.old.connection.first) }

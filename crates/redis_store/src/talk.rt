@@ -1,8 +1,8 @@
 //! Commands, and their replies.
-ghost use Rattle.std.specs.Prelude.{◌≡◌, ◌<◌, ◌≤◌, ◌+◌, ◌++◌, ℕ, List, [], length, take, drop, vec_len, IfOk, IfErr, OnOk};
+ghost use Rattle.std.specs.Prelude.{◌≡◌, ◌<◌, ◌≤◌, ◌+◌, ◌++◌, ℕ, List, [], length, take, drop, vec_len, IfOk, IfErr, IsErrOf, OnOk};
 ghost use Rattle.std.specs.List.{flat_map};
 ghost use Rattle.redis_store.specs.AfterExchange.{IsOfLink};
-ghost use Rattle.redis_store.specs.Exchanges.{with_heard, with_exchange};
+ghost use Rattle.redis_store.specs.Exchanges.{IsToldInPart, with_heard, with_exchange};
 ghost use Rattle.resp.specs.Command.{line_end};
 ghost use Rattle.resp.specs.Spelled.{SpellsReply, SpellsAll};
 
@@ -44,12 +44,13 @@ pub(crate) fn talk_parts<L: Link>(
     ensures exchanged { IfOk result (λ reply. (came : List ℕ) × SpellsReply limits reply came
         × (L.talk link.new ≡ with_exchange (L.talk link.old)
         (flat_map (λ part. part.now) parts.now) came)) }
+    ensures closed { IsErrOf result ServerFault.Closed → IsToldInPart (L.talk link.old)
+        (flat_map (λ part. part.now) parts.now) (L.talk link.new) }
     ensures of_link { IfErr result (λ fault. IsOfLink fault) }
 {
-    link.write_all(parts)?;
     let mut came = Vec::new(alloc);
+    tell(link, parts, &mut came)?;
     for _ in 0..READS {
-        hear(link, &mut came)?;
         if let Some((len, start)) = read_bulk_line(limits, &came) {
             let content = hear_bulk(alloc, link, &came[start..], len)?;
             return Ok(Reply::One(Item::Bulk(content)));
@@ -60,26 +61,24 @@ pub(crate) fn talk_parts<L: Link>(
             }
             return Ok(reply);
         }
+        hear(link, &mut came)?;
     }
     Err(ServerFault::Link)
 }
 
-/// Writes a command's beginning, a share's bytes, which are written from where they are, and CR and LF, and reads its
-/// reply, which is all that comes.
-pub(crate) fn talk_long<L: Link>(
-    alloc: Global,
-    link: &mut L,
-    limits: Limits,
-    head: &[u8],
-    share: &[u8],
-) -> Result<Reply, ServerFault>
-    requires { 0 < limits.line }
-    ensures exchanged { IfOk result (λ reply. (came : List ℕ) × SpellsReply limits reply came
-        × (L.talk link.new ≡ with_exchange (L.talk link.old)
-        (head.now ++ share.now ++ line_end) came)) }
+/// Writes the parts of commands, one behind the other, and reads once.
+fn tell<L: Link>(link: &mut L, parts: &[&[u8]], came: &mut Vec<u8>) -> Result<(), ServerFault>
+    requires { came.old.items ≡ [] }
+    ensures told { OnOk result (L.talk link.new ≡ with_exchange (L.talk link.old)
+        (flat_map (λ part. part.now) parts.now) came.new.items) }
+    ensures closed { IsErrOf result ServerFault.Closed → IsToldInPart (L.talk link.old)
+        (flat_map (λ part. part.now) parts.now) (L.talk link.new) }
     ensures of_link { IfErr result (λ fault. IsOfLink fault) }
 {
-    talk_parts(alloc, link, limits, &[head, share, b"\r\n"])
+    match link.write_all(parts) {
+        Ok(()) => hear_first(link, came),
+        Err(fault) => Err(fault.unheard()),
+    }
 }
 
 /// Writes commands in one exchange, and reads a reply to each of them, which are all that comes.
@@ -95,10 +94,14 @@ pub(crate) fn talk_each<L: Link>(
         × SpellsAll (SpellsReply limits) replies.items came
         × (L.talk link.new ≡ with_exchange (L.talk link.old) commands.now came)) }
     ensures count { IfOk result (λ replies. vec_len replies ≡ count) }
+    ensures closed { IsErrOf result ServerFault.Closed → IsToldInPart (L.talk link.old)
+        commands.now (L.talk link.new) }
     ensures of_link { IfErr result (λ fault. IsOfLink fault) }
 {
-    link.write_all(&[commands])?;
-    hear_all(alloc, link, limits, count)
+    match link.write_all(&[commands]) {
+        Ok(()) => hear_all(alloc, link, limits, count),
+        Err(fault) => Err(fault.unheard()),
+    }
 }
 
 /// Reads so many replies, which are all that comes.
@@ -113,13 +116,18 @@ pub(crate) fn hear_all<L: Link>(
         × SpellsAll (SpellsReply limits) replies.items came
         × (L.talk link.new ≡ with_heard (L.talk link.old) came)) }
     ensures count { IfOk result (λ replies. vec_len replies ≡ count) }
+    ensures closed { IsErrOf result ServerFault.Closed
+        → L.talk link.new ≡ L.talk link.old }
     ensures of_link { IfErr result (λ fault. IsOfLink fault) }
 {
     let mut came = Vec::new(alloc);
+    if count > 0 {
+        hear_first(link, &mut came)?;
+    }
     hear_each(alloc, link, limits, &mut came, count)
 }
 
-/// The same, and what came.
+/// Reads so many replies, of which some bytes may have come, which are all that comes.
 fn hear_each<L: Link>(
     alloc: Global,
     link: &mut L,
@@ -128,11 +136,12 @@ fn hear_each<L: Link>(
     count: u16,
 ) -> Result<Vec<Reply>, ServerFault>
     requires line { 0 < limits.line }
-    requires none { came.old.items ≡ [] }
-    ensures heard { IfOk result (λ replies.
-        SpellsAll (SpellsReply limits) replies.items came.new.items
-        × (L.talk link.new ≡ with_heard (L.talk link.old) came.new.items)) }
+    ensures heard { IfOk result (λ replies. (part : List ℕ)
+        × (came.new.items ≡ came.old.items ++ part)
+        × SpellsAll (SpellsReply limits) replies.items came.new.items
+        × (L.talk link.new ≡ with_heard (L.talk link.old) part)) }
     ensures count { IfOk result (λ replies. vec_len replies ≡ count) }
+    ensures not_closed { IsErrOf result ServerFault.Closed → ⊥ }
     ensures of_link { IfErr result (λ fault. IsOfLink fault) }
 {
     let mut replies = Vec::new(alloc);
@@ -163,6 +172,7 @@ fn next_reply<L: Link>(
     ensures within { IfOk result (λ next. start + next.1 ≤ length came.new.items) }
     ensures spelled { IfOk result (λ next.
         SpellsReply limits next.0 (take next.1 (drop start came.new.items))) }
+    ensures not_closed { IsErrOf result ServerFault.Closed → ⊥ }
     ensures of_link { IfErr result (λ fault. IsOfLink fault) }
 {
     for _ in 0..READS {
@@ -185,6 +195,7 @@ fn hear_bulk<L: Link>(
     ensures heard { IfOk result (λ content. (length content ≡ len) × ((part : List ℕ)
         × (content ++ line_end ≡ begun.now ++ part)
         × (L.talk link.new ≡ with_heard (L.talk link.old) part))) }
+    ensures not_closed { IsErrOf result ServerFault.Closed → ⊥ }
     ensures of_link { IfErr result (λ fault. IsOfLink fault) }
 {
     let mut content = Vec::new(alloc);
@@ -203,6 +214,7 @@ fn hear_bulk<L: Link>(
 /// Refuses what stands behind a bulk string's content where it isn't the end of the line and no more.
 fn check_end(end: &[u8]) -> Result<(), ServerFault>
     ensures end { OnOk result (end.now ≡ line_end) }
+    ensures not_closed { IsErrOf result ServerFault.Closed → ⊥ }
     ensures of_link { IfErr result (λ fault. IsOfLink fault) }
 {
     if end == b"\r\n".as_slice() {
@@ -214,17 +226,34 @@ fn check_end(end: &[u8]) -> Result<(), ServerFault>
     Err(ServerFault::NoReply)
 }
 
-/// Reads once, behind what came before.
+/// Reads once, behind what came before of a reply.
 fn hear<L: Link>(link: &mut L, came: &mut Vec<u8>) -> Result<(), ServerFault>
     ensures heard { OnOk result ((part : List ℕ) × (came.new.items ≡ came.old.items ++ part)
         × (L.talk link.new ≡ with_heard (L.talk link.old) part)) }
+    ensures not_closed { IsErrOf result ServerFault.Closed → ⊥ }
+    ensures of_link { IfErr result (λ fault. IsOfLink fault) }
+{
+    match hear_first(link, came) {
+        Err(ServerFault::Closed) => Err(ServerFault::Link),
+        heard => heard,
+    }
+}
+
+/// Reads once, behind what came before. An end is told as one at which no byte of a reply came.
+fn hear_first<L: Link>(link: &mut L, came: &mut Vec<u8>) -> Result<(), ServerFault>
+    ensures heard { OnOk result ((part : List ℕ) × (came.new.items ≡ came.old.items ++ part)
+        × (L.talk link.new ≡ with_heard (L.talk link.old) part)) }
+    ensures closed { IsErrOf result ServerFault.Closed → L.talk link.new ≡ L.talk link.old }
     ensures of_link { IfErr result (λ fault. IsOfLink fault) }
 {
     let start = came.len();
     came.resize(start + ROOM, 0)?;
-    let count = link.read(&mut came.as_mut_slice()[start..])?;
+    let count = match link.read(&mut came.as_mut_slice()[start..]) {
+        Ok(count) => count,
+        Err(fault) => return Err(fault.unheard()),
+    };
     if count == 0 {
-        return Err(ServerFault::Link);
+        return Err(ServerFault::Closed);
     }
     came.truncate(start + count);
     Ok(())

@@ -21,6 +21,8 @@ pub record IsOpenedAs (name : List ℕ) (settings : StoreSettings) (password : O
 -- A server is down: it can't be reached, or it takes no questions yet.
 abbrev pub IsDown : ServerFault → Type 0
 IsDown server.Link = Unit {0}
+IsDown server.Closed = Unit {0}
+IsDown server.Late = Unit {0}
 IsDown server.NotOpened = Unit {0}
 IsDown server.Resting = Unit {0}
 IsDown _ = ⊥

@@ -90,6 +90,36 @@ pub fn open_on_answering_redis<R: AllocGlobal + Net + Clock + Clone + Drop + Log
     }
 }
 
+/// Warns where a server says of itself that it throws shares away, or loses all at its own end.
+fn warn_of_losses<R: AllocGlobal + Net + Clock + Drop + Log>(
+    rt: &R,
+    name: &str,
+    store: &mut OnRedis<R>,
+)
+    ensures { (store.new.grid ≡ store.old.grid) × (store.new.longest ≡ store.old.longest)
+        × (store.new.connection.first ≡ store.old.connection.first) }
+{
+    if let Ok(Some(policy)) = store.setting(b"maxmemory-policy") {
+        if policy.as_slice() != b"noeviction".as_slice() {
+            warn!(rt; "redis:{name}: throws shares away where its memory is full: set maxmemory-policy noeviction");
+        }
+    }
+    if says(store, b"appendonly", b"no") && says(store, b"save", b"") {
+        warn!(rt; "redis:{name}: keeps nothing over its own end: set appendonly yes");
+    }
+}
+
+/// Whether a server says this of a setting of its own.
+fn says<R: Net + Clock + Drop>(store: &mut OnRedis<R>, setting: &[u8], value: &[u8]) -> bool
+    ensures { (store.new.grid ≡ store.old.grid) × (store.new.longest ≡ store.old.longest)
+        × (store.new.connection.first ≡ store.old.connection.first) }
+{
+    match store.setting(setting) {
+        Ok(Some(said)) => said.as_slice() == value,
+        _ => false,
+    }
+}
+
 /// The store at the first address of a server that answers, if one does.
 fn reach_any<R: AllocGlobal + Net + Clock + Clone + Drop + Log>(
     rt: &R,
@@ -133,8 +163,9 @@ fn open_place<R: AllocGlobal + Net + Clock + Clone + Drop + Log>(
     };
     let mut first = None;
     for address in addresses {
-        if let Some(store) = reach(rt, address, opening)? {
+        if let Some(mut store) = reach(rt, address, opening)? {
             info!(rt; "redis:{name}: in use");
+            warn_of_losses(rt, name, &mut store);
             return Ok(store);
         }
         if first.is_none() {
@@ -193,7 +224,11 @@ fn why_refused(fault: ServerFault) -> Option<ProgramFault>
     ensures refused { IfSome result (λ refused. (IsDown fault → ⊥) × IsToldAs fault refused) }
 {
     match fault {
-        ServerFault::Link | ServerFault::NotOpened | ServerFault::Resting => None,
+        ServerFault::Link
+        | ServerFault::Closed
+        | ServerFault::Late
+        | ServerFault::NotOpened
+        | ServerFault::Resting => None,
         ServerFault::NoMemory => Some(ProgramFault::NoMemory),
         _ => Some(ProgramFault::Redis(fault)),
     }

@@ -1,10 +1,7 @@
-use Rattle.std.proofs.Common.{◌++◌, take, ◌∙◌}
+use Rattle.std.proofs.Common.{◌++◌, take}
 use Rattle.resp.specs.Command.{line_end}
-use Rattle.redis_store.proofs.Talks.{told_begins, more_came, whole_bulk, cut_front}
+use Rattle.redis_store.proofs.Talks.{more_came, whole_bulk, cut_front}
 use Rattle.redis_store.proofs.talk.talk_parts.Goals as goal
-
-pub loop-init : goal.loop-init
-loop-init g c = c.in_ok-write_all.ensures ∙ told_begins _ _ c.new-came.result.items c.new-came.ensures.items
 
 pub loop-preserved : goal.loop-preserved
 loop-preserved g c =
@@ -13,15 +10,13 @@ loop-preserved g c =
 
 pub returns-in-Some-clause-exchanged : goal.returns-in-Some-clause-exchanged
 returns-in-Some-clause-exchanged g c =
-    let came = c.hear.new.came.items in
+    let came = c.loop.came.items in
     let start = c.in-Some.start in
     let content = c.in_ok-content.content in
-    let part = c.in_ok-hear.ensures.heard in
     let rest = c.in_ok-content.ensures.heard in
     let sound = rw c.deref.ensures.value at c.in-Some.ensures.sound in (
       take start came ++ content ++ line_end,
       sound.1 content rest.0,
-      whole_bulk _ _ _ _ came (take start came) _ content rest.1.0
-          (more_came _ _ _ _ c.loop.came.items part.0 came c.loop.invariant part.2 part.1) rest.1.2
+      whole_bulk _ _ _ _ came (take start came) _ content rest.1.0 c.loop.invariant rest.1.2
           (cut_front start came c.deref-in-Some.result.now c.deref-in-Some.ensures.value) rest.1.1,
     )
