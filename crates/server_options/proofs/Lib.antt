@@ -1,2 +1,10 @@
-pub mod PairLemmas
+pub mod AskedLemmas
+pub mod ByteLemmas
 pub mod CommaLemmas
+pub mod CommandLemmas
+pub mod ListLemmas
+pub mod NumberLemmas
+pub mod PairLemmas
+pub mod PlaceLemmas
+pub mod StoreLemmas
+pub mod TextLemmas

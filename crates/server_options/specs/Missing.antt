@@ -27,8 +27,6 @@ or_missing missing named = named
 
 -- These are the stores that were named, each in its place, but missing ones where their folders have one of these paths; and
 -- each of these paths is that of a store's folder.
-pub record AreServedWithout (missing : List (List ℕ)) (stores : List StoreWanted) : Type 0 where
-  pub named : List StoreWanted
-  pub present : All IsPresent named
+pub record AreServedWithout (missing : List (List ℕ)) (named stores : List StoreWanted) : Type 0 where
   pub folders : All (λ path. IsStoreFolder named path) missing
   pub left : stores ≡ map (or_missing missing) named

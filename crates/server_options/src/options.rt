@@ -1,25 +1,26 @@
 //! What the program is asked for.
-ghost use Rattle.std.specs.Prelude.{◌≡◌, ◌≢◌, ◌<◌, ◌≤◌, ◌^◌, ℕ, [], List, None, Some, All, Any, IfOk, IfSome, Err, IsTrue, IsFalse, codes, count_by, length, map, not, option_map, replicate, unwrap_or};
+ghost use Rattle.std.specs.Prelude.{◌≡◌, ◌≢◌, ◌<◌, ◌≤◌, ◌^◌, ℕ, true, All, Any, Err, IfOk, IfSome, IsFalse, IsTrue, None, Some, codes, count_by, length, map, option_map, string_bytes};
+ghost use Rattle.clap.specs.Words.{app_of, is_simple, subcommand_of, subcommand_rows_of};
 ghost use Rattle.octets.specs.Sharing.{IsSharing};
-ghost use Rattle.server_options.specs.Given.{given_text, given_texts, IsFlagGiven, IsNumberGiven};
+ghost use Rattle.server_options.specs.Asked.{AreServeOptions, AreSharesGiven, AreStoresGiven, AreStoresServed, IsTaskGiven, IsAskedBy, IsRepairing, IsReshaping, IsRestoring};
 ghost use Rattle.server_options.specs.Folders.{folder_of, IsStoreFolder};
+ghost use Rattle.server_options.specs.Given.{given_rows, given_text, given_texts, given_word, IsFlagGiven, IsNumberGiven};
 ghost use Rattle.server_options.specs.Handles.{keeps_handle};
 ghost use Rattle.server_options.specs.Listening.{HasNoComma, listen_text};
 ghost use Rattle.server_options.specs.Logging.{named_level, named_format};
-ghost use Rattle.server_options.specs.Missing.{AreServedWithout, IsPresent, or_missing};
+ghost use Rattle.server_options.specs.Missing.{IsPresent, or_missing};
+ghost use Rattle.server_options.specs.Named.{AreNamesOf};
 ghost use Rattle.server_options.specs.Shares.{IsCountOf, IsPairOf};
 ghost use Rattle.server_options.specs.Size.{written_size};
-ghost use Rattle.server_options.specs.declared.store_names.StoreWanted.TheVariants.{Memory};
 
 use crate::arguments::program;
 use crate::listening::{ListenWanted, read_listen};
 use crate::logging::{LogFormat, LogLevel, named_format, named_level};
 use crate::sizes::read_size;
 use crate::store_names::{StoreWanted, read_store};
-use clap::{ArgMatches, Error};
+use clap::{ArgMatches, Command, Error};
 use octets::is_sharing;
 use std::alloc::{AllocError, AllocFailed, Global};
-use std::str::FromStr;
 
 /// How many stores there may be.
 const MOST_STORES: usize = 256;
@@ -182,9 +183,33 @@ impl<T: Drop> From<AllocFailed<T>> for Refusal {
 }
 
 /// Reads the words of a command line, the program's name first.
-pub fn read_words<'a>(alloc: Global, words: &'a [String]) -> Result<Task<'a>, Refusal> {
-    let matches = program(alloc)?.try_get_matches_from(words)?;
-    if let Some(given) = matches.subcommand_matches("check") {
+pub fn read_words<'a>(alloc: Global, words: &'a [String]) -> Result<Task<'a>, Refusal>
+    ensures { IfOk result (IsAskedBy (map string_bytes words.now)) }
+{
+    let command = program(alloc)?;
+    read_by(alloc, command, words)
+}
+
+/// Reads words by a command line.
+fn read_by<'a>(
+    alloc: Global,
+    command: Command<'a>,
+    words: &'a [String],
+) -> Result<Task<'a>, Refusal>
+    ensures { is_simple (app_of command.entry) ≡ true →
+        IfOk result (IsTaskGiven (subcommand_of (app_of command.entry) (map string_bytes words.now))) }
+{
+    let matches = command.try_get_matches_from(words)?;
+    read_task(alloc, &matches)
+}
+
+/// Reads what is asked for.
+fn read_task<'a>(alloc: Global, matches: &ArgMatches<'a>) -> Result<Task<'a>, Refusal>
+    ensures { IfOk result (IsTaskGiven (subcommand_rows_of matches.now)) }
+{
+    if let Some(given) = matches.subcommand_matches("serve") {
+        Ok(Task::Serve(read_options(alloc, given)?))
+    } else if let Some(given) = matches.subcommand_matches("check") {
         Ok(Task::Check(texts_of(alloc, given, "paths")?))
     } else if let Some(given) = matches.subcommand_matches("repair") {
         Ok(Task::Repair(read_repairing(alloc, given)?))
@@ -194,9 +219,8 @@ pub fn read_words<'a>(alloc: Global, words: &'a [String]) -> Result<Task<'a>, Re
         Ok(Task::Image(texts_of(alloc, given, "paths")?))
     } else if let Some(given) = matches.subcommand_matches("restore") {
         Ok(Task::Restore(read_restoring(alloc, given)?))
-    } else if let Some(given) = matches.subcommand_matches("serve") {
-        Ok(Task::Serve(read_options(alloc, given)?))
     } else {
+        // `clap` takes no words without a verb.
         Err(Refusal::Shares)
     }
 }
@@ -213,54 +237,16 @@ pub fn read_config<'a>(alloc: Global, words: &'a [String]) -> Result<Option<&'a 
 
 /// The file of more options that was given.
 fn config_of<'a>(given: &ArgMatches<'a>) -> Option<&'a str>
-    ensures { option_map (λ s. s.now) result ≡ given_text given.now (codes "config") }
+    ensures { option_map (λ s. s.now) result ≡ given_text (given_rows given.now) (codes "config") }
 {
-    given.get_str("config")
+    find_text(given, "config")
 }
 
 /// Reads what was given with `serve`.
 fn read_options<'a>(alloc: Global, given: &ArgMatches<'a>) -> Result<Options<'a>, Refusal>
-    ensures shares { IfOk result (λ o. IsSharing o.shares.needed o.shares.made) }
-    ensures shares_given { IfOk result (λ o.
-        IsPairOf (unwrap_or (given_text given.now (codes "shares")) [])
-        o.shares.needed o.shares.made) }
-    ensures no_shares { ((k n : ℕ) → IsPairOf (unwrap_or (given_text given.now (codes "shares")) [])
+    ensures read { IfOk result (AreServeOptions (given_rows given.now)) }
+    ensures no_shares { ((k n : ℕ) → IsPairOf (given_word (given_rows given.now) (codes "shares"))
         k n → ¬ (IsSharing k n)) → result ≡ Err Refusal.Shares }
-    ensures listen { IfOk result (λ o. map listen_text o.listen.items
-        ≡ unwrap_or (given_texts given.now (codes "listen")) []) }
-    ensures addresses { IfOk result (λ o.
-        All (λ wanted. HasNoComma wanted.address.now) o.listen.items) }
-    ensures missing { IfOk result (λ o. AreServedWithout
-        (unwrap_or (given_texts given.now (codes "missing")) []) o.stores.items) }
-    ensures one_is_present { IfOk result (λ o. Any IsPresent o.stores.items) }
-    ensures new { IfOk result (λ o. map (λ path. path.now) o.new.items
-        ≡ unwrap_or (given_texts given.now (codes "new")) []) }
-    ensures new_is_a_store { IfOk result (λ o.
-        All (λ path. IsStoreFolder o.stores.items path.now) o.new.items) }
-    ensures control { IfOk result (λ o. option_map (λ s. s.now) o.control
-        ≡ given_text given.now (codes "control")) }
-    ensures control_token_file { IfOk result (λ o. option_map (λ s. s.now) o.control_token_file
-        ≡ given_text given.now (codes "control-token-file")) }
-    ensures synced { IfOk result (λ o.
-        IsFlagGiven given.now (codes "no-sync") (not o.synced)) }
-    ensures secret_file { IfOk result (λ o. option_map (λ s. s.now) o.secret_file
-        ≡ given_text given.now (codes "secret-file")) }
-    ensures redis_password_file { IfOk result (λ o. option_map (λ s. s.now) o.redis_password_file
-        ≡ given_text given.now (codes "redis-password-file")) }
-    ensures pages { IfOk result (λ o. option_map (λ s. s.now) o.pages
-        ≡ given_text given.now (codes "pages")) }
-    ensures no_pages { IfOk result (λ o.
-        IsFlagGiven given.now (codes "no-pages") o.no_pages) }
-    ensures connections { IfOk result (λ o. IsNumberGiven ⟦<usize as FromStr>⟧.from_str_gives
-        given.now (codes "connections") 1 o.connections) }
-    ensures idle { IfOk result (λ o. IsNumberGiven ⟦<u64 as FromStr>⟧.from_str_gives
-        given.now (codes "idle") 60 o.idle) }
-    ensures memory { IfOk result (λ o.
-        written_size (unwrap_or (given_text given.now (codes "memory")) []) ≡ Some o.memory) }
-    ensures log_level { IfOk result (λ o. o.log_level
-        ≡ named_level (unwrap_or (given_text given.now (codes "log-level")) [])) }
-    ensures log_format { IfOk result (λ o. o.log_format
-        ≡ named_format (unwrap_or (given_text given.now (codes "log-format")) [])) }
 {
     let Some(shares) = read_shares(text_of(given, "shares")) else {
         return Err(Refusal::Shares);
@@ -272,18 +258,18 @@ fn read_options<'a>(alloc: Global, given: &ArgMatches<'a>) -> Result<Options<'a>
         return Err(Refusal::New);
     }
     let memory = memory_of(given)?;
-    let secret_file = given.get_str("secret-file");
+    let secret_file = find_text(given, "secret-file");
     Ok(Options {
         listen,
-        control: given.get_str("control"),
-        control_token_file: given.get_str("control-token-file"),
+        control: find_text(given, "control"),
+        control_token_file: find_text(given, "control-token-file"),
         shares,
         stores,
         new,
         synced: !has_flag(given, "no-sync"),
         secret_file,
-        redis_password_file: given.get_str("redis-password-file"),
-        pages: given.get_str("pages"),
+        redis_password_file: find_text(given, "redis-password-file"),
+        pages: find_text(given, "pages"),
         no_pages: has_flag(given, "no-pages"),
         connections: connections_of(given),
         idle: idle_of(given),
@@ -295,18 +281,11 @@ fn read_options<'a>(alloc: Global, given: &ArgMatches<'a>) -> Result<Options<'a>
 
 /// Reads what was given with `repair`.
 fn read_repairing<'a>(alloc: Global, given: &ArgMatches<'a>) -> Result<Repairing<'a>, AllocError>
-    ensures places { IfOk result (λ o. map (λ s. s.now) o.places.items
-        ≡ unwrap_or (given_texts given.now (codes "paths")) []) }
-    ensures new { IfOk result (λ o. map (λ s. s.now) o.new.items
-        ≡ unwrap_or (given_texts given.now (codes "new")) []) }
-    ensures synced { IfOk result (λ o.
-        IsFlagGiven given.now (codes "no-sync") (not o.synced)) }
-    ensures redis_password_file { IfOk result (λ o. option_map (λ s. s.now) o.redis_password_file
-        ≡ given_text given.now (codes "redis-password-file")) }
+    ensures { IfOk result (IsRepairing (given_rows given.now)) }
 {
     let places = texts_of(alloc, given, "paths")?;
     let may_be_new = texts_of(alloc, given, "new")?;
-    let password_file = given.get_str("redis-password-file");
+    let password_file = find_text(given, "redis-password-file");
     Ok(Repairing {
         places,
         new: may_be_new,
@@ -317,12 +296,7 @@ fn read_repairing<'a>(alloc: Global, given: &ArgMatches<'a>) -> Result<Repairing
 
 /// Reads what was given with `reshape`.
 fn read_reshaping<'a>(alloc: Global, given: &ArgMatches<'a>) -> Result<Reshaping<'a>, AllocError>
-    ensures from { IfOk result (λ o. map (λ s. s.now) o.from.items
-        ≡ unwrap_or (given_texts given.now (codes "paths")) []) }
-    ensures into { IfOk result (λ o. map (λ s. s.now) o.into.items
-        ≡ unwrap_or (given_texts given.now (codes "into")) []) }
-    ensures synced { IfOk result (λ o.
-        IsFlagGiven given.now (codes "no-sync") (not o.synced)) }
+    ensures { IfOk result (IsReshaping (given_rows given.now)) }
 {
     let from = texts_of(alloc, given, "paths")?;
     let into = texts_of(alloc, given, "into")?;
@@ -335,18 +309,9 @@ fn read_reshaping<'a>(alloc: Global, given: &ArgMatches<'a>) -> Result<Reshaping
 
 /// Reads what was given with `restore`.
 fn read_restoring<'a>(alloc: Global, given: &ArgMatches<'a>) -> Result<Restoring<'a>, Refusal>
-    ensures shares { IfOk result (λ o. IsSharing o.shares.needed o.shares.made) }
-    ensures shares_given { IfOk result (λ o.
-        IsPairOf (unwrap_or (given_text given.now (codes "shares")) [])
-        o.shares.needed o.shares.made) }
-    ensures no_shares { ((k n : ℕ) → IsPairOf (unwrap_or (given_text given.now (codes "shares")) [])
+    ensures read { IfOk result (IsRestoring (given_rows given.now)) }
+    ensures no_shares { ((k n : ℕ) → IsPairOf (given_word (given_rows given.now) (codes "shares"))
         k n → ¬ (IsSharing k n)) → result ≡ Err Refusal.Shares }
-    ensures file { IfOk result (λ o.
-        o.file.now ≡ unwrap_or (given_text given.now (codes "file")) []) }
-    ensures synced { IfOk result (λ o.
-        IsFlagGiven given.now (codes "no-sync") (not o.synced)) }
-    ensures secret_file { IfOk result (λ o. option_map (λ s. s.now) o.secret_file
-        ≡ given_text given.now (codes "secret-file")) }
 {
     let Some(shares) = read_shares(text_of(given, "shares")) else {
         return Err(Refusal::Shares);
@@ -357,15 +322,22 @@ fn read_restoring<'a>(alloc: Global, given: &ArgMatches<'a>) -> Result<Restoring
         folders,
         shares,
         synced: !has_flag(given, "no-sync"),
-        secret_file: given.get_str("secret-file"),
+        secret_file: find_text(given, "secret-file"),
     })
+}
+
+/// The text that was given under a name, if one was.
+fn find_text<'a>(given: &ArgMatches<'a>, name: &str) -> Option<&'a str>
+    ensures { option_map (λ s. s.now) result ≡ given_text (given_rows given.now) name.now }
+{
+    given.get_str(name)
 }
 
 /// The text that was given under a name, and an empty one where none was.
 fn text_of<'a>(given: &ArgMatches<'a>, name: &str) -> &'a str
-    ensures { result.now ≡ unwrap_or (given_text given.now name.now) [] }
+    ensures { result.now ≡ given_word (given_rows given.now) name.now }
 {
-    match given.get_str(name) {
+    match find_text(given, name) {
         Some(text) => text,
         None => "",
     }
@@ -373,22 +345,21 @@ fn text_of<'a>(given: &ArgMatches<'a>, name: &str) -> &'a str
 
 /// Whether a flag was given.
 fn has_flag(given: &ArgMatches<'_>, name: &str) -> bool
-    ensures { IsFlagGiven given.now name.now result }
+    ensures { IsFlagGiven (given_rows given.now) name.now result }
 {
     given.get_flag(name)
 }
 
 /// How many connections may be open at once.
 fn connections_of(given: &ArgMatches<'_>) -> usize
-    ensures { IsNumberGiven ⟦<usize as FromStr>⟧.from_str_gives given.now (codes "connections") 1
-        result }
+    ensures { IsNumberGiven 64 (given_rows given.now) (codes "connections") 1 result }
 {
     given.get_one::<usize>("connections").unwrap_or(1)
 }
 
 /// For how many seconds a connection may be silent.
 fn idle_of(given: &ArgMatches<'_>) -> u64
-    ensures { IsNumberGiven ⟦<u64 as FromStr>⟧.from_str_gives given.now (codes "idle") 60 result }
+    ensures { IsNumberGiven 64 (given_rows given.now) (codes "idle") 60 result }
 {
     given.get_one::<u64>("idle").unwrap_or(60)
 }
@@ -396,8 +367,8 @@ fn idle_of(given: &ArgMatches<'_>) -> u64
 /// How many bytes may be kept of connections.
 fn memory_of(given: &ArgMatches<'_>) -> Result<u64, Refusal>
     ensures some { IfOk result (λ memory.
-        written_size (unwrap_or (given_text given.now (codes "memory")) []) ≡ Some memory) }
-    ensures none { written_size (unwrap_or (given_text given.now (codes "memory")) []) ≡ None →
+        written_size (given_word (given_rows given.now) (codes "memory")) ≡ Some memory) }
+    ensures none { written_size (given_word (given_rows given.now) (codes "memory")) ≡ None →
         result ≡ Err Refusal.Memory }
 {
     match read_size(text_of(given, "memory")) {
@@ -413,7 +384,7 @@ fn texts_of<'a>(
     name: &str,
 ) -> Result<Vec<&'a str>, AllocError>
     ensures { IfOk result (λ texts. map (λ s. s.now) texts.items
-        ≡ unwrap_or (given_texts given.now name.now) []) }
+        ≡ given_texts (given_rows given.now) name.now) }
 {
     let mut texts = Vec::new(alloc);
     if let Some(values) = given.get_strs(name) {
@@ -425,7 +396,7 @@ fn texts_of<'a>(
 /// Where connections are to be accepted.
 fn read_listens<'a>(alloc: Global, given: &ArgMatches<'a>) -> Result<Vec<ListenWanted<'a>>, Refusal>
     ensures texts { IfOk result (λ listens. map listen_text listens.items
-        ≡ unwrap_or (given_texts given.now (codes "listen")) []) }
+        ≡ given_texts (given_rows given.now) (codes "listen")) }
     ensures addresses { IfOk result (λ listens.
         All (λ wanted. HasNoComma wanted.address.now) listens.items) }
     ensures most { IfOk result (λ listens. length listens.items ≤ 64) }
@@ -446,17 +417,9 @@ fn read_listens<'a>(alloc: Global, given: &ArgMatches<'a>) -> Result<Vec<ListenW
 
 /// The stores that are wanted: those that are named, and else so many in memory.
 fn read_stores<'a>(alloc: Global, given: &ArgMatches<'a>) -> Result<Vec<StoreWanted<'a>>, Refusal>
-    ensures named { given_texts given.now (codes "store") ≢ None →
-        unwrap_or (given_texts given.now (codes "store")) [] ≢ [] → IfOk result (λ stores.
-        length stores.items ≡ length (unwrap_or (given_texts given.now (codes "store")) [])) }
-    ensures in_memory { unwrap_or (given_texts given.now (codes "store")) [] ≡ [] →
-        IfOk result (λ stores. (servers room : ℕ)
-        × (IsNumberGiven ⟦<u16 as FromStr>⟧.from_str_gives given.now (codes "servers") 5 servers
-        × ((written_size (unwrap_or (given_text given.now (codes "room")) []) ≡ Some room)
-        × (stores.items ≡ replicate servers (Memory room))))) }
-    ensures room { written_size (unwrap_or (given_text given.now (codes "room")) []) ≡ None →
+    ensures given { IfOk result (λ stores. AreStoresGiven (given_rows given.now) stores.items) }
+    ensures room { written_size (given_word (given_rows given.now) (codes "room")) ≡ None →
         result ≡ Err Refusal.Room }
-    ensures present { IfOk result (λ stores. All IsPresent stores.items) }
 {
     let Some(room) = read_size(text_of(given, "room")) else {
         return Err(Refusal::Room);
@@ -474,8 +437,7 @@ fn read_stores<'a>(alloc: Global, given: &ArgMatches<'a>) -> Result<Vec<StoreWan
 
 /// The stores that are wanted, of which those are missing ones whose folders are named so.
 fn read_served<'a>(alloc: Global, given: &ArgMatches<'a>) -> Result<Vec<StoreWanted<'a>>, Refusal>
-    ensures missing { IfOk result (λ stores. AreServedWithout
-        (unwrap_or (given_texts given.now (codes "missing")) []) stores.items) }
+    ensures served { IfOk result (λ stores. AreStoresServed (given_rows given.now) stores.items) }
     ensures one_is_present { IfOk result (λ stores. Any IsPresent stores.items) }
 {
     let named = read_stores(alloc, given)?;
@@ -521,8 +483,7 @@ fn is_one_present(stores: &[StoreWanted<'_>]) -> bool
 
 /// How many stores there are in memory, where none is named.
 fn servers_of(given: &ArgMatches<'_>) -> u16
-    ensures { IsNumberGiven ⟦<u16 as FromStr>⟧.from_str_gives given.now (codes "servers") 5
-        result }
+    ensures { IsNumberGiven 16 (given_rows given.now) (codes "servers") 5 result }
 {
     given.get_one::<u16>("servers").unwrap_or(5)
 }
@@ -533,9 +494,8 @@ fn read_named<'a>(
     given: &ArgMatches<'a>,
     room: u64,
 ) -> Result<Vec<StoreWanted<'a>>, Refusal>
-    ensures count { IfOk result (λ stores. length stores.items
-        ≡ length (unwrap_or (given_texts given.now (codes "store")) [])) }
-    ensures present { IfOk result (λ stores. All IsPresent stores.items) }
+    ensures { IfOk result (λ stores. AreNamesOf room
+        (given_texts (given_rows given.now) (codes "store")) stores.items) }
 {
     let mut stores = Vec::new(alloc);
     let names = texts_of(alloc, given, "store")?;

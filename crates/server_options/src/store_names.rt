@@ -1,9 +1,10 @@
 //! Stores and their names.
-ghost use Rattle.std.specs.Prelude.{◌≡◌, ◌↔◌, IfSome, IsTrue, Some, bytes_eq, map, option_map};
+ghost use Rattle.std.specs.Prelude.{◌≡◌, ◌≢◌, ◌++◌, ◌==◌, ◌↔◌, ℕ, IfSome, IsTrue, None, Some, bytes_eq, codes, false, map, option_map};
 ghost use Rattle.std.specs.List.{list_any};
 ghost use Rattle.server_options.specs.Folders.{folder_of};
 ghost use Rattle.server_options.specs.Handles.{keeps_handle};
-ghost use Rattle.server_options.specs.Missing.{IsPresent, has_path, missing_folder_of, or_missing};
+ghost use Rattle.server_options.specs.Missing.{has_path, missing_folder_of, or_missing};
+ghost use Rattle.server_options.specs.Named.{IsHost, IsNameOf, IsPort, IsServerAddress, IsSized};
 
 use crate::sizes::read_size;
 
@@ -87,7 +88,12 @@ impl<'a> StoreWanted<'a> {
     }
 
     /// Where on a Redis server it has its shares, if it has them on one.
-    pub fn redis(&self) -> Option<RedisPlace<'a>> {
+    pub fn redis(&self) -> Option<RedisPlace<'a>>
+        ensures place { IfSome result (λ place. (room : ℕ)
+            × (self.now ≡ StoreWanted.Redis place room)) }
+        ensures none { result ≡ None → (place : RedisPlace) (room : ℕ) →
+            self.now ≢ StoreWanted.Redis place room }
+    {
         match self {
             StoreWanted::Redis(place, _) => Some(*place),
             _ => None,
@@ -132,7 +138,7 @@ fn is_path(path: &str, other: &str) -> bool
 /// behind it; a shared one has no bytes, and so no colon. A host with a colon in it stands in brackets, and a NAME has no
 /// colon. BYTES are what [`read_size`] reads.
 pub fn read_store(name: &str, room: u64) -> Option<StoreWanted<'_>>
-    ensures { IfSome result IsPresent }
+    ensures { IfSome result (IsNameOf room name.now) }
 {
     if let Some(bytes) = name.strip_prefix("mem:") {
         return read_memory(bytes);
@@ -147,7 +153,10 @@ pub fn read_store(name: &str, room: u64) -> Option<StoreWanted<'_>>
 }
 
 /// The place on a Redis server that a word names: `redis:HOST:PORT[/NAME]`. `None` where it names none.
-pub fn read_redis_place(word: &str) -> Option<RedisPlace<'_>> {
+pub fn read_redis_place(word: &str) -> Option<RedisPlace<'_>>
+    ensures { IfSome result (λ place. (room : ℕ)
+        × IsNameOf 0 word.now (StoreWanted.Redis place room)) }
+{
     match read_store(word, 0) {
         Some(store) => store.redis(),
         None => None,
@@ -156,7 +165,7 @@ pub fn read_redis_place(word: &str) -> Option<RedisPlace<'_>> {
 
 /// A store in memory, by its bytes.
 fn read_memory<'a>(bytes: &str) -> Option<StoreWanted<'a>>
-    ensures { IfSome result IsPresent }
+    ensures { (otherwise : ℕ) → IfSome result (IsNameOf otherwise (codes "mem:" ++ bytes.now)) }
 {
     match read_size(bytes) {
         Some(room) => Some(StoreWanted::Memory(room)),
@@ -166,7 +175,7 @@ fn read_memory<'a>(bytes: &str) -> Option<StoreWanted<'a>>
 
 /// A store in a folder, by what follows `dir:`.
 fn read_folder(folder: &str, room: u64) -> Option<StoreWanted<'_>>
-    ensures { IfSome result IsPresent }
+    ensures { IfSome result (IsNameOf room (codes "dir:" ++ folder.now)) }
 {
     if let Some(sized) = folder.strip_suffix(",disk") {
         return match read_sized(sized) {
@@ -177,7 +186,7 @@ fn read_folder(folder: &str, room: u64) -> Option<StoreWanted<'_>>
     if let Some(path) = folder.strip_suffix(",shared") {
         return read_shared(path);
     }
-    if folder.contains(':') {
+    if has_colon(folder) {
         return match read_sized(folder) {
             Some((path, room)) => Some(StoreWanted::Folder(path, room)),
             None => None,
@@ -193,9 +202,10 @@ fn read_folder(folder: &str, room: u64) -> Option<StoreWanted<'_>>
 /// A store in a folder that others may serve, by its path. Nobody knows its room, so none is given: a path with a colon
 /// names none.
 fn read_shared(path: &str) -> Option<StoreWanted<'_>>
-    ensures { IfSome result IsPresent }
+    ensures { (otherwise : ℕ) → IfSome result (IsNameOf otherwise
+        (codes "dir:" ++ (path.now ++ codes ",shared"))) }
 {
-    if path.is_empty() || path.contains(':') {
+    if path.is_empty() || has_colon(path) {
         None
     } else {
         Some(StoreWanted::Shared(path))
@@ -204,7 +214,7 @@ fn read_shared(path: &str) -> Option<StoreWanted<'_>>
 
 /// A store on a Redis server, by what follows `redis:`.
 fn read_redis(text: &str, room: u64) -> Option<StoreWanted<'_>>
-    ensures { IfSome result IsPresent }
+    ensures { IfSome result (IsNameOf room (codes "redis:" ++ text.now)) }
 {
     match text.split_once('/') {
         Some((address, behind)) => read_named_place(address, behind, room),
@@ -214,9 +224,10 @@ fn read_redis(text: &str, room: u64) -> Option<StoreWanted<'_>>
 
 /// A store under a name on the server at this address: NAME or NAME:BYTES.
 fn read_named_place<'a>(address: &'a str, behind: &'a str, room: u64) -> Option<StoreWanted<'a>>
-    ensures { IfSome result IsPresent }
+    ensures { IfSome result (IsNameOf room
+        (codes "redis:" ++ (address.now ++ (codes "/" ++ behind.now)))) }
 {
-    if behind.contains(':') {
+    if has_colon(behind) {
         return match read_sized(behind) {
             Some((name, room)) => on_redis(address, name, room),
             None => None,
@@ -231,7 +242,7 @@ fn read_named_place<'a>(address: &'a str, behind: &'a str, room: u64) -> Option<
 
 /// A store under no name: HOST:PORT or HOST:PORT:BYTES.
 fn read_unnamed_place(text: &str, room: u64) -> Option<StoreWanted<'_>>
-    ensures { IfSome result IsPresent }
+    ensures { IfSome result (IsNameOf room (codes "redis:" ++ text.now)) }
 {
     if is_address(text) {
         return on_redis(text, "", room);
@@ -244,34 +255,73 @@ fn read_unnamed_place(text: &str, room: u64) -> Option<StoreWanted<'_>>
 
 /// A store on the Redis server at this address, if it is one.
 fn on_redis<'a>(address: &'a str, name: &'a str, room: u64) -> Option<StoreWanted<'a>>
-    ensures { IfSome result IsPresent }
+    ensures { IfSome result (λ store.
+        (store ≡ StoreWanted.Redis (record { address = address.entry; name = name.entry }) room)
+        × IsServerAddress address.entry.now
+        × (list_any (λ b. b == 58) name.entry.now ≡ false)) }
 {
-    if is_address(address) && !name.contains(':') {
+    if is_address(address) && !has_colon(name) {
         Some(StoreWanted::Redis(RedisPlace { address, name }, room))
     } else {
         None
     }
 }
 
-/// Whether a text is HOST:PORT.
-fn is_address(text: &str) -> bool {
-    match text.rsplit_once(':') {
-        Some((host, port)) => is_host(host) && port.parse::<u16>().is_ok(),
-        None => false,
+/// Whether a text is HOST:PORT, without a slash in it.
+fn is_address(text: &str) -> bool
+    ensures { IsTrue result → IsServerAddress text.now }
+{
+    let Some((host, port)) = text.rsplit_once(':') else {
+        return false;
+    };
+    if !is_host(host) {
+        return false;
     }
+    if !is_port(port) {
+        return false;
+    }
+    !has_slash(text)
 }
 
 /// Whether a text may be a host: one with a colon in it stands in brackets.
-fn is_host(text: &str) -> bool {
-    if text.contains(':') {
+fn is_host(text: &str) -> bool
+    ensures { IsTrue result → IsHost text.now }
+{
+    if has_colon(text) {
         text.starts_with('[') && text.ends_with(']')
     } else {
         !text.is_empty()
     }
 }
 
+/// Whether a text is a port: a number in decimal, below 65,536, behind a plus or none.
+fn is_port(text: &str) -> bool
+    ensures { IsTrue result → IsPort text.now }
+{
+    match text.parse::<u16>() {
+        Ok(_) => true,
+        Err(_) => false,
+    }
+}
+
+/// Whether a text has a colon.
+fn has_colon(text: &str) -> bool
+    ensures { result ≡ list_any (λ b. b == 58) text.now }
+{
+    text.contains(':')
+}
+
+/// Whether a text has a slash.
+fn has_slash(text: &str) -> bool
+    ensures { result ≡ list_any (λ b. b == 47) text.now }
+{
+    text.contains('/')
+}
+
 /// A text and the bytes behind its last colon.
-fn read_sized(text: &str) -> Option<(&str, u64)> {
+fn read_sized(text: &str) -> Option<(&str, u64)>
+    ensures { IfSome result (λ parts. IsSized text.now parts.0.now parts.1) }
+{
     let Some((path, bytes)) = text.rsplit_once(':') else {
         return None;
     };

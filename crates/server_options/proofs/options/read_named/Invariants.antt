@@ -1,8 +1,7 @@
-use Rattle.std.proofs.Common.{◌≡◌, length}
-use Rattle.std.specs.Prelude.{All}
-use Rattle.server_options.specs.Missing.{IsPresent}
+use Rattle.std.proofs.Common.{map, take}
+use Rattle.server_options.specs.Named.{AreNamesOf}
 use Rattle.server_options.proofs.options.read_named.Given as goal
 
--- a store for each name, and none of them missing
+-- each text that was looked at names the store in its place
 abbrev pub invariant-loop-name : goal.invariant-loop-name
-invariant-loop-name l = (length l.stores.items ≡ l.name-index) × All IsPresent l.stores.items
+invariant-loop-name l = AreNamesOf l.fn.room (map (λ s. s.now) (take l.name-index l.name-items)) l.stores.items

@@ -1,25 +1,33 @@
-use Rattle.std.proofs.Common.{◌≡◌, ℕ, List, subst}
+use Rattle.std.proofs.Common.{◌∙◌, ap}
 use Rattle.std.specs.List.{All}
-use Rattle.octets.specs.Sharing.{IsSharing}
 use Rattle.server_options.specs.Folders.{IsStoreFolder}
-use Rattle.server_options.specs.Shares.{IsPairOf}
-use Rattle.server_options.specs.declared.options.Shares.{Shares}
+use Rattle.server_options.specs.Logging.{named_format, named_level}
+use Rattle.server_options.proofs.AskedLemmas.{flag_given, not_none, of_the_same, shares_given}
 use Rattle.server_options.proofs.options.read_options.Goals as goal
 
--- what holds of two lists holds of the same two
-of_the_same : {X Y : Type 0} (P : List X → List Y → Type 0) {xs xs' : List X} {ys ys' : List Y} → xs ≡ xs' → ys ≡ ys' → P xs ys → P xs' ys'
-of_the_same P {xs} {xs'} {ys} {ys'} one other holds = subst (λ zs. P zs ys') one (subst (λ zs. P xs zs) other holds)
-
--- a text that is a sharing isn't one that is none
-not_none : (read text : List ℕ) (shares : Shares) → read ≡ text → IsPairOf read shares.needed shares.made
-    → IsSharing shares.needed shares.made → ((k n : ℕ) → IsPairOf text k n → IsSharing k n → ⊥) → ⊥
-not_none read text shares same pair sharing none =
-    none shares.needed shares.made (subst (λ t. IsPairOf t shares.needed shares.made) same pair) sharing
-
-pub returns-clause-new_is_a_store : goal.returns-clause-new_is_a_store
-returns-clause-new_is_a_store c =
-    of_the_same (λ stores paths. All (λ path. IsStoreFolder stores path.now) paths) c.deref.ensures.value c.deref-2.ensures.value
-    (c.are_folders_of.ensures c.if-not-are_folders_of.false)
+pub returns-clause-read : goal.returns-clause-read
+returns-clause-read c = record {
+  listen = c.in_ok-listen.ensures.texts;
+  addresses = c.in_ok-listen.ensures.addresses;
+  control = c.find_text.ensures;
+  control_token_file = c.find_text-2.ensures;
+  shares = shares_given _ _ c.in-Some.shares c.text_of.ensures c.in-Some.ensures.pair c.in-Some.ensures.sharing;
+  stores = c.in_ok-stores.ensures.served;
+  one_is_present = c.in_ok-stores.ensures.one_is_present;
+  new = c.in_ok-new.ensures;
+  new_is_a_store = of_the_same (λ stores paths. All (λ path. IsStoreFolder stores path.now) paths) c.deref.ensures.value c.deref-2.ensures.value
+      (c.are_folders_of.ensures c.if-not-are_folders_of.false);
+  synced = flag_given _ _ _ c.has_flag.ensures;
+  secret_file = c.find_text-secret_file.ensures;
+  redis_password_file = c.find_text-3.ensures;
+  pages = c.find_text-4.ensures;
+  no_pages = c.has_flag-2.ensures;
+  connections = c.connections_of.ensures;
+  idle = c.idle_of.ensures;
+  memory = c.in_ok-memory.ensures.some;
+  log_level = c.named_level.ensures ∙ ap named_level c.text_of-2.ensures;
+  log_format = c.named_format.ensures ∙ ap named_format c.text_of-3.ensures;
+}
 
 pub returns-in_err-new-clause-no_shares : goal.returns-in_err-new-clause-no_shares
 returns-in_err-new-clause-no_shares c = λ none.
