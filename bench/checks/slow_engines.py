@@ -6,6 +6,8 @@ Idle: two programs run over the servers, 3 of 10, two shares a server. Each serv
 next read of each file at each program is to be 200 with its bytes, the next check is to say that the file is healthy, and the
 next upload, of 2,000 to 16,777,216 bytes, is to be 200.
 
+Rotten: each share of a file is cut or is no bytes at all. A read is 410; the same upload is 200, and the file is healthy.
+
 Hung: one server is stopped (SIGSTOP) as an upload of 16,777,216 bytes begins, and beside it small files whose bytes are in
 their cap are read all the time. Then all five are stopped, and a file is read that the program doesn't keep. No read of a small
 file may take longer than `--most` seconds (2.5): what one exchange may take without a byte is a second.
@@ -138,26 +140,24 @@ class Trial:
     def ended(self, how, end):
         """Each server ends its connections; then the first requests at two programs."""
         gates = [self.start([engine.port for engine in self.engines]) for _ in range(2)]
-        clients = [Client(gate.address) for gate in gates]
-        files = [self.put(clients[0], length) for length in LENGTHS]
+        files = [self.put(Client(gates[0].address), length) for length in LENGTHS]
         # The second program knows no file yet: each read asks its servers.
-        for round_ in range(3):
+        for cap, body in files:
             for engine in self.engines:
                 end(engine)
-            cap, body = files[round_]
-            self.wants("%s, the first read of %d bytes" % (how, len(body)), clients[1].get(cap), (200, body))
+            self.wants("%s, the first read of %d bytes" % (how, len(body)), Client(gates[1].address).get(cap), (200, body))
             for engine in self.engines:
                 end(engine)
-            status, text = clients[1].ask("POST", "/uri/%s?t=check&output=JSON&verify=true" % cap, b"")
+            status, text = Client(gates[1].address).ask("POST", "/uri/%s?t=check&output=JSON&verify=true" % cap, b"")
             self.wants("%s, the first check" % how, (status, b'"healthy":true' in text), (200, True))
         for length in LENGTHS + (LONG,):
             for engine in self.engines:
                 end(engine)
-            for client in clients:
-                self.put(client, length)
-        for client, gate in zip(clients, gates):
-            client.close()
+            for gate in gates:
+                self.put(Client(gate.address), length)
+        for gate in gates:
             gate.kill()
+        print("%s: done" % how, flush=True)
 
     def restart(self, engine):
         engine.kill()
@@ -165,6 +165,31 @@ class Trial:
 
     def close_clients(self, engine):
         engine.told(b"CLIENT", b"KILL", b"TYPE", b"normal", b"SKIPME", b"yes")
+
+    def spoil(self, engine):
+        """Every second share is cut, and the others are a list."""
+        keys = [key for key in engine.told(b"KEYS", b"wozhinnam:*").split(b"\r\n") if key.startswith(b"wozhinnam:") and not key.endswith(b":grid")]
+        for at, key in enumerate(sorted(keys)):
+            engine.told(b"DEL", key)
+            engine.told(b"SET", key, b"cut") if at % 2 else engine.told(b"RPUSH", key, b"a list")
+
+    def rotten(self):
+        """Shares that rot, and the same upload again."""
+        for engine in self.engines:
+            engine.empty()
+        gates = [self.start([engine.port for engine in self.engines]) for _ in range(3)]
+        for length in LENGTHS[:2]:
+            cap, body = self.put(Client(gates[0].address), length)
+            for engine in self.engines:
+                self.spoil(engine)
+            self.wants("a read of rotten shares", Client(gates[1].address).get(cap)[0], 410)
+            self.wants("the same upload", Client(gates[1].address).put(body), (200, cap))
+            status, text = Client(gates[1].address).ask("POST", "/uri/%s?t=check&output=JSON&verify=true" % cap, b"")
+            self.wants("a check behind it", (status, b'"healthy":true' in text), (200, True))
+            self.wants("a read at another program", Client(gates[2].address).get(cap), (200, body))
+        for gate in gates:
+            gate.kill()
+        print("rotten shares: done", flush=True)
 
     def hung(self):
         gate = self.start([engine.port for engine in self.engines])
@@ -232,6 +257,7 @@ def main():
     try:
         trial.ended("servers that were started anew", trial.restart)
         trial.ended("connections that were closed", trial.close_clients)
+        trial.rotten()
         trial.hung()
         trial.slow()
     finally:
