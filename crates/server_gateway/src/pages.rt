@@ -1,5 +1,5 @@
 //! Pages beside the web API, which are read from a folder at the start.
-ghost use Rattle.std.specs.Prelude.{◌≡◌, [], All, IfOk, IsTrue};
+ghost use Rattle.std.specs.Prelude.{◌≡◌, ◌<◌, [], length, All, Err, IfOk, IsTrue, Some};
 ghost use Rattle.std.specs.List.{list_all};
 ghost use Rattle.server_gateway.specs.Pages.{is_page_byte, kind_by_end, page_kind, page_path, IsPageOf, IsFilePage};
 
@@ -122,14 +122,29 @@ fn read_page<R: Files + AllocGlobal>(
         return Err(ProgramFault::ManyPages);
     }
     let file = format!(in rt.alloc(); "{folder}/{name}")?;
-    let Ok(bytes) = read_at_most(rt, file.as_str(), MOST_BYTES) else {
-        return Err(ProgramFault::PageUnread);
-    };
+    match read_at_most(rt, file.as_str(), MOST_BYTES) {
+        Ok(bytes) => page_of(rt.alloc(), name.as_bytes(), kind, bytes),
+        Err(_) => Err(ProgramFault::PageUnread),
+    }
+}
+
+/// The page that a file of this name, which is of this kind, with these bytes is: all of them, unless they are too many.
+fn page_of(
+    alloc: Global,
+    name: &[u8],
+    kind: MediaType,
+    bytes: Vec<u8>,
+) -> Result<Page, ProgramFault>
+    ensures page { page_kind name.now ≡ Some kind → IfOk result (IsPageOf name.now) }
+    ensures whole { IfOk result (λ page. page.body ≡ bytes.items) }
+    ensures too_long { 1_048_576 < length bytes.items → result ≡ Err ProgramFault.LongPage }
+{
     if bytes.len() > MOST_BYTES {
         return Err(ProgramFault::LongPage);
     }
+    let path = path_of(alloc, name)?;
     Ok(Page {
-        path: path_of(rt.alloc(), name.as_bytes())?,
+        path,
         kind,
         body: SharedBytes::from_vec(bytes)?,
     })
