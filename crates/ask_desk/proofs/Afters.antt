@@ -1,5 +1,5 @@
 -- How a desk stands after each call.
-use Rattle.std.proofs.Common.{◌≡◌, ◌≢◌, ◌<◌, ◌≤◌, ◌+◌, ◌-◌, ℕ, zero, suc, Bool, true, false, cond, eqb, ◌&&◌, List, [], ◌∷◌, ◌++◌, length, map, take, drop, get_or, refl, sym, ap, subst, ◌∙◌, append-nil, append_assoc, arith, Option, Some, None, is_some, Bor}
+use Rattle.std.proofs.Common.{◌≡◌, ◌≢◌, ◌<◌, ◌+◌, ◌-◌, ℕ, zero, suc, Bool, true, false, cond, eqb, ◌&&◌, List, [], ◌∷◌, ◌++◌, length, map, take, drop, get_or, refl, sym, ap, subst, ◌∙◌, arith, Option, Some, None, is_some, Bor}
 use Rattle.std.specs.Prelude.{is_none, filter, not, IsSome, IfSome, ◌↔◌, slice_get}
 use Rattle.std.specs.Option.{option_map, option_copied}
 use Rattle.std.specs.List.{flat_map}
@@ -7,13 +7,11 @@ use Rattle.std.proofs.lemmas.Bool.{eqb-true, eqb-false, ne_eqb, false≢true}
 use Rattle.std.proofs.lemmas.List.{take_all, length-drop}
 use Rattle.resp.specs.declared.reply.Reply.{Reply}
 use Rattle.ask_desk.specs.declared.ask.Ask.{Ask}
-use Rattle.ask_desk.specs.declared.kept.Answer.{Answer}
 use Rattle.ask_desk.specs.declared.desk.Desk.{Desk}
 use Rattle.ask_desk.specs.declared.fault.DeskFault.{DeskFault}
-use Rattle.ask_desk.specs.declared.reader.Reader.{Reader}
 use Rattle.ask_desk.specs.Asks.{is_asked_by, disowned, next_due, due_of, answer_for, last_ask, command_in, is_nobodys}
-use Rattle.ask_desk.specs.Dialogue.{Dialogue, IsBehind, silence, unanswered, replies_in, forsaken_in}
-use Rattle.ask_desk.specs.Past.{Past, no_past, past_asked, past_again, past_begun, past_written, past_heard, past_over, past_forsaken, past_ended, due_in, answers_in, last_bytes, next_bytes}
+use Rattle.ask_desk.specs.Dialogue.{Dialogue, IsBehind, unanswered, replies_in, forsaken_in}
+use Rattle.ask_desk.specs.Past.{Past, no_past, past_asked, past_again, past_begun, past_written, past_heard, past_over, past_forsaken, past_ended, due_in, last_bytes, next_bytes}
 use Rattle.ask_desk.specs.Kept.{kept_for}
 use Rattle.ask_desk.specs.Reading.{IsBlank, IsReplyFor, HoldsNext}
 use Rattle.ask_desk.specs.After.{IsAfter}
@@ -135,22 +133,27 @@ pub record SameAsks (desk desk' : Desk) : Type 0 where
   pub waiting : desk'.waiting.items ≡ desk.waiting.items
   pub left : desk'.left ≡ desk.left
 
+-- what happened over the connection is another, and the desk holds it
+heard_so : (past : Past) (desk desk' : Desk) (d : Dialogue) → IsAfter past desk → Standing d desk'.reader → SameAsks desk desk' → d.left ≡ past.now.left → desk'.awaited.items ≡ unanswered d → (0 < past.now.left → unanswered d ≢ [])
+    → ((owner : ℕ) → kept_for desk'.kept.of_owners.entries owner ≡ flat_map (replies_in owner) past.earlier ++ replies_in owner d) → desk'.is_over ≡ is_some d.fault → IsAfter (record past { now = d }) desk'
+heard_so past desk desk' d a s same left awaited begun kept over = record {
+  now = s.now;
+  earlier = a.earlier;
+  asked = same.asked ∙ a.asked;
+  waiting = same.waiting ∙ a.waiting;
+  awaited = awaited;
+  left = same.left ∙ a.left ∙ sym left;
+  begun = λ still. begun (omega (arith, still, left));
+  kept = kept;
+  over = over;
+  next = s.next;
+}
+
 pub after_more : (past : Past) (desk desk' : Desk) (bytes : List ℕ) (a : IsAfter past desk) → desk.is_over ≡ false → SameAsks desk desk' → desk'.awaited.items ≡ desk.awaited.items → desk'.kept ≡ desk.kept → desk'.is_over ≡ desk.is_over
     → HoldsNext (due_in past) desk'.reader (a.now.part ++ bytes) → IsAfter (past_heard bytes None past) desk'
 after_more past desk desk' bytes a hearing same awaited kept over held =
-    let s = standing_more past.now desk'.reader a.now bytes (no_fault desk.is_over past.now.fault a.over hearing) held in
-    record {
-      now = s.now;
-      earlier = a.earlier;
-      asked = same.asked ∙ a.asked;
-      waiting = same.waiting ∙ a.waiting;
-      awaited = awaited ∙ a.awaited;
-      left = same.left ∙ a.left;
-      begun = a.begun;
-      kept = λ owner. ap (λ k. kept_for k.of_owners.entries owner) kept ∙ a.kept owner;
-      over = over ∙ a.over;
-      next = s.next;
-    }
+    heard_so past desk desk' (record past.now { came = past.now.came ++ bytes }) a (standing_more past.now desk'.reader a.now bytes (no_fault desk.is_over past.now.fault a.over hearing) held) same refl
+    (awaited ∙ a.awaited) a.begun (λ owner. ap (λ k. kept_for k.of_owners.entries owner) kept ∙ a.kept owner) (over ∙ a.over)
 
 pub after_whole : (past : Past) (desk desk' : Desk) (bytes : List ℕ) (ask : Ask) (answer : Reply) (a : IsAfter past desk) → desk.is_over ≡ false → SameAsks desk desk' → due_in past ≡ Some ask → desk'.awaited.items ≡ drop 1 desk.awaited.items
     → ((owner : ℕ) → kept_for desk'.kept.of_owners.entries owner ≡ kept_for desk.kept.of_owners.entries owner ++ answer_for owner (due_of ask) answer) → desk'.is_over ≡ desk.is_over → IsReplyFor ask.most (a.now.part ++ bytes) answer → IsBlank desk'.reader
@@ -158,36 +161,16 @@ pub after_whole : (past : Past) (desk desk' : Desk) (bytes : List ℕ) (ask : As
 after_whole past desk desk' bytes ask answer a hearing same due awaited kept over whole blank =
     let d = due_first past.now.left (unanswered past.now) ask due in
     let left : drop (length (past.now.replies ++ answer ∷ [])) past.now.told ≡ d.rest = rest_of past.now.told d.rest past.now.replies ask answer d.is in
-    let s = standing_whole past.now desk'.reader a.now bytes ask d.rest answer (no_fault desk.is_over past.now.fault a.over hearing) d.is whole blank in
-    record {
-      now = s.now;
-      earlier = a.earlier;
-      asked = same.asked ∙ a.asked;
-      waiting = same.waiting ∙ a.waiting;
-      awaited = awaited ∙ ap (drop 1) a.awaited ∙ ap (drop 1) d.is ∙ sym left;
-      left = same.left ∙ a.left;
-      begun = λ still e. d.more still (sym left ∙ e);
-      kept = λ owner. kept_more owner past ask d.rest answer (kept_for desk.kept.of_owners.entries owner) (kept_for desk'.kept.of_owners.entries owner) d.is (a.kept owner) (kept owner);
-      over = over ∙ a.over;
-      next = s.next;
-    }
+    heard_so past desk desk' (record past.now { came = past.now.came ++ bytes; replies = past.now.replies ++ answer ∷ [] }) a
+    (standing_whole past.now desk'.reader a.now bytes ask d.rest answer (no_fault desk.is_over past.now.fault a.over hearing) d.is whole blank) same refl
+    (awaited ∙ ap (drop 1) a.awaited ∙ ap (drop 1) d.is ∙ sym left) (λ still e. d.more still (sym left ∙ e))
+    (λ owner. kept_more owner past ask d.rest answer (kept_for desk.kept.of_owners.entries owner) (kept_for desk'.kept.of_owners.entries owner) d.is (a.kept owner) (kept owner)) (over ∙ a.over)
 
 pub after_over : (past : Past) (desk desk' : Desk) (bytes : List ℕ) (fault : DeskFault) (a : IsAfter past desk) → SameAsks desk desk' → desk'.awaited.items ≡ desk.awaited.items
     → ((owner : ℕ) → kept_for desk'.kept.of_owners.entries owner ≡ kept_for desk.kept.of_owners.entries owner) → desk'.is_over ≡ true → IsBehind (Some fault) (due_in past) (a.now.part ++ bytes) → IsAfter (past_over bytes fault past) desk'
 after_over past desk desk' bytes fault a same awaited kept over behind =
-    let s = standing_over past.now desk'.reader a.now bytes fault behind in
-    record {
-      now = s.now;
-      earlier = a.earlier;
-      asked = same.asked ∙ a.asked;
-      waiting = same.waiting ∙ a.waiting;
-      awaited = awaited ∙ a.awaited;
-      left = same.left ∙ a.left;
-      begun = a.begun;
-      kept = λ owner. kept owner ∙ a.kept owner;
-      over = over;
-      next = s.next;
-    }
+    heard_so past desk desk' (record past.now { came = past.now.came ++ bytes; fault = Some fault }) a (standing_over past.now desk'.reader a.now bytes fault behind) same refl
+    (awaited ∙ a.awaited) a.begun (λ owner. kept owner ∙ a.kept owner) over
 
 -- ---- an owner forsook
 

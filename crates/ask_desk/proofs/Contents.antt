@@ -5,13 +5,12 @@ use Rattle.std.proofs.lemmas.List.{length-append, length-replicate}
 use Rattle.resp.specs.Command.{line, line_end}
 use Rattle.resp.specs.Spelled.{Writes, SpellsReply, IsBegun}
 use Rattle.resp.specs.declared.reply.Item.TheVariants as item
-use Rattle.resp.specs.declared.reply.Reply.{Reply}
 use Rattle.resp.specs.declared.reply.Reply.TheVariants as reply
 use Rattle.ask_desk.specs.declared.ask.Ask.{Ask}
 use Rattle.ask_desk.specs.declared.reader.Reader.{Reader}
-use Rattle.ask_desk.specs.CameIn.{reply_limits, BeginsBulk, IsShort, IsTooLong, IsNoReply, IsNotClosed, IsPart}
-use Rattle.ask_desk.specs.Reading.{IsOfLine, IsOfBulk, IsHeldAs, IsHeld, IsBlank, IsReplyFor, IsStepTo, HoldsNext, content_read, return_of}
-use Rattle.ask_desk.proofs.Lines.{begun_nothing, no_bulk_nothing, one_length, begins_more, Lined, lined_begins}
+use Rattle.ask_desk.specs.CameIn.{reply_limits, BeginsBulk, IsTooLong, IsNoReply, IsPart}
+use Rattle.ask_desk.specs.Reading.{IsOfBulk, IsHeldAs, IsHeld, IsBlank, IsReplyFor, IsStepTo, HoldsNext, content_read, return_of}
+use Rattle.ask_desk.proofs.Lines.{begun_nothing, no_bulk_nothing, one_length, Lined}
 
 -- ---- a bulk string begins
 

@@ -1,5 +1,5 @@
 -- Where the reply to an ask stands.
-use Rattle.std.proofs.Common.{◌≡◌, ◌≢◌, ℕ, suc, zero, ◌+◌, Bool, true, false, cond, eqb, List, [], ◌∷◌, ◌++◌, length, refl, sym, ap, subst, ◌∙◌, Option, Some, None, ◌⊎◌, inl, inr, Bor}
+use Rattle.std.proofs.Common.{◌≡◌, ℕ, suc, zero, Bool, true, false, cond, eqb, List, [], ◌∷◌, ◌++◌, length, refl, sym, ap, ◌∙◌, Option, Some, None, ◌⊎◌, inl, inr, Bor}
 use Rattle.std.specs.Prelude.{slice_get, find, IfSome}
 use Rattle.std.specs.Option.{option_map, option_copied}
 use Rattle.std.specs.List.{flat_map, AllByRecursion}

@@ -1,20 +1,16 @@
 -- What hearing bytes leads to.
-use Rattle.std.proofs.Common.{◌≡◌, ◌<◌, ◌≤◌, ◌+◌, ℕ, Bool, true, false, List, [], ◌∷◌, ◌++◌, length, take, drop, refl, sym, ap, subst, ◌∙◌, Option, Some, None, is_some, Result, Ok, Err}
+use Rattle.std.proofs.Common.{◌≡◌, ◌<◌, ℕ, Bool, true, false, List, ◌++◌, length, take, drop, refl, sym, ap, subst, ◌∙◌, Option, Some, None, is_some, Result, Ok, Err}
 use Rattle.std.specs.Prelude.{is_err, OnErr, OnOk}
 use Rattle.std.proofs.lemmas.Bool.{false≢true}
 use Rattle.std.specs.Option.{option_map}
 use Rattle.resp.specs.declared.reply.Reply.{Reply}
 use Rattle.ask_desk.specs.declared.ask.Ask.{Ask}
-use Rattle.ask_desk.specs.declared.ask.Heard.{Heard}
 use Rattle.ask_desk.specs.declared.desk.Desk.{Desk}
 use Rattle.ask_desk.specs.declared.desk.Due.{Due}
 use Rattle.ask_desk.specs.declared.fault.DeskFault.{DeskFault}
-use Rattle.ask_desk.specs.declared.fault.DeskFault.TheVariants.{Unasked, NoMemory}
-use Rattle.ask_desk.specs.declared.reader.Reader.{Reader}
+use Rattle.ask_desk.specs.declared.fault.DeskFault.TheVariants.{Unasked}
 use Rattle.ask_desk.specs.declared.reader.Read.TheVariants.{More, Whole, Skipped}
-use Rattle.ask_desk.specs.declared.reader.Step.{Step}
 use Rattle.ask_desk.specs.Asks.{next_due, due_of, answer_for}
-use Rattle.ask_desk.specs.Dialogue.{unanswered}
 use Rattle.ask_desk.specs.Past.{Past, past_over, due_in}
 use Rattle.ask_desk.specs.Kept.{kept_for}
 use Rattle.ask_desk.specs.Reading.{IsHeld, IsStep, IsStoppedBy, IsReplyFor, HoldsNext}

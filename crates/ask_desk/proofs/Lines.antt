@@ -1,9 +1,9 @@
 -- Lines of replies.
-use Rattle.std.proofs.Common.{◌≡◌, ◌<◌, ◌≤◌, ◌+◌, ◌-◌, ℕ, List, [], ◌∷◌, ◌++◌, length, take, drop, refl, sym, ap, subst, ◌∙◌, append-nil, append_assoc, arith, inl, inr, Some, None, replicate}
+use Rattle.std.proofs.Common.{◌≡◌, ◌<◌, ◌≤◌, ◌+◌, ◌-◌, ℕ, List, [], ◌∷◌, ◌++◌, length, take, drop, refl, sym, ap, subst, ◌∙◌, append-nil, append_assoc, arith, inl, inr, replicate}
 use Rattle.std.proofs.lemmas.Bool.{cases_lt}
 use Rattle.std.specs.Char.{digit_value}
 use Rattle.std.specs.Str.Parse.{AllDigits, digits_value}
-use Rattle.std.proofs.lemmas.List.{length-append, length-replicate, length-take-le, take_all, take_at, take-take, take-append-le, take-append-drop, append_cancel_right}
+use Rattle.std.proofs.lemmas.List.{length-append, length-replicate, length-take-le, take-take, take-append-le, take-append-drop, append_cancel_right}
 use Rattle.std.proofs.Math.Seq.{take-append-add}
 use Rattle.resp.specs.Command.{line, line_end}
 use Rattle.resp.specs.Spelled.{Writes, SpellsReply, IsBegun}

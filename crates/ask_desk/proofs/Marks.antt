@@ -1,5 +1,5 @@
 -- Elements of a list that are changed one after the other.
-use Rattle.std.proofs.Common.{◌≡◌, ◌<◌, ℕ, zero, suc, ◌+◌, Bool, true, false, cond, List, [], ◌∷◌, ◌++◌, length, map, take, drop, get_or, set, refl, sym, ap, ◌∙◌, add-one, arith, Option, Some, None}
+use Rattle.std.proofs.Common.{◌≡◌, ◌<◌, ℕ, zero, suc, ◌+◌, Bool, true, false, cond, List, [], ◌∷◌, ◌++◌, length, map, take, drop, get_or, set, sym, ap, ◌∙◌, add-one, arith, Some}
 use Rattle.std.specs.Prelude.{find}
 use Rattle.std.proofs.lemmas.List.{at_drop_more, length-append, length-map, take-append-drop}
 

@@ -1,10 +1,9 @@
 -- What was told, and the replies to it in their order.
-use Rattle.std.proofs.Common.{◌≡◌, ◌≢◌, ◌<◌, ◌≤◌, ◌+◌, ◌-◌, ℕ, zero, suc, Bool, true, false, cond, eqb, List, [], ◌∷◌, ◌++◌, length, map, drop, refl, sym, ap, subst, ◌∙◌, append-nil, append_assoc, arith, Option, Some, None, is_some}
-use Rattle.std.specs.Prelude.{IsSome, IsSomeAnd}
+use Rattle.std.proofs.Common.{◌≡◌, ◌≢◌, ◌<◌, ◌≤◌, ℕ, Bool, true, false, cond, eqb, List, [], ◌∷◌, ◌++◌, length, map, drop, refl, sym, ap, subst, ◌∙◌, append-nil, append_assoc, arith, Option, Some, None, is_some}
 use Rattle.std.specs.Option.{option_map}
 use Rattle.std.specs.List.{AllByRecursion}
 use Rattle.std.proofs.lemmas.Bool.{eqb-true}
-use Rattle.std.proofs.lemmas.List.{length-append, length-drop, drop-append-le, drop-map}
+use Rattle.std.proofs.lemmas.List.{drop-append-le, drop-map}
 use Rattle.resp.specs.Spelled.{SpellsAll, SpellsReply}
 use Rattle.resp.specs.declared.reply.Reply.{Reply}
 use Rattle.ask_desk.specs.declared.ask.Ask.{Ask}
@@ -12,9 +11,9 @@ use Rattle.ask_desk.specs.declared.fault.DeskFault.{DeskFault}
 use Rattle.ask_desk.specs.declared.fault.DeskFault.TheVariants.{Unasked, TooLong, NoReply, NoMemory}
 use Rattle.ask_desk.specs.declared.reader.Reader.{Reader}
 use Rattle.ask_desk.specs.Asks.{is_asked_by, disowned, next_due}
-use Rattle.ask_desk.specs.CameIn.{reply_limits, IsShort, IsTooLong, IsNoReply, IsPart}
+use Rattle.ask_desk.specs.CameIn.{reply_limits, IsShort, IsTooLong, IsPart}
 use Rattle.ask_desk.specs.Dialogue.{Dialogue, unanswered, AnswerInOrder, IsBehind, IsInOrder, forsaken_in}
-use Rattle.ask_desk.specs.Reading.{IsBlank, HoldsNext, IsHeld}
+use Rattle.ask_desk.specs.Reading.{HoldsNext, IsHeld}
 use Rattle.ask_desk.proofs.Contents.{blank_next, next_part}
 
 -- ---- one more

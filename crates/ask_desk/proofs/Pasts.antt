@@ -1,6 +1,6 @@
 -- What each call does to a connection that stands.
-use Rattle.std.proofs.Common.{◌≡◌, ◌≢◌, ◌<◌, ◌≤◌, ◌+◌, ◌-◌, ℕ, zero, suc, Bool, true, false, cond, eqb, List, [], ◌∷◌, ◌++◌, length, map, drop, refl, sym, ap, subst, ◌∙◌, append-nil, append_assoc, arith, Option, Some, None, is_some}
-use Rattle.std.specs.Prelude.{IsSome, IsSomeAnd, is_none, slice_get}
+use Rattle.std.proofs.Common.{◌≡◌, ◌<◌, ℕ, Bool, true, false, cond, List, [], ◌∷◌, ◌++◌, length, drop, refl, sym, ap, subst, ◌∙◌, append-nil, append_assoc, arith, Option, Some, None, is_some}
+use Rattle.std.specs.Prelude.{is_none}
 use Rattle.std.specs.Option.{option_map}
 use Rattle.std.specs.List.{flat_map}
 use Rattle.resp.specs.declared.reply.Reply.{Reply}
@@ -9,13 +9,12 @@ use Rattle.ask_desk.specs.declared.kept.Answer.{Answer}
 use Rattle.ask_desk.specs.declared.fault.DeskFault.{DeskFault}
 use Rattle.ask_desk.specs.declared.fault.DeskFault.TheVariants.{Unasked, TooLong, NoReply, NoMemory}
 use Rattle.ask_desk.specs.declared.reader.Reader.{Reader}
-use Rattle.ask_desk.specs.Asks.{is_owner, is_asked_by, disowned, next_due, due_of, answer_for, last_ask, command_in, is_nobodys}
-use Rattle.ask_desk.specs.CameIn.{IsPart}
-use Rattle.ask_desk.specs.Dialogue.{Dialogue, silence, unanswered, IsBehind, IsInOrder, replies_to, replies_in, forsaken_in}
+use Rattle.ask_desk.specs.Asks.{is_owner, is_asked_by, disowned, next_due, due_of, answer_for}
+use Rattle.ask_desk.specs.Dialogue.{Dialogue, silence, unanswered, AnswerInOrder, IsBehind, IsInOrder, replies_to, replies_in, forsaken_in}
 use Rattle.ask_desk.specs.Past.{Past, answers_in}
 use Rattle.ask_desk.specs.Reading.{IsHeld, IsBlank, IsReplyFor, IsStoppedBy, HoldsNext}
-use Rattle.ask_desk.proofs.Contents.{blank_next, next_part}
-use Rattle.ask_desk.proofs.Orders.{spelled_more, in_order_more, rest_of, in_order_told, unanswered_told, next_told, next_written, next_behind, in_order_forsaken, behind_forsaken, due_of_forsaken}
+use Rattle.ask_desk.proofs.Contents.{blank_next}
+use Rattle.ask_desk.proofs.Orders.{spelled_more, in_order_more, in_order_told, unanswered_told, next_told, next_written, next_behind, in_order_forsaken, behind_forsaken, due_of_forsaken}
 use Rattle.ask_desk.proofs.Owners.{to_more, to_told}
 
 -- a connection is in order, and what came of the next reply is held
@@ -36,19 +35,24 @@ standing_silence reader blank = record {
 
 -- ---- bytes came
 
-pub standing_more : (d : Dialogue) (reader : Reader) (o : IsInOrder d) (bytes : List ℕ) → d.fault ≡ None → HoldsNext (next_due d.left (unanswered d)) reader (o.part ++ bytes)
-    → Standing (record d { came = d.came ++ bytes }) reader
-standing_more d reader o bytes none held = record {
+came_so : (d : Dialogue) (reader : Reader) (o : IsInOrder d) (bytes : List ℕ) (fault : Option DeskFault) → IsBehind fault (next_due d.left (unanswered d)) (o.part ++ bytes) → (fault ≡ None → HoldsNext (next_due d.left (unanswered d)) reader (o.part ++ bytes))
+    → Standing (record d { came = d.came ++ bytes; fault = fault }) reader
+came_so d reader o bytes fault behind held = record {
   now = record {
     front = o.front;
     part = o.part ++ bytes;
     came = ap (λ (l : List ℕ). l ++ bytes) o.came ∙ append_assoc o.front o.part bytes;
     spelled = o.spelled;
     short = o.short;
-    left = subst (λ f. IsBehind f (next_due d.left (unanswered d)) (o.part ++ bytes)) (sym none) (next_behind (next_due d.left (unanswered d)) reader (o.part ++ bytes) held);
+    left = behind;
   };
-  next = λ hearing. held;
+  next = held;
 }
+
+pub standing_more : (d : Dialogue) (reader : Reader) (o : IsInOrder d) (bytes : List ℕ) → d.fault ≡ None → HoldsNext (next_due d.left (unanswered d)) reader (o.part ++ bytes)
+    → Standing (record d { came = d.came ++ bytes }) reader
+standing_more d reader o bytes none held =
+    came_so d reader o bytes d.fault (subst (λ f. IsBehind f (next_due d.left (unanswered d)) (o.part ++ bytes)) (sym none) (next_behind (next_due d.left (unanswered d)) reader (o.part ++ bytes) held)) (λ hearing. held)
 
 pub standing_whole : (d : Dialogue) (reader : Reader) (o : IsInOrder d) (bytes : List ℕ) (ask : Ask) (rest : List Ask) (answer : Reply) → d.fault ≡ None → unanswered d ≡ ask ∷ rest → IsReplyFor ask.most (o.part ++ bytes) answer → IsBlank reader
     → Standing (record d { came = d.came ++ bytes; replies = d.replies ++ answer ∷ [] }) reader
@@ -68,17 +72,7 @@ standing_whole d reader o bytes ask rest answer none left whole blank =
 
 pub standing_over : (d : Dialogue) (reader : Reader) (o : IsInOrder d) (bytes : List ℕ) (fault : DeskFault) → IsBehind (Some fault) (next_due d.left (unanswered d)) (o.part ++ bytes)
     → Standing (record d { came = d.came ++ bytes; fault = Some fault }) reader
-standing_over d reader o bytes fault behind = record {
-  now = record {
-    front = o.front;
-    part = o.part ++ bytes;
-    came = ap (λ (l : List ℕ). l ++ bytes) o.came ∙ append_assoc o.front o.part bytes;
-    spelled = o.spelled;
-    short = o.short;
-    left = behind;
-  };
-  next = λ hearing. absurd (let e : ◌≡◌ {A = Option DeskFault} (Some fault) None = hearing in cc);
-}
+standing_over d reader o bytes fault behind = came_so d reader o bytes (Some fault) behind (λ hearing. absurd (let e : ◌≡◌ {A = Option DeskFault} (Some fault) None = hearing in cc))
 
 pub stopped_behind : (fault : DeskFault) (due : Option Ask) (ask : Ask) (bytes : List ℕ) → due ≡ Some ask → IsStoppedBy ask.most bytes fault → IsBehind (Some fault) due bytes
 stopped_behind fault None ask bytes is stopped = absurd cc
@@ -96,40 +90,29 @@ unasked_behind due part bytes none empty some = (
 
 -- ---- bytes were written
 
+-- what was told is more, or more of it was written, and the next reply is held as before
+told_so : (d : Dialogue) (told : List Ask) (left : ℕ) (reader : Reader) (o : IsInOrder d) → d.fault ≡ None → AnswerInOrder told d.replies → HoldsNext (next_due left (drop (length d.replies) told)) reader o.part → Standing (record d { told = told; left = left }) reader
+told_so d told left reader o none short held = record {
+  now = record {
+    front = o.front;
+    part = o.part;
+    came = o.came;
+    spelled = o.spelled;
+    short = short;
+    left = subst (λ f. IsBehind f (next_due left (drop (length d.replies) told)) o.part) (sym none) (next_behind (next_due left (drop (length d.replies) told)) reader o.part held);
+  };
+  next = λ hearing. held;
+}
+
 pub standing_told : (d : Dialogue) (reader : Reader) (s : Standing d reader) (ask : Ask) (left : ℕ) → d.fault ≡ None → d.left ≡ 0 → Standing (record d { told = d.told ++ ask ∷ []; left = left }) reader
 standing_told d reader s ask left none zero_left =
-    let o = s.now in
-    let more : drop (length d.replies) (d.told ++ ask ∷ []) ≡ unanswered d ++ ask ∷ [] = unanswered_told d.told (ask ∷ []) d.replies o.short in
-    let held : HoldsNext (next_due left (drop (length d.replies) (d.told ++ ask ∷ []))) reader o.part =
-    subst (λ (l : List Ask). HoldsNext (next_due left l) reader o.part) (sym more)
-    (next_told left (unanswered d) ask reader o.part (subst (λ n. HoldsNext (next_due n (unanswered d)) reader o.part) zero_left (s.next none))) in
-    record {
-      now = record {
-        front = o.front;
-        part = o.part;
-        came = o.came;
-        spelled = o.spelled;
-        short = in_order_told d.told (ask ∷ []) d.replies o.short;
-        left = subst (λ f. IsBehind f (next_due left (drop (length d.replies) (d.told ++ ask ∷ []))) o.part) (sym none) (next_behind (next_due left (drop (length d.replies) (d.told ++ ask ∷ []))) reader o.part held);
-      };
-      next = λ hearing. held;
-    }
+    told_so d (d.told ++ ask ∷ []) left reader s.now none (in_order_told d.told (ask ∷ []) d.replies s.now.short)
+    (subst (λ (l : List Ask). HoldsNext (next_due left l) reader s.now.part) (sym (unanswered_told d.told (ask ∷ []) d.replies s.now.short))
+    (next_told left (unanswered d) ask reader s.now.part (subst (λ n. HoldsNext (next_due n (unanswered d)) reader s.now.part) zero_left (s.next none))))
 
 pub standing_written : (d : Dialogue) (reader : Reader) (s : Standing d reader) (fewer : ℕ) → d.fault ≡ None → 0 < d.left → Standing (record d { left = fewer }) reader
 standing_written d reader s fewer none some =
-    let o = s.now in
-    let held : HoldsNext (next_due fewer (unanswered d)) reader o.part = next_written d.left fewer (unanswered d) reader o.part some (s.next none) in
-    record {
-      now = record {
-        front = o.front;
-        part = o.part;
-        came = o.came;
-        spelled = o.spelled;
-        short = o.short;
-        left = subst (λ f. IsBehind f (next_due fewer (unanswered d)) o.part) (sym none) (next_behind (next_due fewer (unanswered d)) reader o.part held);
-      };
-      next = λ hearing. held;
-    }
+    told_so d d.told fewer reader s.now none s.now.short (next_written d.left fewer (unanswered d) reader s.now.part some (s.next none))
 
 -- ---- an owner forsook
 

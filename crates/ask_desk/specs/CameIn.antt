@@ -1,5 +1,5 @@
 -- What is taken for a reply (RESP2), whatever was asked.
-use Rattle.std.specs.Prelude.{◌≡◌, ◌⊎◌, ◌<◌, ◌≤◌, ◌-◌, ◌^◌, ℕ, List, [], ◌∷◌, ◌++◌, length, Option, Some, None}
+use Rattle.std.specs.Prelude.{◌≡◌, ◌⊎◌, ◌<◌, ◌≤◌, ◌-◌, ◌^◌, ℕ, List, [], ◌++◌, length, Option, Some, None}
 use Rattle.resp.specs.Command.{line, line_end}
 use Rattle.resp.specs.Spelled.{Writes, SpellsReply, IsBegun}
 use Rattle.resp.specs.Verdict.{IsWrongAt}

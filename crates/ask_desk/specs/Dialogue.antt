@@ -1,5 +1,5 @@
 -- One connection since it was greeted.
-use Rattle.std.specs.Prelude.{◌≡◌, ◌≢◌, ℕ, ◌+◌, List, [], ◌∷◌, ◌++◌, length, map, drop, if◌then◌else◌, IsSome, IsSomeAnd, Option, Some, None}
+use Rattle.std.specs.Prelude.{◌≡◌, ◌≢◌, ℕ, List, [], ◌∷◌, ◌++◌, length, map, drop, if◌then◌else◌, IsSome, IsSomeAnd, Option, Some, None}
 use Rattle.resp.specs.declared.reply.Reply.{Reply}
 use Rattle.resp.specs.Spelled.{SpellsReply, SpellsAll}
 use Rattle.ask_desk.specs.declared.ask.Ask.{Ask}

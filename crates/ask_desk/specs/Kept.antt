@@ -1,5 +1,5 @@
 -- The replies that a desk keeps, for private clauses.
-use Rattle.std.specs.Prelude.{◌≡◌, ℕ, ◌==◌, List, [], find, Option, Some, None}
+use Rattle.std.specs.Prelude.{ℕ, ◌==◌, List, [], find, Option, Some, None}
 use Rattle.std.specs.Ordering.{nat_cmp}
 use Rattle.std.specs.Map.{lookup}
 use Rattle.std.specs.BTreeMap.{is_at}

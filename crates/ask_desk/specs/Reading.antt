@@ -1,6 +1,6 @@
 -- What is held of a reply that isn't whole yet, for private clauses.
 use Rattle.std.specs.Prelude.{◌≡◌, ◌<◌, ◌≤◌, ℕ, Bool, true, false, if◌then◌else◌, is_some, List, [], ◌∷◌, ◌++◌, length, take, Option, Some, None}
-use Rattle.resp.specs.Command.{line, line_end}
+use Rattle.resp.specs.Command.{line}
 use Rattle.resp.specs.Spelled.{Writes, SpellsReply, IsBegun}
 use Rattle.resp.specs.declared.reply.Reply.{Reply}
 use Rattle.resp.specs.declared.reply.Item.TheVariants as item

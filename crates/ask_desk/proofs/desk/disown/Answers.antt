@@ -1,4 +1,4 @@
-use Rattle.std.proofs.Common.{sym, subst, arith, rules, ap, ◌∙◌, ◌≡◌, ◌<◌, ◌+◌, ◌++◌, map, take, drop, length, get_or, set, List, true}
+use Rattle.std.proofs.Common.{subst, arith, ap, ◌∙◌, ◌≡◌, ◌<◌, length, get_or, set, List}
 use Rattle.std.proofs.lemmas.Bool.{false≢true}
 use Rattle.ask_desk.specs.declared.ask.Ask.{Ask}
 use Rattle.ask_desk.specs.Asks.{disowned}

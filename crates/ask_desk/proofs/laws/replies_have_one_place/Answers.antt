@@ -1,6 +1,6 @@
-use Rattle.std.proofs.Common.{sym, ◌∙◌, ◌<◌, lit<}
+use Rattle.std.proofs.Common.{sym, ◌∙◌, lit<}
 use Rattle.ask_desk.specs.CameIn.{reply_limits}
-use Rattle.ask_desk.proofs.Cuts.{OneReply, same_place, no_more, left_begun}
+use Rattle.ask_desk.proofs.Cuts.{same_place, no_more, left_begun}
 use Rattle.ask_desk.proofs.laws.replies_have_one_place.Goals as goal
 
 pub returns-clause-place : goal.returns-clause-place

@@ -1,4 +1,4 @@
-use Rattle.std.proofs.Common.{refl, rules, arith, sym, ap, ◌∙◌, ◌≡◌, ◌++◌, ◌∷◌, []}
+use Rattle.std.proofs.Common.{refl, rules}
 use Rattle.ask_desk.specs.Asks.{ask_for}
 use Rattle.ask_desk.proofs.Afters.{after_nothing, after_asked}
 use Rattle.ask_desk.proofs.desk.Desk.ask.Goals as goal

@@ -1,4 +1,4 @@
-use Rattle.std.proofs.Common.{refl, rules, sym, ap, ◌∙◌, ◌≡◌, List}
+use Rattle.std.proofs.Common.{refl, rules}
 use Rattle.std.specs.Option.{option_copied}
 use Rattle.std.proofs.lemmas.Fn.{filter_same}
 use Rattle.ask_desk.specs.Past.{due_in}

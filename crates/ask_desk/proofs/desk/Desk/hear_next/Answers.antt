@@ -1,4 +1,4 @@
-use Rattle.std.proofs.Common.{refl, rules, sym, subst, ap, ◌∙◌, ◌≡◌, true}
+use Rattle.std.proofs.Common.{refl, sym, subst, ◌∙◌, true}
 use Rattle.ask_desk.specs.declared.reader.Read.{Read}
 use Rattle.ask_desk.specs.declared.fault.DeskFault.TheVariants.{NoMemory}
 use Rattle.ask_desk.specs.Reading.{IsStep}

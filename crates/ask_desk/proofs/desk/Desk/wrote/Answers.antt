@@ -1,5 +1,6 @@
-use Rattle.std.proofs.Common.{refl, rules, arith, sym, ap, ◌∙◌, ◌≡◌, ◌<◌, ◌≢◌, ◌++◌, ◌∷◌, []}
+use Rattle.std.proofs.Common.{List, refl, rules, arith, ap, ◌∙◌, ◌≡◌, ◌++◌, ◌∷◌, []}
 use Rattle.std.proofs.lemmas.List.{nil_from_length}
+use Rattle.ask_desk.specs.declared.ask.Ask.{Ask}
 use Rattle.ask_desk.proofs.Afters.{after_going_on, after_none_written, after_none_waits, after_begun}
 use Rattle.ask_desk.proofs.desk.Desk.wrote.Goals as goal
 
@@ -16,7 +17,7 @@ pub returns-in-Some-clause-after : goal.returns-in-Some-clause-after
 returns-in-Some-clause-after c = λ past a.
     let desk = c.args.self.now in
     after_begun past desk (record desk { waiting = c.pop_front.new.self; awaited = c.push_back_reserved.new.self; left = c.saturating_sub-self-in-Some.result }) c.args.count c.in-Some.ask a c.requires (omega arith) (λ e. omega arith)
-    c.in-Some.ensures.items (c.push_back_reserved.ensures.items ∙ ap (λ l. l ++ c.in-Some.ask ∷ []) c.reserve.ensures.items)
+    c.in-Some.ensures.items (◌∙◌ {A = List Ask} c.push_back_reserved.ensures.items (ap (λ (l : List Ask). l ++ c.in-Some.ask ∷ []) c.reserve.ensures.items))
     (search rules) refl refl refl refl
 
 pub returns-in_default-clause-after : goal.returns-in_default-clause-after

@@ -1,6 +1,5 @@
-use Rattle.std.proofs.Common.{sym, subst, arith, rules, ◌≡◌, ◌≤◌, ◌<◌, ◌+◌, ◌++◌, take, length, Option, ℕ, cond}
+use Rattle.std.proofs.Common.{sym, subst, arith, rules, ◌≤◌, ◌+◌, ◌++◌, take, length, Option, ℕ}
 use Rattle.std.proofs.lemmas.List.{length-take-le}
-use Rattle.std.proofs.lemmas.Grind.{common_steps}
 use Rattle.ask_desk.specs.Reading.{IsHeldAs}
 use Rattle.ask_desk.proofs.Contents.{content_more}
 use Rattle.ask_desk.proofs.reader.Reader.hear_content.Goals as goal

@@ -1,7 +1,7 @@
-use Rattle.std.proofs.Common.{sym, subst, arith, rules, ap, ◌∙◌, ◌≡◌, ◌≤◌, ◌<◌, ◌-◌, ◌++◌, take, length, Option, ℕ, List, lit<}
+use Rattle.std.proofs.Common.{sym, subst, arith, rules, ◌≡◌, ◌++◌, take, Option, ℕ, lit<}
 use Rattle.std.proofs.lemmas.Grind.{common_steps}
 use Rattle.ask_desk.specs.CameIn.{reply_limits}
-use Rattle.ask_desk.specs.Reading.{IsHeldAs, IsOfBulk}
+use Rattle.ask_desk.specs.Reading.{IsHeldAs}
 use Rattle.ask_desk.proofs.LineSteps.{line_too_long, line_of_bulk, line_more, line_whole, line_wrong}
 use Rattle.ask_desk.proofs.reader.Reader.hear_line.Goals as goal
 

@@ -1,4 +1,4 @@
-use Rattle.std.proofs.Common.{sym, subst, arith, rules, ◌≡◌, ◌≤◌, ◌<◌, ◌++◌, ◌∷◌, [], take, Option, ℕ, List, Bool}
+use Rattle.std.proofs.Common.{sym, subst, arith, rules, ◌++◌, take, Option, ℕ, List, Bool}
 use Rattle.ask_desk.specs.declared.reader.Read.{Read}
 use Rattle.ask_desk.specs.Reading.{IsHeldAs, IsOfBulk, IsStepTo, content_read}
 use Rattle.ask_desk.proofs.Contents.{take_first, whole_step}
