@@ -38,7 +38,6 @@ waits past desk desk' asked waiting a same asked_is waiting_is = record {
   waiting = waiting_is;
   awaited = same.awaited ∙ a.awaited;
   left = same.left ∙ a.left;
-  begun = a.begun;
   kept = λ owner. ap (λ k. kept_for k.of_owners.entries owner) same.kept ∙ a.kept owner;
   over = same.over ∙ a.over;
   next = λ hearing. subst (λ r. HoldsNext (due_in past) r a.now.part) (sym same.reader) (a.next hearing);
@@ -91,7 +90,6 @@ after_going_on past desk desk' count a hearing some is =
       waiting = a.waiting;
       awaited = a.awaited;
       left = ap (λ n. n - count) a.left;
-      begun = λ still. a.begun more;
       kept = a.kept;
       over = a.over;
       next = s.next;
@@ -119,7 +117,6 @@ after_begun past desk desk' count ask a hearing zero_left some waiting awaited l
       waiting = refl;
       awaited = awaited ∙ ap (λ (l : List Ask). l ++ ask ∷ []) a.awaited ∙ sym more;
       left = left;
-      begun = λ still e. not_nothing (unanswered past.now) ask (sym more ∙ e);
       kept = λ owner. kept_told owner past ask (kept_for desk'.kept.of_owners.entries owner) a.now (ap (λ k. kept_for k.of_owners.entries owner) kept ∙ a.kept owner);
       over = over ∙ a.over;
       next = λ e. subst (λ r. HoldsNext (next_due (length ask.command - count) (drop (length past.now.replies) (past.now.told ++ ask ∷ []))) r s.now.part) (sym reader) (s.next e);
@@ -134,16 +131,15 @@ pub record SameAsks (desk desk' : Desk) : Type 0 where
   pub left : desk'.left ≡ desk.left
 
 -- what happened over the connection is another, and the desk holds it
-heard_so : (past : Past) (desk desk' : Desk) (d : Dialogue) → IsAfter past desk → Standing d desk'.reader → SameAsks desk desk' → d.left ≡ past.now.left → desk'.awaited.items ≡ unanswered d → (0 < past.now.left → unanswered d ≢ [])
+heard_so : (past : Past) (desk desk' : Desk) (d : Dialogue) → IsAfter past desk → Standing d desk'.reader → SameAsks desk desk' → d.left ≡ past.now.left → desk'.awaited.items ≡ unanswered d
     → ((owner : ℕ) → kept_for desk'.kept.of_owners.entries owner ≡ flat_map (replies_in owner) past.earlier ++ replies_in owner d) → desk'.is_over ≡ is_some d.fault → IsAfter (record past { now = d }) desk'
-heard_so past desk desk' d a s same left awaited begun kept over = record {
+heard_so past desk desk' d a s same left awaited kept over = record {
   now = s.now;
   earlier = a.earlier;
   asked = same.asked ∙ a.asked;
   waiting = same.waiting ∙ a.waiting;
   awaited = awaited;
   left = same.left ∙ a.left ∙ sym left;
-  begun = λ still. begun (omega (arith, still, left));
   kept = kept;
   over = over;
   next = s.next;
@@ -153,7 +149,7 @@ pub after_more : (past : Past) (desk desk' : Desk) (bytes : List ℕ) (a : IsAft
     → HoldsNext (due_in past) desk'.reader (a.now.part ++ bytes) → IsAfter (past_heard bytes None past) desk'
 after_more past desk desk' bytes a hearing same awaited kept over held =
     heard_so past desk desk' (record past.now { came = past.now.came ++ bytes }) a (standing_more past.now desk'.reader a.now bytes (no_fault desk.is_over past.now.fault a.over hearing) held) same refl
-    (awaited ∙ a.awaited) a.begun (λ owner. ap (λ k. kept_for k.of_owners.entries owner) kept ∙ a.kept owner) (over ∙ a.over)
+    (awaited ∙ a.awaited) (λ owner. ap (λ k. kept_for k.of_owners.entries owner) kept ∙ a.kept owner) (over ∙ a.over)
 
 pub after_whole : (past : Past) (desk desk' : Desk) (bytes : List ℕ) (ask : Ask) (answer : Reply) (a : IsAfter past desk) → desk.is_over ≡ false → SameAsks desk desk' → due_in past ≡ Some ask → desk'.awaited.items ≡ drop 1 desk.awaited.items
     → ((owner : ℕ) → kept_for desk'.kept.of_owners.entries owner ≡ kept_for desk.kept.of_owners.entries owner ++ answer_for owner (due_of ask) answer) → desk'.is_over ≡ desk.is_over → IsReplyFor ask.most (a.now.part ++ bytes) answer → IsBlank desk'.reader
@@ -162,15 +158,15 @@ after_whole past desk desk' bytes ask answer a hearing same due awaited kept ove
     let d = due_first past.now.left (unanswered past.now) ask due in
     let left : drop (length (past.now.replies ++ answer ∷ [])) past.now.told ≡ d.rest = rest_of past.now.told d.rest past.now.replies ask answer d.is in
     heard_so past desk desk' (record past.now { came = past.now.came ++ bytes; replies = past.now.replies ++ answer ∷ [] }) a
-    (standing_whole past.now desk'.reader a.now bytes ask d.rest answer (no_fault desk.is_over past.now.fault a.over hearing) d.is whole blank) same refl
-    (awaited ∙ ap (drop 1) a.awaited ∙ ap (drop 1) d.is ∙ sym left) (λ still e. d.more still (sym left ∙ e))
+    (standing_whole past.now desk'.reader a.now bytes ask d.rest answer (no_fault desk.is_over past.now.fault a.over hearing) d.is d.more whole blank) same refl
+    (awaited ∙ ap (drop 1) a.awaited ∙ ap (drop 1) d.is ∙ sym left)
     (λ owner. kept_more owner past ask d.rest answer (kept_for desk.kept.of_owners.entries owner) (kept_for desk'.kept.of_owners.entries owner) d.is (a.kept owner) (kept owner)) (over ∙ a.over)
 
 pub after_over : (past : Past) (desk desk' : Desk) (bytes : List ℕ) (fault : DeskFault) (a : IsAfter past desk) → SameAsks desk desk' → desk'.awaited.items ≡ desk.awaited.items
     → ((owner : ℕ) → kept_for desk'.kept.of_owners.entries owner ≡ kept_for desk.kept.of_owners.entries owner) → desk'.is_over ≡ true → IsBehind (Some fault) (due_in past) (a.now.part ++ bytes) → IsAfter (past_over bytes fault past) desk'
 after_over past desk desk' bytes fault a same awaited kept over behind =
     heard_so past desk desk' (record past.now { came = past.now.came ++ bytes; fault = Some fault }) a (standing_over past.now desk'.reader a.now bytes fault behind) same refl
-    (awaited ∙ a.awaited) a.begun (λ owner. kept owner ∙ a.kept owner) over
+    (awaited ∙ a.awaited) (λ owner. kept owner ∙ a.kept owner) over
 
 -- ---- an owner forsook
 
@@ -187,7 +183,6 @@ after_forsaken past desk desk' owner a asked waiting awaited left over own other
       waiting = waiting ∙ ap (filter (λ (ask : Ask). not (is_asked_by owner ask))) a.waiting;
       awaited = awaited ∙ ap (map (disowned owner)) a.awaited ∙ sym (unanswered_forsaken owner past.now);
       left = left ∙ a.left;
-      begun = λ still e. begun_forsaken owner (unanswered past.now) (a.begun still) (sym (unanswered_forsaken owner past.now) ∙ e);
       kept = λ other. by_case other (eqb other owner) refl;
       over = over ∙ a.over;
       next = s.next;
@@ -216,7 +211,6 @@ after_ended past desk desk' a asked waiting awaited left over kept blank =
       waiting = waiting ∙ a.waiting;
       awaited = awaited;
       left = left;
-      begun = λ still. absurd (omega (arith, still));
       kept = λ owner. ap (λ k. kept_for k.of_owners.entries owner) kept ∙ a.kept owner ∙ sym (all_earlier owner past.earlier past.now);
       over = over;
       next = s.next;
@@ -232,7 +226,6 @@ after_nothing_yet desk asked waiting awaited left over kept blank =
       waiting = waiting;
       awaited = awaited;
       left = left;
-      begun = λ still. absurd (omega (arith, still));
       kept = kept;
       over = over;
       next = s.next;
@@ -262,8 +255,8 @@ last_is (one ∷ other ∷ asks) ask some is = last_is (other ∷ asks) ask (not
 pub last_awaited : (past : Past) (desk : Desk) (ask : Ask) → IsAfter past desk → 0 < desk.left → ask ≡ get_or desk.awaited.items (length desk.awaited.items - 1) ask → last_ask past.now.told ≡ Some ask
 last_awaited past desk ask a some is =
     let still : 0 < past.now.left = omega (arith, some, a.left) in
-    sym (last_dropped (length past.now.replies) past.now.told (a.begun still))
-    ∙ last_is (unanswered past.now) ask (a.begun still) (subst (λ (l : List Ask). ask ≡ get_or l (length l - 1) ask) a.awaited is)
+    sym (last_dropped (length past.now.replies) past.now.told (a.now.written still))
+    ∙ last_is (unanswered past.now) ask (a.now.written still) (subst (λ (l : List Ask). ask ≡ get_or l (length l - 1) ask) a.awaited is)
 
 -- the last one of a queue, by what `back` gives
 back_is : (r : Option (Bor Ask)) (items : List Ask) (n : ℕ) → (IsSome r ↔ (0 < n)) → IfSome r (λ x. x.now ≡ get_or items (n - 1) x.now) → n ≡ length items → 0 < n → (ask : Ask) × (option_copied r ≡ Some ask) × (ask ≡ get_or items (length items - 1) ask)
@@ -280,7 +273,7 @@ pub next_of_begun : (past : Past) (desk : Desk) (r : Option (Bor Ask)) (n k : �
 next_of_begun past desk r n k command a begun variant lookup long command_is k_is =
     let some : 0 < desk.left = omega (arith, begun) in
     let still : 0 < past.now.left = omega (arith, some, a.left) in
-    let awaits : 0 < n = omega (arith, long, ap length a.awaited, some_awaited (unanswered past.now) (a.begun still)) in
+    let awaits : 0 < n = omega (arith, long, ap length a.awaited, some_awaited (unanswered past.now) (a.now.written still)) in
     let b = back_is r desk.awaited.items n variant lookup long awaits in
     let told : last_ask past.now.told ≡ option_copied r = last_awaited past desk b.0 a some b.2 ∙ sym b.1 in
     let mine : command ≡ command_in (last_ask past.now.told) = command_is ∙ ap command_in (sym told) in

@@ -157,6 +157,10 @@ unanswered_forsaken owner d = drop-map (disowned owner) (length d.replies) d.tol
 pub due_of_forsaken : (owner : ℕ) (d : Dialogue) → next_due d.left (unanswered (forsaken_in owner d)) ≡ option_map (disowned owner) (next_due d.left (unanswered d))
 due_of_forsaken owner d = ap (next_due d.left) (unanswered_forsaken owner d) ∙ due_forsaken owner d.left (unanswered d)
 
+pub begun_forsaken : (owner : ℕ) (asks : List Ask) → asks ≢ [] → map (disowned owner) asks ≢ []
+begun_forsaken owner [] some e = some refl
+begun_forsaken owner (ask ∷ asks) some e = not_none (disowned owner ask) (map (disowned owner) asks) e
+
 pub dialogue_forsaken : (owner : ℕ) (d : Dialogue) → IsInOrder d → IsInOrder (forsaken_in owner d)
 dialogue_forsaken owner d o = record {
   front = o.front;
@@ -164,6 +168,7 @@ dialogue_forsaken owner d o = record {
   came = o.came;
   spelled = o.spelled;
   short = in_order_forsaken owner d.told d.replies o.short;
+  written = λ some e. begun_forsaken owner (unanswered d) (o.written some) (sym (unanswered_forsaken owner d) ∙ e);
   left = subst (λ (due : Option Ask). IsBehind d.fault due o.part) (sym (due_of_forsaken owner d)) (behind_forsaken owner d.fault (next_due d.left (unanswered d)) o.part o.left);
 }
 
@@ -174,7 +179,3 @@ earlier_forsaken owner (d ∷ ds) all = (dialogue_forsaken owner d all.0, earlie
 pub earlier_more : (ds : List Dialogue) (d : Dialogue) → AllByRecursion IsInOrder ds → IsInOrder d → AllByRecursion IsInOrder (ds ++ d ∷ [])
 earlier_more [] d all one = (one, tt)
 earlier_more (first ∷ ds) d all one = (all.0, earlier_more ds d all.1 one)
-
-pub begun_forsaken : (owner : ℕ) (asks : List Ask) → asks ≢ [] → map (disowned owner) asks ≢ []
-begun_forsaken owner [] some e = some refl
-begun_forsaken owner (ask ∷ asks) some e = not_none (disowned owner ask) (map (disowned owner) asks) e

@@ -1,5 +1,5 @@
 -- What each call does to a connection that stands.
-use Rattle.std.proofs.Common.{◌≡◌, ◌<◌, ℕ, Bool, true, false, cond, List, [], ◌∷◌, ◌++◌, length, drop, refl, sym, ap, subst, ◌∙◌, append-nil, append_assoc, arith, Option, Some, None, is_some}
+use Rattle.std.proofs.Common.{◌≡◌, ◌≢◌, ◌<◌, ℕ, Bool, true, false, cond, List, [], ◌∷◌, ◌++◌, length, drop, refl, sym, ap, subst, ◌∙◌, append-nil, append_assoc, arith, Option, Some, None, is_some}
 use Rattle.std.specs.Prelude.{is_none}
 use Rattle.std.specs.Option.{option_map}
 use Rattle.std.specs.List.{flat_map}
@@ -14,7 +14,7 @@ use Rattle.ask_desk.specs.Dialogue.{Dialogue, silence, unanswered, AnswerInOrder
 use Rattle.ask_desk.specs.Past.{Past, answers_in}
 use Rattle.ask_desk.specs.Reading.{IsHeld, IsBlank, IsReplyFor, IsStoppedBy, HoldsNext}
 use Rattle.ask_desk.proofs.Contents.{blank_next}
-use Rattle.ask_desk.proofs.Orders.{spelled_more, in_order_more, in_order_told, unanswered_told, next_told, next_written, next_behind, in_order_forsaken, behind_forsaken, due_of_forsaken}
+use Rattle.ask_desk.proofs.Orders.{rest_of, spelled_more, in_order_more, in_order_told, unanswered_told, next_told, next_written, next_behind, in_order_forsaken, behind_forsaken, due_of_forsaken, not_nothing, begun_forsaken, unanswered_forsaken}
 use Rattle.ask_desk.proofs.Owners.{to_more, to_told}
 
 -- a connection is in order, and what came of the next reply is held
@@ -29,7 +29,7 @@ no_fault over (Some fault) is hearing = absurd (let e : true ≡ false = sym is 
 
 pub standing_silence : (reader : Reader) → IsBlank reader → Standing silence reader
 standing_silence reader blank = record {
-  now = record { front = []; part = []; came = refl; spelled = refl; short = tt; left = refl };
+  now = record { front = []; part = []; came = refl; spelled = refl; short = tt; written = λ some. absurd (omega (arith, some)); left = refl };
   next = λ none. (blank, refl);
 }
 
@@ -44,6 +44,7 @@ came_so d reader o bytes fault behind held = record {
     came = ap (λ (l : List ℕ). l ++ bytes) o.came ∙ append_assoc o.front o.part bytes;
     spelled = o.spelled;
     short = o.short;
+    written = o.written;
     left = behind;
   };
   next = held;
@@ -54,9 +55,9 @@ pub standing_more : (d : Dialogue) (reader : Reader) (o : IsInOrder d) (bytes : 
 standing_more d reader o bytes none held =
     came_so d reader o bytes d.fault (subst (λ f. IsBehind f (next_due d.left (unanswered d)) (o.part ++ bytes)) (sym none) (next_behind (next_due d.left (unanswered d)) reader (o.part ++ bytes) held)) (λ hearing. held)
 
-pub standing_whole : (d : Dialogue) (reader : Reader) (o : IsInOrder d) (bytes : List ℕ) (ask : Ask) (rest : List Ask) (answer : Reply) → d.fault ≡ None → unanswered d ≡ ask ∷ rest → IsReplyFor ask.most (o.part ++ bytes) answer → IsBlank reader
+pub standing_whole : (d : Dialogue) (reader : Reader) (o : IsInOrder d) (bytes : List ℕ) (ask : Ask) (rest : List Ask) (answer : Reply) → d.fault ≡ None → unanswered d ≡ ask ∷ rest → (0 < d.left → rest ≢ []) → IsReplyFor ask.most (o.part ++ bytes) answer → IsBlank reader
     → Standing (record d { came = d.came ++ bytes; replies = d.replies ++ answer ∷ [] }) reader
-standing_whole d reader o bytes ask rest answer none left whole blank =
+standing_whole d reader o bytes ask rest answer none left more whole blank =
     let due = next_due d.left (drop (length (d.replies ++ answer ∷ [])) d.told) in
     record {
       now = record {
@@ -65,6 +66,7 @@ standing_whole d reader o bytes ask rest answer none left whole blank =
         came = ap (λ (l : List ℕ). l ++ bytes) o.came ∙ append_assoc o.front o.part bytes ∙ sym (append-nil (o.front ++ (o.part ++ bytes)));
         spelled = spelled_more d.replies answer o.front (o.part ++ bytes) o.spelled whole.0;
         short = in_order_more d.told rest d.replies ask answer o.short left whole.1;
+        written = λ some e. more some (sym (rest_of d.told rest d.replies ask answer left) ∙ e);
         left = subst (λ f. IsBehind f due []) (sym none) (next_behind due reader [] (blank_next due reader blank));
       };
       next = λ hearing. blank_next due reader blank;
@@ -91,14 +93,15 @@ unasked_behind due part bytes none empty some = (
 -- ---- bytes were written
 
 -- what was told is more, or more of it was written, and the next reply is held as before
-told_so : (d : Dialogue) (told : List Ask) (left : ℕ) (reader : Reader) (o : IsInOrder d) → d.fault ≡ None → AnswerInOrder told d.replies → HoldsNext (next_due left (drop (length d.replies) told)) reader o.part → Standing (record d { told = told; left = left }) reader
-told_so d told left reader o none short held = record {
+told_so : (d : Dialogue) (told : List Ask) (left : ℕ) (reader : Reader) (o : IsInOrder d) → d.fault ≡ None → AnswerInOrder told d.replies → (0 < left → drop (length d.replies) told ≢ []) → HoldsNext (next_due left (drop (length d.replies) told)) reader o.part → Standing (record d { told = told; left = left }) reader
+told_so d told left reader o none short written held = record {
   now = record {
     front = o.front;
     part = o.part;
     came = o.came;
     spelled = o.spelled;
     short = short;
+    written = written;
     left = subst (λ f. IsBehind f (next_due left (drop (length d.replies) told)) o.part) (sym none) (next_behind (next_due left (drop (length d.replies) told)) reader o.part held);
   };
   next = λ hearing. held;
@@ -107,12 +110,13 @@ told_so d told left reader o none short held = record {
 pub standing_told : (d : Dialogue) (reader : Reader) (s : Standing d reader) (ask : Ask) (left : ℕ) → d.fault ≡ None → d.left ≡ 0 → Standing (record d { told = d.told ++ ask ∷ []; left = left }) reader
 standing_told d reader s ask left none zero_left =
     told_so d (d.told ++ ask ∷ []) left reader s.now none (in_order_told d.told (ask ∷ []) d.replies s.now.short)
+    (λ some e. not_nothing (unanswered d) ask (sym (unanswered_told d.told (ask ∷ []) d.replies s.now.short) ∙ e))
     (subst (λ (l : List Ask). HoldsNext (next_due left l) reader s.now.part) (sym (unanswered_told d.told (ask ∷ []) d.replies s.now.short))
     (next_told left (unanswered d) ask reader s.now.part (subst (λ n. HoldsNext (next_due n (unanswered d)) reader s.now.part) zero_left (s.next none))))
 
 pub standing_written : (d : Dialogue) (reader : Reader) (s : Standing d reader) (fewer : ℕ) → d.fault ≡ None → 0 < d.left → Standing (record d { left = fewer }) reader
 standing_written d reader s fewer none some =
-    told_so d d.told fewer reader s.now none s.now.short (next_written d.left fewer (unanswered d) reader s.now.part some (s.next none))
+    told_so d d.told fewer reader s.now none s.now.short (λ still. s.now.written some) (next_written d.left fewer (unanswered d) reader s.now.part some (s.next none))
 
 -- ---- an owner forsook
 
@@ -125,6 +129,7 @@ standing_forsaken owner d reader reader' s holds = record {
     came = s.now.came;
     spelled = s.now.spelled;
     short = in_order_forsaken owner d.told d.replies s.now.short;
+    written = λ some e. begun_forsaken owner (unanswered d) (s.now.written some) (sym (unanswered_forsaken owner d) ∙ e);
     left = subst (λ (due : Option Ask). IsBehind d.fault due s.now.part) (sym (due_of_forsaken owner d)) (behind_forsaken owner d.fault (next_due d.left (unanswered d)) s.now.part s.now.left);
   };
   next = λ hearing. subst (λ (due : Option Ask). HoldsNext due reader' s.now.part) (sym (due_of_forsaken owner d)) (holds s.now.part (s.next hearing));

@@ -24,7 +24,6 @@ pub record IsAfter (past : Past) (desk : Desk) : Type 0 where
   pub waiting : desk.waiting.items ≡ past.waiting
   pub awaited : desk.awaited.items ≡ unanswered past.now
   pub left : desk.left ≡ past.now.left
-  pub begun : 0 < past.now.left → unanswered past.now ≢ []
   pub kept : (owner : ℕ) → kept_for desk.kept.of_owners.entries owner ≡ answers_in owner past
   pub over : desk.is_over ≡ is_some past.now.fault
   pub next : past.now.fault ≡ None → HoldsNext (due_in past) desk.reader now.part

@@ -1,5 +1,5 @@
 -- One connection since it was greeted.
-use Rattle.std.specs.Prelude.{◌≡◌, ◌≢◌, ℕ, List, [], ◌∷◌, ◌++◌, length, map, drop, if◌then◌else◌, IsSome, IsSomeAnd, Option, Some, None}
+use Rattle.std.specs.Prelude.{◌≡◌, ◌≢◌, ◌<◌, ℕ, List, [], ◌∷◌, ◌++◌, length, map, drop, if◌then◌else◌, IsSome, IsSomeAnd, Option, Some, None}
 use Rattle.resp.specs.declared.reply.Reply.{Reply}
 use Rattle.resp.specs.Spelled.{SpellsReply, SpellsAll}
 use Rattle.ask_desk.specs.declared.ask.Ask.{Ask}
@@ -42,13 +42,14 @@ IsBehind (Some NoReply) due part = IsSome due × IsNoReply part
 IsBehind (Some NoMemory) due part = Unit {0}
 
 -- All that came since the connection was greeted are the replies, one behind the other, the first one to what was told first,
--- and what is left.
+-- and what is left; and of an ask that is answered no byte is left to be written.
 pub record IsInOrder (d : Dialogue) : Type 0 where
   pub front : List ℕ
   pub part : List ℕ
   pub came : d.came ≡ front ++ part
   pub spelled : SpellsAll (SpellsReply reply_limits) d.replies front
   pub short : AnswerInOrder d.told d.replies
+  pub written : 0 < d.left → unanswered d ≢ []
   pub left : IsBehind d.fault (next_due d.left (unanswered d)) part
 
 -- the replies that stand at the places of this owner's asks
