@@ -29,7 +29,11 @@ fn write_all(alloc: Global, desk: &mut Desk, most: usize) -> Result<Vec<u8>, Fai
 }
 
 /// Hears all of these bytes, and gives the owners whose replies came.
-fn hear_all(alloc: Global, desk: &mut Desk, bytes: &[u8]) -> Result<Result<Vec<u64>, DeskFault>, Fail> {
+fn hear_all(
+    alloc: Global,
+    desk: &mut Desk,
+    bytes: &[u8],
+) -> Result<Result<Vec<u64>, DeskFault>, Fail> {
     let mut owners = Vec::new(alloc);
     let mut rest = bytes;
     while !rest.is_empty() {
@@ -66,14 +70,21 @@ fn replies_are_cut_wherever_they_break(rt: HostRuntime) -> Result<(), Fail> {
             let _ticket = ask(alloc, &mut desk, owner, b"command", 5)?;
         }
         let written = write_all(alloc, &mut desk, 3)?;
-        assert_eq!(rt; written.as_slice(), b"commandcommandcommandcommandcommand".as_slice());
+        assert_eq!(rt;
+            written.as_slice(),
+            b"commandcommandcommandcommandcommand".as_slice()
+        );
         let first = hear_all(alloc, &mut desk, &REPLIES[..cut])?.or(Err("a fault"))?;
         let second = hear_all(alloc, &mut desk, &REPLIES[cut..])?.or(Err("a fault"))?;
         assert_eq!(rt; first.len() + second.len(), 5);
         let wanted: [&[u8]; 5] = [b"ab\r\nc", b"(integer)", b"(null)", b"(error)", b""];
         for owner in 0..5 {
             assert_eq!(rt; bulk_of(&desk, owner, owner), wanted[owner as usize]);
-            assert_eq!(rt; bulk_of(&desk, owner, owner), wanted[owner as usize], "it stays");
+            assert_eq!(rt;
+                bulk_of(&desk, owner, owner),
+                wanted[owner as usize],
+                "it stays"
+            );
             assert!(rt; desk.reply(owner + 1, owner).is_none());
         }
     }
@@ -90,7 +101,10 @@ fn what_is_forsaken_is_neither_told_nor_kept(rt: HostRuntime) -> Result<(), Fail
     desk.wrote(1).or(Err("refused"))?;
     desk.forsake(1);
     // one byte of it was written, so the others are too
-    assert_eq!(rt; write_all(alloc, &mut desk, 100)?.as_slice(), b"ne.two.".as_slice());
+    assert_eq!(rt;
+        write_all(alloc, &mut desk, 100)?.as_slice(),
+        b"ne.two.".as_slice()
+    );
     let owners = hear_all(alloc, &mut desk, b"$3\r\nabc\r\n$3\r\ndef\r\n")?.or(Err("a fault"))?;
     assert_eq!(rt; owners.as_slice(), [2].as_slice());
     assert_eq!(rt; bulk_of(&desk, 1, first), b"(none)".as_slice());
@@ -133,12 +147,18 @@ fn what_is_no_reply_ends_the_connection(rt: HostRuntime) -> Result<(), Fail> {
         let _written = write_all(alloc, &mut desk, 100)?;
         assert_eq!(rt; hear_all(alloc, &mut desk, bytes)?.err(), Some(fault));
         assert!(rt; desk.is_over());
-        assert_eq!(rt; desk.reply(1, ticket).is_some(), fault == DeskFault::Unasked);
+        assert_eq!(rt;
+            desk.reply(1, ticket).is_some(),
+            fault == DeskFault::Unasked
+        );
     }
     let mut desk = Desk::new(alloc);
     let _ticket = ask(alloc, &mut desk, 1, b"one", 3)?;
     desk.wrote(2).or(Err("refused"))?;
-    assert_eq!(rt; hear_all(alloc, &mut desk, b"+OK\r\n")?.err(), Some(DeskFault::Unasked));
+    assert_eq!(rt;
+        hear_all(alloc, &mut desk, b"+OK\r\n")?.err(),
+        Some(DeskFault::Unasked)
+    );
     Ok(())
 }
 
@@ -155,7 +175,10 @@ fn what_was_told_is_told_again(rt: HostRuntime) -> Result<(), Fail> {
     for asked in desk.end() {
         let _done = desk.again(asked)?;
     }
-    assert_eq!(rt; write_all(alloc, &mut desk, 100)?.as_slice(), b"moretwo.".as_slice());
+    assert_eq!(rt;
+        write_all(alloc, &mut desk, 100)?.as_slice(),
+        b"moretwo.".as_slice()
+    );
     let owners = hear_all(alloc, &mut desk, b"$1\r\nb\r\n$1\r\nc\r\n")?.or(Err("a fault"))?;
     assert_eq!(rt; owners.as_slice(), [3, 2].as_slice());
     assert_eq!(rt; bulk_of(&desk, 1, first), b"a".as_slice());
