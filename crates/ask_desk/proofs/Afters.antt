@@ -15,7 +15,7 @@ use Rattle.ask_desk.specs.Past.{Past, no_past, past_asked, past_again, past_begu
 use Rattle.ask_desk.specs.Kept.{kept_for}
 use Rattle.ask_desk.specs.Reading.{IsBlank, IsReplyFor, HoldsNext}
 use Rattle.ask_desk.specs.After.{IsAfter}
-use Rattle.ask_desk.proofs.Orders.{rest_of, unanswered_told, not_nothing, unanswered_forsaken, earlier_forsaken, earlier_more, begun_forsaken, not_none, due_first}
+use Rattle.ask_desk.proofs.Orders.{rest_of, unanswered_told, unanswered_forsaken, earlier_forsaken, earlier_more, not_none, due_first}
 use Rattle.ask_desk.proofs.Owners.{none_of_forsaken, all_of_others, all_earlier}
 use Rattle.ask_desk.proofs.Pasts.{Standing, no_fault, standing_silence, standing_more, standing_whole, standing_over, standing_told, standing_written, standing_forsaken, kept_more, kept_told}
 

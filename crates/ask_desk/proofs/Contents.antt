@@ -1,5 +1,5 @@
 -- Contents of bulk strings.
-use Rattle.std.proofs.Common.{◌≡◌, ◌≢◌, ◌<◌, ◌≤◌, ◌+◌, ◌-◌, ℕ, Bool, true, false, cond, List, [], ◌∷◌, ◌++◌, length, take, drop, get_or, refl, sym, ap, subst, ◌∙◌, append-nil, append_assoc, arith, inl, inr, replicate, Option, Some, None, is_some}
+use Rattle.std.proofs.Common.{◌≡◌, ◌<◌, ◌≤◌, ◌+◌, ◌-◌, ℕ, Bool, true, false, cond, List, [], ◌∷◌, ◌++◌, length, take, get_or, refl, sym, ap, subst, ◌∙◌, append-nil, append_assoc, arith, inl, inr, replicate, Option, Some, None, is_some}
 use Rattle.std.proofs.lemmas.Bool.{cases_lt}
 use Rattle.std.proofs.lemmas.List.{length-append, length-replicate}
 use Rattle.resp.specs.Command.{line, line_end}
@@ -8,7 +8,7 @@ use Rattle.resp.specs.declared.reply.Item.TheVariants as item
 use Rattle.resp.specs.declared.reply.Reply.TheVariants as reply
 use Rattle.ask_desk.specs.declared.ask.Ask.{Ask}
 use Rattle.ask_desk.specs.declared.reader.Reader.{Reader}
-use Rattle.ask_desk.specs.CameIn.{reply_limits, BeginsBulk, IsTooLong, IsNoReply, IsPart}
+use Rattle.ask_desk.specs.CameIn.{reply_limits, BeginsBulk, IsTooLong, IsPart}
 use Rattle.ask_desk.specs.Reading.{IsOfBulk, IsHeldAs, IsHeld, IsBlank, IsReplyFor, IsStepTo, HoldsNext, content_read, return_of}
 use Rattle.ask_desk.proofs.Lines.{begun_nothing, no_bulk_nothing, one_length, Lined}
 
@@ -67,21 +67,6 @@ content_more keeps most len held kept kept' count more returned part piece o les
 
 -- ---- its end comes
 
-pub returned_now : (keeps : Bool) (most len : ℕ) (held kept : List ℕ) (count : ℕ) (part : List ℕ) → IsOfBulk keeps most len held kept count false part → len ≤ count
-    → IsOfBulk keeps most len held kept count true (part ++ 13 ∷ [])
-returned_now keeps most len held kept count part o all = record {
-  digits = o.digits;
-  content = o.content;
-  held_is = o.held_is;
-  writes = o.writes;
-  short = o.short;
-  count_is = o.count_is;
-  within = o.within;
-  closing = λ e. omega (arith, o.within, all);
-  part_is = ap (λ (l : List ℕ). l ++ 13 ∷ []) (o.part_is ∙ append-nil (held ++ o.content));
-  kept_is = o.kept_is;
-}
-
 -- all bytes of a bulk string, and what stands behind its content
 behind_content : (keeps : Bool) (most len : ℕ) (held kept : List ℕ) (count : ℕ) (returned : Bool) (part bytes : List ℕ) (o : IsOfBulk keeps most len held kept count returned part)
     → part ++ bytes ≡ line 36 o.digits ++ o.content ++ (return_of returned ++ bytes)
@@ -91,25 +76,6 @@ behind_content keeps most len held kept count returned part bytes o =
 
 content_length : (keeps : Bool) (most len : ℕ) (held kept : List ℕ) (count : ℕ) (returned : Bool) (part : List ℕ) (o : IsOfBulk keeps most len held kept count returned part) → len ≤ count → length o.content ≡ len
 content_length keeps most len held kept count returned part o all = omega (arith, o.count_is, o.within, all)
-
-not_closed : (keeps : Bool) (most len : ℕ) (held kept : List ℕ) (count : ℕ) (returned : Bool) (part bytes : List ℕ) → IsOfBulk keeps most len held kept count returned part → len ≤ count
-    → ((more rest : List ℕ) → (return_of returned ++ bytes) ++ more ≡ line_end ++ rest → ⊥) → IsNoReply (part ++ bytes)
-not_closed keeps most len held kept count returned part bytes o all no_end = inr (record {
-  digits = o.digits;
-  content = o.content;
-  behind = return_of returned ++ bytes;
-  writes = subst (λ n. Writes reply_limits reply_limits.bulk o.digits n) (sym (content_length keeps most len held kept count returned part o all)) o.writes;
-  bytes_are = behind_content keeps most len held kept count returned part bytes o;
-  no_end = no_end;
-})
-
-pub no_return : (keeps : Bool) (most len : ℕ) (held kept : List ℕ) (count : ℕ) (part : List ℕ) (byte : ℕ) (rest : List ℕ) → IsOfBulk keeps most len held kept count false part → len ≤ count → byte ≢ 13 → IsNoReply (part ++ byte ∷ rest)
-no_return keeps most len held kept count part byte rest o all other =
-    not_closed keeps most len held kept count false part (byte ∷ rest) o all (λ more behind e. other (let first : byte ≡ 13 = cc in first))
-
-pub no_line_feed : (keeps : Bool) (most len : ℕ) (held kept : List ℕ) (count : ℕ) (part : List ℕ) (byte : ℕ) (rest : List ℕ) → IsOfBulk keeps most len held kept count true part → len ≤ count → byte ≢ 10 → IsNoReply (part ++ byte ∷ rest)
-no_line_feed keeps most len held kept count part byte rest o all other =
-    not_closed keeps most len held kept count true part (byte ∷ rest) o all (λ more behind e. other (let second : byte ≡ 10 = cc in second))
 
 -- it is whole
 pub content_whole : (keeps : Bool) (most len : ℕ) (held kept : List ℕ) (count : ℕ) (part : List ℕ) (o : IsOfBulk keeps most len held kept count true part) → len ≤ count
@@ -214,11 +180,6 @@ next_part (Some ask) reader part h = held_part (is_some ask.owner) ask.most read
 pub blank_next : (due : Option Ask) (reader : Reader) → IsBlank reader → HoldsNext due reader []
 blank_next None reader b = (b, refl)
 blank_next (Some ask) reader b = held_line (is_some ask.owner) ask.most reader b
-
--- the first byte, and the others
-pub first_byte : (bytes : List ℕ) (byte : ℕ) → 0 < length bytes → byte ≡ get_or bytes 0 byte → bytes ≡ byte ∷ drop 1 bytes
-first_byte [] byte some is = absurd (omega (arith, some))
-first_byte (x ∷ rest) byte some is = ap (λ n. n ∷ rest) (sym is)
 
 pub take_first : (bytes : List ℕ) (byte : ℕ) → 0 < length bytes → get_or bytes 0 0 ≡ byte → take 1 bytes ≡ byte ∷ []
 take_first [] byte some is = absurd (omega (arith, some))

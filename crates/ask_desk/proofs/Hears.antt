@@ -1,5 +1,5 @@
 -- What hearing bytes leads to.
-use Rattle.std.proofs.Common.{◌≡◌, ◌<◌, ℕ, Bool, true, false, List, ◌++◌, length, take, drop, refl, sym, ap, subst, ◌∙◌, Option, Some, None, is_some, Result, Ok, Err}
+use Rattle.std.proofs.Common.{◌≡◌, ℕ, Bool, true, false, List, ◌++◌, take, drop, refl, sym, ap, subst, ◌∙◌, Option, Some, None, is_some, Result, Ok, Err}
 use Rattle.std.specs.Prelude.{is_err, OnErr, OnOk}
 use Rattle.std.proofs.lemmas.Bool.{false≢true}
 use Rattle.std.specs.Option.{option_map}
@@ -8,15 +8,14 @@ use Rattle.ask_desk.specs.declared.ask.Ask.{Ask}
 use Rattle.ask_desk.specs.declared.desk.Desk.{Desk}
 use Rattle.ask_desk.specs.declared.desk.Due.{Due}
 use Rattle.ask_desk.specs.declared.fault.DeskFault.{DeskFault}
-use Rattle.ask_desk.specs.declared.fault.DeskFault.TheVariants.{Unasked}
 use Rattle.ask_desk.specs.declared.reader.Read.TheVariants.{More, Whole, Skipped}
 use Rattle.ask_desk.specs.Asks.{next_due, due_of, answer_for}
 use Rattle.ask_desk.specs.Past.{Past, past_over, due_in}
 use Rattle.ask_desk.specs.Kept.{kept_for}
 use Rattle.ask_desk.specs.Reading.{IsHeld, IsStep, IsStoppedBy, IsReplyFor, HoldsNext}
 use Rattle.ask_desk.specs.After.{IsAfter, IsHeard, owner_answered}
-use Rattle.ask_desk.proofs.Orders.{none_due, some_due}
-use Rattle.ask_desk.proofs.Pasts.{no_fault, stopped_behind, unasked_behind, kept_none}
+use Rattle.ask_desk.proofs.Orders.{some_due}
+use Rattle.ask_desk.proofs.Pasts.{no_fault, stopped_behind, kept_none}
 use Rattle.ask_desk.proofs.Afters.{SameAsks, after_more, after_whole, after_over}
 
 -- what is said of a failure, or of a success, where it is one
@@ -108,15 +107,3 @@ pub hears_no_more : (past : Past) (desk desk' : Desk) (a : IsAfter past desk) (b
 hears_no_more past desk desk' a bytes due keeps fault e stopped same awaited kept over =
     after_over past desk desk' bytes fault a same awaited kept over
     (stopped_behind fault (due_in past) e.ask (a.now.part ++ bytes) e.is (subst (λ (d : Due). IsStoppedBy d.most (a.now.part ++ bytes) fault) e.due_is stopped))
-
--- nobody awaits a reply
-pub hears_unasked : (past : Past) (desk desk' : Desk) (a : IsAfter past desk) (bytes : List ℕ) → desk.is_over ≡ false → None ≡ option_map due_of (next_due desk.left desk.awaited.items) → 0 < length bytes → SameAsks desk desk'
-    → desk'.awaited.items ≡ desk.awaited.items → desk'.kept ≡ desk.kept → desk'.is_over ≡ true → IsAfter (past_over bytes Unasked past) desk'
-hears_unasked past desk desk' a bytes hearing is some same awaited kept over =
-    let none : due_in past ≡ None = nobody (due_in past) (is ∙ ap (option_map due_of) (same_due past desk a)) in
-    after_over past desk desk' bytes Unasked a same awaited (λ owner. ap (λ k. kept_for k.of_owners.entries owner) kept) over
-    (unasked_behind (due_in past) a.now.part bytes none (none_due (due_in past) desk.reader a.now.part (a.next (no_fault desk.is_over past.now.fault a.over hearing)) none) some)
-  where
-    nobody : (o : Option Ask) → None ≡ option_map due_of o → o ≡ None
-    nobody None e = refl
-    nobody (Some ask) e = absurd cc

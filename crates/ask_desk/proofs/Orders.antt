@@ -99,11 +99,6 @@ due_first left (first ∷ other ∷ asks) ask due =
     let same : first ≡ ask = cc in
     record { rest = other ∷ asks; is = ap (λ (a : Ask). a ∷ other ∷ asks) same; more = λ some. not_none other asks }
 
--- nobody awaits what comes
-pub none_due : (due : Option Ask) (reader : Reader) (part : List ℕ) → HoldsNext due reader part → due ≡ None → part ≡ []
-none_due None reader part h is = h.1
-none_due (Some ask) reader part h is = absurd cc
-
 pub some_due : (due : Option Ask) (ask : Ask) (reader : Reader) (part : List ℕ) → HoldsNext due reader part → due ≡ Some ask → IsHeld (is_some ask.owner) ask.most reader part
 some_due None ask reader part h is = absurd cc
 some_due (Some first) ask reader part h is =

@@ -84,12 +84,6 @@ stopped_behind TooLong (Some first) ask bytes is stopped =
 stopped_behind NoReply (Some first) ask bytes is stopped = (refl, stopped)
 stopped_behind NoMemory (Some first) ask bytes is stopped = tt
 
-pub unasked_behind : (due : Option Ask) (part bytes : List ℕ) → due ≡ None → part ≡ [] → 0 < length bytes → IsBehind (Some Unasked) due (part ++ bytes)
-unasked_behind due part bytes none empty some = (
-  none,
-  λ e. let all : bytes ≡ [] = ap (λ (l : List ℕ). l ++ bytes) (sym empty) ∙ e in let long = ap length all in absurd (omega (arith, long, some)),
-)
-
 -- ---- bytes were written
 
 -- what was told is more, or more of it was written, and the next reply is held as before
