@@ -1,0 +1,11 @@
+pub mod Lines
+pub mod Contents
+pub mod LineSteps
+pub mod Orders
+pub mod Owners
+pub mod Found
+pub mod Pasts
+pub mod Marks
+pub mod Afters
+pub mod Hears
+pub mod Cuts
