@@ -9,15 +9,17 @@ next upload, of 2,000 to 16,777,216 bytes, is to be 200.
 Rotten: each share of a file is cut or is no bytes at all. A read is 410; the same upload is 200, and the file is healthy.
 
 Hung: one server is stopped (SIGSTOP) as an upload of 16,777,216 bytes begins, and beside it small files whose bytes are in
-their cap are read all the time. Then all five are stopped, and a file is read that the program doesn't keep. No read of a small
-file may take longer than `--most` seconds (2.5): what one exchange may take without a byte is a second.
+their cap are read all the time. None may take longer than 5 seconds: the puts at the servers before it, and the second that an
+exchange may take without a byte. Then all five are stopped, and a file is read that the program doesn't keep. No small read may
+take longer than 10 seconds: those that were asked together take a second, and each that is asked again, since its rest of a
+second is over by then, one more.
 
 Slow: a proxy before one server gives a byte of its replies each half second. A read of a file, and one of a small file beside
 it, may take 7 seconds: an exchange has five, and two exchanges may be under way.
 
 All bytes that are compared were made here. It needs redis-server (Debian's package of that name).
 
-usage: bench/checks/slow_engines.py PROGRAM [--most SECONDS]
+usage: bench/checks/slow_engines.py PROGRAM
 """
 
 import argparse
@@ -39,7 +41,7 @@ SERVERS = 5
 LENGTHS = (2_000, 100_000, 2_000_000)
 LONG = 16_777_216
 SMALL = "URI:LIT:nbswy3dp"  # hello
-SLOW = 7
+HUNG, ALL_HUNG, SLOW = 5, 10, 7  # seconds
 
 
 class Drip:
@@ -102,9 +104,8 @@ class Beside:
 
 
 class Trial:
-    def __init__(self, program, folder, most):
+    def __init__(self, program, folder):
         self.program = program
-        self.most = most
         self.random = random.Random("slow engines")
         self.engines = [Engine(os.path.join(folder, "r%d" % at)) for at in range(SERVERS)]
         for engine in self.engines:
@@ -203,11 +204,11 @@ class Trial:
         self.engines[2].pause()
         began = time.monotonic()
         status, text = client.put(self.bytes(LONG))
-        self.within("one of five hangs, an upload of 16 MiB", time.monotonic() - began, 2 * self.most)
+        self.within("one of five hangs, an upload of 16 MiB", time.monotonic() - began, 2 * HUNG)
         self.wants("it", (status, text), (503, "store down"))
         cap, body = files[0]
         self.wants("a read without that server", client.get(cap), (200, body))
-        self.within("the longest wait beside it", beside.end(), self.most)
+        self.within("the longest wait beside it", beside.end(), HUNG)
         self.engines[2].resume()
         time.sleep(4)
         for engine in self.engines:
@@ -215,8 +216,8 @@ class Trial:
         beside = Beside(gate.address)
         began = time.monotonic()
         status, _text = client.get(files[1][0])
-        self.within("all five hang, a read", time.monotonic() - began, self.most)
-        self.within("the longest wait beside it", beside.end(), self.most)
+        self.within("all five hang, a read", time.monotonic() - began, ALL_HUNG)
+        self.within("the longest wait beside it", beside.end(), ALL_HUNG)
         for engine in self.engines:
             engine.resume()
         client.close()
@@ -250,10 +251,9 @@ class Trial:
 def main():
     parser = argparse.ArgumentParser()
     parser.add_argument("program")
-    parser.add_argument("--most", type=float, default=2.5)
     options = parser.parse_args()
     folder = tempfile.mkdtemp()
-    trial = Trial(options.program, folder, options.most)
+    trial = Trial(options.program, folder)
     try:
         trial.ended("servers that were started anew", trial.restart)
         trial.ended("connections that were closed", trial.close_clients)
