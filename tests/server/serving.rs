@@ -626,6 +626,7 @@ fn counts() -> Counts {
         failed: 4,
         late: 5,
         stopped: 6,
+        replaced: 28,
         refused: 7,
         starved: 8,
         kept: 25,
@@ -673,7 +674,7 @@ fn the_status_is_json(rt: HostRuntime) -> Result<(), Fail> {
     let text = status_text(rt.alloc(), None, &counts(), &tally(), STORES.as_slice())?;
     assert!(rt;
         text.as_str()
-            == "{\"connections\":{\"accept_paused\":8,\"failed\":4,\"late\":5,\"open\":1,\"opened\":2,\"over\":3,\"refused\":7,\"stopped\":6,\"waiting\":26},\"kept\":25,\"received\":9,\"replies\":{\"200\":14,\"206\":15,\"304\":27,\"400\":16,\"404\":17,\"405\":18,\"410\":19,\"413\":20,\"416\":21,\"501\":22,\"503\":23},\"sent\":10,\"stores\":[{\"failures\":13,\"held\":12,\"room\":11}],\"uptime_seconds\":24,\"version\":\"0.1.0\"}"
+            == "{\"connections\":{\"accept_paused\":8,\"failed\":4,\"late\":5,\"open\":1,\"opened\":2,\"over\":3,\"refused\":7,\"replaced\":28,\"stopped\":6,\"waiting\":26},\"kept\":25,\"received\":9,\"replies\":{\"200\":14,\"206\":15,\"304\":27,\"400\":16,\"404\":17,\"405\":18,\"410\":19,\"413\":20,\"416\":21,\"501\":22,\"503\":23},\"sent\":10,\"stores\":[{\"failures\":13,\"held\":12,\"room\":11}],\"uptime_seconds\":24,\"version\":\"0.1.0\"}"
     );
     Ok(())
 }

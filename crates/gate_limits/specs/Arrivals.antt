@@ -7,14 +7,14 @@ use Rattle.gate_limits.specs.declared.sockets.Arrival.TheVariants.{Socket, Gone,
 
 -- what it says of the acceptor
 abbrev pub came_of : Arrival → Accepted
-came_of (Socket stream) = One
+came_of (Socket stream peer) = One
 came_of Gone = One
 came_of Nobody = NobodyCame
 came_of Starved = StarvedCame
 
 -- a socket came
 abbrev pub IsSocket : Arrival → Type 0
-IsSocket (Socket stream) = ⊤
+IsSocket (Socket stream peer) = ⊤
 IsSocket Gone = ⊥
 IsSocket Nobody = ⊥
 IsSocket Starved = ⊥

@@ -9,3 +9,4 @@ pub mod Arrivals
 pub mod Listeners
 pub mod Foreign
 pub mod Bearer
+pub mod PeerAddress

@@ -21,7 +21,10 @@ pub struct Counts {
     pub late: u64,
     /// Connections that were closed since serving was to stop.
     pub stopped: u64,
-    /// Sockets that were closed at once, since the system, memory or the gateway refused them.
+    /// Idle connections that were closed for newcomers.
+    pub replaced: u64,
+    /// Sockets that were closed at once, since the system, memory or the gateway refused them, or their address had as many
+    /// places as it may.
     pub refused: u64,
     /// How often no socket could be accepted, since handles or the system's memory ran out.
     pub starved: u64,
@@ -49,6 +52,7 @@ impl Counts {
           failed = 0;
           late = 0;
           stopped = 0;
+          replaced = 0;
           refused = 0;
           starved = 0;
           kept = 0;
@@ -66,6 +70,7 @@ impl Counts {
             failed: 0,
             late: 0,
             stopped: 0,
+            replaced: 0,
             refused: 0,
             starved: 0,
             kept: 0,
@@ -148,6 +153,11 @@ impl Counts {
     /// A connection was closed since serving was to stop.
     pub fn stops(&mut self) {
         self.stopped = self.stopped.saturating_add(1);
+    }
+
+    /// An idle connection was closed for a newcomer.
+    pub fn replaces(&mut self) {
+        self.replaced = self.replaced.saturating_add(1);
     }
 
     /// A connection was cut since its time was over.

@@ -20,6 +20,8 @@ mod counts;
 mod journal;
 /// The ids of connections.
 mod ids;
+/// Where a peer is, as far as its places are counted.
+mod peer_address;
 /// Sockets of connections, and the acceptors by which they come.
 mod sockets;
 /// Listeners, each with the secret under which connections are opened that come by it.
@@ -39,5 +41,6 @@ pub use limits::Limits;
 pub use listeners::{Arrivals, CONTROL, Listener, Listeners, MOST_LISTENERS, place_of};
 pub use memory::{LONG, Memory};
 pub use pace::{Pace, Way};
+pub use peer_address::PeerAddress;
 pub use sockets::{Arrival, Entrance, register};
 pub use stopwatch::{Begun, Stopwatch};

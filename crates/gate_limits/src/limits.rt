@@ -1,9 +1,11 @@
 //! What is allowed to connections.
-ghost use Rattle.std.specs.Prelude.{◌≡◌, ◌+◌, ◌<◌, ◌↔◌, min, IsTrue, None};
+ghost use Rattle.std.specs.Prelude.{◌≡◌, ◌+◌, min, None};
 ghost use Rattle.std.specs.Duration.{as_nanos};
 ghost use Rattle.http_edge.specs.Frame.{most_head_bytes};
 ghost use Rattle.http_edge.specs.Judge.{most_body_bytes};
+ghost use Rattle.gate_limits.specs.PeerAddress.{places_allowed};
 
+use crate::peer_address::PeerAddress;
 use std::time::Duration;
 
 /// How many bytes a second are expected of one that is hurried.
@@ -14,6 +16,9 @@ const RATE_WHILE_FULL: u64 = 65_536;
 pub struct Limits {
     /// How many may be open at once.
     pub most: usize,
+    /// How many of one address may be: of an IPv6 one, of all whose first 64 bits are the same. Where this is `None` it is a
+    /// quarter of `most`, one at least, and of this machine's own addresses `most`.
+    pub per_address: Option<usize>,
     /// For how long one may move no byte.
     pub idle: Duration,
     /// How long one may take to send a request, besides the time that its bytes take.
@@ -36,16 +41,19 @@ pub struct Limits {
 }
 
 impl Limits {
-    /// So many connections, each of which may be silent for so long; else 10 seconds for a head, 1,024 bytes a second,
-    /// 268,435,456 bytes of requests and replies from which on long ones wait, 2 seconds after the last reply and as many bytes as the longest body and head have, and 10 seconds after a stop.
+    /// So many connections, a quarter of them of one address, each of which may be silent for so long; else 10 seconds for a
+    /// head, 1,024 bytes a second, 268,435,456 bytes of requests and replies from which on long ones wait, 2 seconds after
+    /// the last reply and as many bytes as the longest body and head have, and 10 seconds after a stop.
     pub fn new(most: usize, idle: Duration) -> Limits
         ensures most { result.most ≡ most }
+        ensures per_address { result.per_address ≡ None }
         ensures idle { result.idle ≡ idle }
         ensures rest { result.rest ≡ most_body_bytes + most_head_bytes }
         ensures served { result.served ≡ None }
     {
         Limits {
             most,
+            per_address: None,
             idle,
             grace: Duration::from_secs(10),
             rate: 1024,
@@ -71,11 +79,15 @@ impl Limits {
         limits
     }
 
-    /// Whether one more connection may be opened beside so many.
-    pub fn has_room(&self, count: usize) -> bool
-        ensures { IsTrue result ↔ (count < self.now.most) }
+    /// How many connections of a peer's address may be open.
+    pub fn places_of(&self, peer: PeerAddress) -> usize
+        ensures { result ≡ places_allowed self.now peer }
     {
-        count < self.most
+        match self.per_address {
+            Some(per_address) => per_address,
+            None if peer.is_loopback => self.most,
+            None => (self.most / 4).max(1),
+        }
     }
 }
 

@@ -2,6 +2,7 @@
 ghost use Rattle.std.specs.Prelude.{◌≡◌};
 ghost use Rattle.gate_turns.specs.Acceptor.{acceptor_after};
 
+use crate::peer_address::PeerAddress;
 use gate_turns::{Accepted, Acceptor};
 use mio::net::{TcpListener, TcpStream};
 use mio::{Interest, Poll, Token};
@@ -28,8 +29,8 @@ pub struct Entrance {
 /// What came of an attempt to accept a connection.
 #[derive(Drop)]
 pub enum Arrival {
-    /// A socket.
-    Socket(TcpStream),
+    /// A socket, and where its peer is.
+    Socket(TcpStream, PeerAddress),
     /// One that is gone again.
     Gone,
     /// None waits.
@@ -46,7 +47,7 @@ impl Arrival {
         ensures { result ≡ came_of self.now }
     {
         match self {
-            Arrival::Socket(_) | Arrival::Gone => Accepted::One,
+            Arrival::Socket(_, _) | Arrival::Gone => Accepted::One,
             Arrival::Nobody => Accepted::Nobody,
             Arrival::Starved => Accepted::Starved,
         }
@@ -79,7 +80,7 @@ impl Entrance {
 /// What comes of an attempt to accept a connection.
 pub fn attempt(listener: &TcpListener) -> Arrival {
     match listener.accept() {
-        Ok((stream, _)) => Arrival::Socket(stream),
+        Ok((stream, address)) => Arrival::Socket(stream, PeerAddress::of(&address)),
         Err(error) => match error.kind() {
             ErrorKind::WouldBlock => Arrival::Nobody,
             ErrorKind::ConnectionAborted | ErrorKind::Interrupted => Arrival::Gone,

@@ -1,5 +1,5 @@
 //! How long the request takes that a connection sends.
-ghost use Rattle.std.specs.Prelude.{◌≡◌, None};
+ghost use Rattle.std.specs.Prelude.{◌≡◌, None, is_some};
 ghost use Rattle.gate_limits.specs.Stopwatch.{begun_with, stopwatch_at};
 
 use crate::latencies::RequestKind;
@@ -38,6 +38,13 @@ impl Stopwatch {
                 since: now,
             });
         }
+    }
+
+    /// Whether a request began to which no reply was made yet.
+    pub fn runs(&self) -> bool
+        ensures { result ≡ is_some self.now.begun }
+    {
+        self.begun.is_some()
     }
 
     /// A reply was made: the request that it answers is over, which is given if one had begun.

@@ -14,11 +14,12 @@ use Rattle.gate_turns.specs.declared.seat.Place.TheVariants.{Queued, Turn, Await
 use Rattle.gate_turns.specs.declared.seat.Lane.{Lane}
 use Rattle.gate_turns.specs.declared.seat.Lane.TheVariants.{Quick, Fresh, Slow}
 use Rattle.gate_turns.specs.Lanes.{LanesState, HasTurn, turns_due}
-use Rattle.gate_turns.specs.Seat.{IsTurned, IsReported, StandsAfter, is_woken, lane_for, new_seat}
-use Rattle.gate_turns.specs.Turns.{TurnsState, IsSeated, HasTurnNow, HasBegun, HasCome, HasLeft, seat_at, seat_in, OthersStay, lanes_after}
+use Rattle.gate_turns.specs.Places.{IsLongestIdle, idle_for}
+use Rattle.gate_turns.specs.Seat.{IsTurned, idle_at, IsReported, StandsAfter, is_woken, lane_for, new_seat}
+use Rattle.gate_turns.specs.Turns.{TurnsState, IsSeated, HasTurnNow, HasBegun, HasCome, HasLeft, IsAwaitingAt, IsDismissible, seat_at, seat_in, OthersStay, lanes_after}
 use Rattle.gate_limits.specs.declared.ids.Ids.{Ids}
 use Rattle.gate_poll.specs.declared.peer.Peer.{Peer}
-use Rattle.gate_poll.specs.Peers.{owes, owes_at, EndsFor, StandsFor}
+use Rattle.gate_poll.specs.Peers.{owes, is_idle, owes_at, EndsFor, StandsFor}
 use Rattle.gate_poll.specs.Table.{peer_in, OthersKept, IsSeatOf, HasSeat, IsOwnPeer, AreKept, IsTurnOf, AreKeptBut, IsSocketCalled}
 
 others_have : (next q : ℕ) (p r : Option Peer) (s t : Option Seat) → r ≡ p → t ≡ s → HasSeat next q p s → HasSeat next q r t
@@ -41,7 +42,7 @@ pub seat_more : (next more id : ℕ) (p : Option Peer) (s : Option Seat) → nex
 seat_more next more id None None less was = tt
 seat_more next more id None (Some seat) less was = was
 seat_more next more id (Some peer) None less was = was
-seat_more next more id (Some peer) (Some seat) less was = record { own = own_more next more id less was.own; same = was.same; waits = was.waits; owed = was.owed }
+seat_more next more id (Some peer) (Some seat) less was = record { own = own_more next more id less was.own; same = was.same; waits = was.waits; owed = was.owed; idle = was.idle }
 
 -- an id that wasn't given has no connection
 pub ungiven : (next id : ℕ) (p : Option Peer) (s : Option Seat) → HasSeat next id p s → next ≤ id → (p ≡ None) × (s ≡ None)
@@ -57,11 +58,16 @@ stands_so (Blocked Read) old new peer at waits = subst (λ (p : Place). StandsFo
 stands_so (Blocked Write) old new peer at waits = subst (λ (p : Place). StandsFor p peer) (sym at.0) waits
 stands_so Over old new peer at waits = subst (λ (p : Place). StandsFor p peer) (sym at.0) tt
 
-pub seat_after : (next id : ℕ) (p : Option Peer) (s : Option Seat) (peer : Peer) (was now : Seat) (turned : Turned) → p ≡ Some peer → s ≡ Some now → IsOwnId 1 next id → peer.flow.id ≡ id
-    → EndsFor turned.end peer → turned.owed ≡ owes peer → IsTurned was turned now → HasSeat next id p s
-seat_after next id p s peer was now turned found seat own same waits owed is =
+-- only one that is idle is idle by its seat
+idle_so : (turns : ℕ) (o : Option ℕ) (b : Bool) (peer : Peer) → o ≡ (if b then Some turns else None) → b ≡ is_idle peer → IfSome o (λ _. is_idle peer ≡ true)
+idle_so turns o true peer is same = subst (λ (x : Option ℕ). IfSome x (λ _. is_idle peer ≡ true)) (sym is) (sym same)
+idle_so turns o false peer is same = subst (λ (x : Option ℕ). IfSome x (λ _. is_idle peer ≡ true)) (sym is) tt
+
+pub seat_after : (next turns id : ℕ) (p : Option Peer) (s : Option Seat) (peer : Peer) (was now : Seat) (turned : Turned) → p ≡ Some peer → s ≡ Some now → IsOwnId 1 next id → peer.flow.id ≡ id
+    → EndsFor turned.end peer → turned.owed ≡ owes peer → turned.idle ≡ is_idle peer → IsTurned turns was turned now → HasSeat next id p s
+seat_after next turns id p s peer was now turned found seat own same waits owed idle is =
     subst (λ (x : Option Peer). HasSeat next id x s) (sym found) (subst (λ (x : Option Seat). HasSeat next id (Some peer) x) (sym seat)
-    (record { own = own; same = same; waits = stands_so turned.end was now peer is.place waits; owed = is.owed ∙ owed }))
+    (record { own = own; same = same; waits = stands_so turned.end was now peer is.place waits; owed = is.owed ∙ owed; idle = idle_so turns now.idle turned.idle peer is.idle idle }))
 
 -- neither connection nor seat
 pub neither : (next id : ℕ) (p : Option Peer) (s : Option Seat) → p ≡ None → s ≡ None → HasSeat next id p s
@@ -131,7 +137,7 @@ seat_reported next id None s t was now read write had has is kept = absurd (subs
 seat_reported next id (Some peer) s t was now read write had has is kept =
     let old : IsSeatOf next id peer was = subst (λ (x : Option Seat). HasSeat next id (Some peer) x) had kept in
     subst (λ (x : Option Seat). HasSeat next id (Some peer) x) (sym has)
-    (record { own = old.own; same = old.same; waits = not_queued was.place now.place (is_woken was.place now) (lane_for was.slow was.fresh) peer is.place old.waits; owed = is.owed ∙ old.owed })
+    (record { own = old.own; same = old.same; waits = not_queued was.place now.place (is_woken was.place now) (lane_for was.slow was.fresh) peer is.place old.waits; owed = is.owed ∙ old.owed; idle = subst (λ (x : Option ℕ). IfSome x (λ _. is_idle peer ≡ true)) (sym is.idle) old.idle })
 
 -- ---- turns that are due
 
@@ -174,10 +180,10 @@ given_own next more id first given rises = (omega (arith, first, given), omega (
 pub new_owes : (peer : Peer) (flow : FlowState) (id : ℕ) → peer.flow ≡ flow → flow ≡ opened_flow id → peer.lingers ≡ false → owes peer ≡ false
 new_owes peer flow id is opened lingers = ap (λ (f : FlowState). owes_at f.want peer.lingers) (is ∙ opened) ∙ lingers
 
-pub seat_new : (next id : ℕ) (p : Option Peer) (s : Option Seat) (peer : Peer) (flow : FlowState) → p ≡ Some peer → s ≡ Some new_seat → IsOwnId 1 next id → peer.flow ≡ flow → flow ≡ opened_flow id → peer.lingers ≡ false → HasSeat next id p s
-seat_new next id p s peer flow found seat own is opened lingers =
+pub seat_new : (next id address : ℕ) (p : Option Peer) (s : Option Seat) (peer : Peer) (flow : FlowState) → p ≡ Some peer → s ≡ Some (new_seat address) → IsOwnId 1 next id → peer.flow ≡ flow → flow ≡ opened_flow id → peer.lingers ≡ false → HasSeat next id p s
+seat_new next id address p s peer flow found seat own is opened lingers =
     subst (λ (x : Option Peer). HasSeat next id x s) (sym found) (subst (λ (x : Option Seat). HasSeat next id (Some peer) x) (sym seat)
-    (record { own = own; same = ap (λ (f : FlowState). f.id) (is ∙ opened); waits = tt; owed = sym (new_owes peer flow id is opened lingers) }))
+    (record { own = own; same = ap (λ (f : FlowState). f.id) (is ∙ opened); waits = tt; owed = sym (new_owes peer flow id is opened lingers); idle = tt }))
 
 -- ---- one that is reported
 
@@ -223,13 +229,13 @@ own_called next id p peer found own same = subst (IsOwnPeer next id) (sym found)
 
 -- what came of the turn of one that is closed, and of one that stays
 pub closed_so : (b : Bool) (id : ℕ) (turned : Turned) (old new : TurnsState) (o t : Option Seat) (seat : Seat) → b ≡ false → o ≡ Some seat
-    → IfSome o (λ was. MatchBool b (IsSomeAnd t (λ now. IsTurned was turned now × HasCome id now old new)) (HasLeft id old new)) → HasLeft id old new
+    → IfSome o (λ was. MatchBool b (IsSomeAnd t (λ now. IsTurned new.count was turned now × HasCome id now old new)) (HasLeft id old new)) → HasLeft id old new
 closed_so true id turned old new o t seat is had told = cc
 closed_so false id turned old new None t seat is had told = elim (no_seat seat had) [ ]
 closed_so false id turned old new (Some x) t seat is had told = told
 
 pub stays_so : (b : Bool) (id : ℕ) (turned : Turned) (old new : TurnsState) (o t : Option Seat) (seat : Seat) → b ≡ true → o ≡ Some seat
-    → IfSome o (λ was. MatchBool b (IsSomeAnd t (λ now. IsTurned was turned now × HasCome id now old new)) (HasLeft id old new)) → (was : Seat) × ((now : Seat) × (IsTurned was turned now × HasCome id now old new))
+    → IfSome o (λ was. MatchBool b (IsSomeAnd t (λ now. IsTurned new.count was turned now × HasCome id now old new)) (HasLeft id old new)) → (was : Seat) × ((now : Seat) × (IsTurned new.count was turned now × HasCome id now old new))
 stays_so false id turned old new o t seat is had told = cc
 stays_so true id turned old new None t seat is had told = elim (no_seat seat had) [ ]
 stays_so true id turned old new (Some x) None seat is had told = absurd told
@@ -248,7 +254,7 @@ begun_seat : (next id : ℕ) (p : Option Peer) (s t : Option Seat) (seat : Seat)
 begun_seat next id None s t seat had has was = absurd (subst (λ (x : Option Seat). HasSeat next id None x) had was)
 begun_seat next id (Some peer) s t seat had has was =
     let old : IsSeatOf next id peer seat = subst (λ (x : Option Seat). HasSeat next id (Some peer) x) had was in
-    subst (λ (x : Option Seat). HasSeat next id (Some peer) x) (sym has) (record { own = old.own; same = old.same; waits = tt; owed = old.owed })
+    subst (λ (x : Option Seat). HasSeat next id (Some peer) x) (sym has) (record { own = old.own; same = old.same; waits = tt; owed = old.owed; idle = old.idle })
 
 -- one begins its turn
 pub turn_begun : (next id : ℕ) (ps : List (ℕ × Peer)) (ts after : TurnsState) → AreKept next ps ts → HasBegun id ts after → OthersStay id ts after → IsTurnOf id next ps after
@@ -258,3 +264,34 @@ turn_begun next id ps ts after was begun stay = record {
       (begun_seat next id (peer_in ps id) (seat_at ts id) (seat_at after id) begun.0 begun.1 begun.2 (was.each id));
   turn = begun.3;
 }
+
+-- ---- newcomers
+
+no_number : (n : ℕ) → None ≡ Some n → ⊥
+no_number n is = cc
+
+idle_unowed : (owed : Bool) (seat : Seat) (since : ℕ) → (if owed then None else seat.idle) ≡ Some since → (owed ≡ false) × (seat.idle ≡ Some since)
+idle_unowed true seat since is = absurd (no_number since is)
+idle_unowed false seat since is = (refl, is)
+
+idle_awaits : (of : Bool) (place : Place) (seat : Seat) (since : ℕ) → (if of then idle_at place seat else None) ≡ Some since → IsAwaitingAt place × ((seat.owed ≡ false) × (seat.idle ≡ Some since))
+idle_awaits false place seat since is = absurd (no_number since is)
+idle_awaits true (Queued lane) seat since is = absurd (no_number since is)
+idle_awaits true Turn seat since is = absurd (no_number since is)
+idle_awaits true (Awaits side) seat since is = (tt, idle_unowed seat.owed seat since is)
+
+-- one that has been idle longest waits for its socket, and nothing is owed to it
+pub longest_dismissible : (wanted : Option ℕ) (ts : TurnsState) (id : ℕ) → IsLongestIdle wanted ts.seats id → IsDismissible (seat_at ts id)
+longest_dismissible wanted ts id longest =
+    let idle = idle_awaits _ longest.seat.place longest.seat longest.since longest.idle in
+    subst IsDismissible (sym longest.there) (idle.0, idle.1.0)
+
+idle_peer : (next id : ℕ) (p : Option Peer) (seat : Seat) (since : ℕ) → HasSeat next id p (Some seat) → seat.idle ≡ Some since → IsSomeAnd p (λ peer. is_idle peer ≡ true)
+idle_peer next id None seat since has is = absurd has
+idle_peer next id (Some peer) seat since has is = subst (λ (x : Option ℕ). IfSome x (λ _. is_idle peer ≡ true)) is has.idle
+
+-- and nothing of its next request has come
+pub longest_idle : (next : ℕ) (wanted : Option ℕ) (ps : List (ℕ × Peer)) (ts : TurnsState) (id : ℕ) → AreKept next ps ts → IsLongestIdle wanted ts.seats id → IsSomeAnd (peer_in ps id) (λ peer. is_idle peer ≡ true)
+longest_idle next wanted ps ts id kept longest =
+    let idle = idle_awaits _ longest.seat.place longest.seat longest.since longest.idle in
+    idle_peer next id (peer_in ps id) longest.seat longest.since (subst (HasSeat next id (peer_in ps id)) longest.there (kept.each id)) idle.1.1

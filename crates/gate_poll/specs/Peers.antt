@@ -1,5 +1,5 @@
 -- What a connection does in its turn.
-use Rattle.std.specs.Prelude.{◌≡◌, ◌+◌, ◌-◌, ◌^◌, ◌≤◌, ◌⊎◌, min, ⊤, Bool, true, Option, Some, None}
+use Rattle.std.specs.Prelude.{◌≡◌, ◌+◌, ◌-◌, ◌^◌, ◌≤◌, ◌⊎◌, min, ⊤, ◌&&◌, not, nat_eq, is_some, Bool, true, false, Option, Some, None}
 use Rattle.std.specs.Duration.{as_nanos}
 use Rattle.std.specs.Time.{instant_nanos}
 use Rattle.std.specs.declared.time.Instant.{Instant}
@@ -20,6 +20,16 @@ use Rattle.gate_limits.specs.declared.stopwatch.Begun.{Begun}
 use Rattle.gate_limits.specs.declared.stopwatch.Stopwatch.{Stopwatch}
 use Rattle.gate_limits.specs.Latencies.{latencies_after}
 use Rattle.gate_poll.specs.declared.peer.Peer.{Peer}
+
+-- it waits for a request of which nothing has come
+abbrev pub is_idle_at : Want → Peer → Bool
+is_idle_at Read peer = not peer.lingers && (nat_eq peer.kept 0 && not (is_some peer.stopwatch.begun))
+is_idle_at Advance peer = false
+is_idle_at Write peer = false
+is_idle_at Nothing peer = false
+
+abbrev pub is_idle : Peer → Bool
+is_idle peer = is_idle_at peer.flow.want peer
 
 -- something is still to be said, or its flow wants to read and it is only waited until it ends its side
 abbrev pub owes_at : Want → Bool → Bool

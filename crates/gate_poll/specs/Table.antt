@@ -1,5 +1,5 @@
 -- What is kept of connections, and what the loop does to the gateway.
-use Rattle.std.specs.Prelude.{◌≡◌, ◌≢◌, ℕ, ◌≤◌, ◌⊎◌, ⊤, List, All, Option, Some, None}
+use Rattle.std.specs.Prelude.{◌≡◌, ◌≢◌, ℕ, ◌≤◌, ◌⊎◌, ⊤, Bool, true, false, IfSome, IsSomeAnd, List, All, Option, Some, None}
 use Rattle.std.specs.Ordering.{nat_cmp}
 use Rattle.std.specs.Map.{lookup}
 use Rattle.std.specs.BTreeMap.{is_at}
@@ -8,10 +8,12 @@ use Rattle.gate_flow.specs.Led.{IsGivenUp}
 use Rattle.gate_flow.specs.Hosted.{IsForgotten, IsHosted, IsHostedWith, IsOwnId, Opened}
 use Rattle.gate_turns.specs.declared.seat.Seat.{Seat}
 use Rattle.gate_turns.specs.declared.seat.Turned.{Turned}
-use Rattle.gate_turns.specs.Turns.{TurnsState, seat_at}
+use Rattle.gate_turns.specs.declared.places.Choice.{Choice}
+use Rattle.gate_turns.specs.declared.places.Choice.TheVariants.{Opens, Replaces, Refused}
+use Rattle.gate_turns.specs.Turns.{TurnsState, seat_at, HasLeft}
 use Rattle.gate_poll.specs.declared.peer.Peer.{Peer}
 use Rattle.gate_poll.specs.declared.table.Table.{Table}
-use Rattle.gate_poll.specs.Peers.{owes, EndsFor, StandsFor}
+use Rattle.gate_poll.specs.Peers.{owes, is_idle, EndsFor, StandsFor}
 
 -- the connection under an id
 abbrev pub peer_in : List (ℕ × Peer) → ℕ → Option Peer
@@ -23,12 +25,14 @@ OthersKept id old new = (other : ℕ) → other ≢ id → peer_in new other ≡
 
 -- A connection is kept under the id that its flow has, which was given before. Where it waits for a side of its socket that is
 -- one which WaitsFor says: to read also where it is only waited until it ends, or where its flow wants to go on, as while it waits
--- for memory. Its seat says whether something is owed to it.
+-- for memory. Its seat says whether something is owed to it, and only one that waits for a request of which nothing has come
+-- is idle by it.
 pub record IsSeatOf (next id : ℕ) (peer : Peer) (seat : Seat) : Type 0 where
   pub own : IsOwnId 1 next id
   pub same : peer.flow.id ≡ id
   pub waits : StandsFor seat.place peer
   pub owed : seat.owed ≡ owes peer
+  pub idle : IfSome seat.idle (λ _. is_idle peer ≡ true)
 
 -- an id has a connection exactly where it has a seat
 abbrev pub HasSeat : ℕ → ℕ → Option Peer → Option Seat → Type 0
@@ -77,6 +81,7 @@ pub record IsSocketCalled (id : ℕ) (turned : Turned) (old new : List (ℕ × P
   pub same : after.flow.id ≡ before.flow.id
   pub waits : EndsFor turned.end after
   pub owed : turned.owed ≡ owes after
+  pub idle : turned.idle ≡ is_idle after
 
 -- The gateway was served for connections that are kept: it was led by calls of ids that were given, and none was opened.
 pub record ArePeersServed (before next : ℕ) (peers : List (ℕ × Peer)) (turns : TurnsState) (g h : State) : Type 0 where
@@ -126,3 +131,10 @@ LetsGo was now old new g h = AreLetGo was now old.peers.entries new.peers.entrie
 -- a connection is as it was before serving, or it was let go
 abbrev pub IsOverAt : Option ConnectionState → Option ConnectionState → ℕ → Type 0
 IsOverAt old new id = (new ≡ old) ⊎ IsLetGo id new
+
+-- Room was made for a newcomer, or not: nothing changes where it has a place of its own, or none; else one connection is
+-- closed for it, which waits for a request of which nothing has come.
+abbrev pub IsRoomMade : Choice → Bool → List (ℕ × Peer) → TurnsState → TurnsState → Type 0
+IsRoomMade Opens made peers old new = (made ≡ true) × (new ≡ old)
+IsRoomMade (Replaces id) made peers old new = (made ≡ true) × (IsSomeAnd (peer_in peers id) (λ peer. is_idle peer ≡ true) × HasLeft id old new)
+IsRoomMade Refused made peers old new = (made ≡ false) × (new ≡ old)

@@ -103,6 +103,7 @@ impl Outcome {
                 long: false,
                 replied: false,
                 owed: false,
+                idle: false,
             },
             fault: None,
         }
@@ -164,7 +165,7 @@ impl Peer {
     ghost use Rattle.gate_limits.specs.Memory.{is_queued};
     ghost use Rattle.gate_limits.specs.declared.limits.Limits.{Limits};
     ghost use Rattle.gate_limits.specs.declared.pace.Way.TheVariants.{Sends};
-    ghost use Rattle.gate_poll.specs.Peers.{owes, timed_by, AreHurried, EndsFor, IsGoing, IsHurried, IsStepped};
+    ghost use Rattle.gate_poll.specs.Peers.{owes, is_idle, timed_by, AreHurried, EndsFor, IsGoing, IsHurried, IsStepped};
 
     /// A socket that was just accepted.
     pub fn new(stream: TcpStream, flow: Flow, now: Instant) -> Peer
@@ -245,6 +246,16 @@ impl Peer {
         }
     }
 
+    /// Whether it waits for a request of which nothing has come.
+    fn is_idle(&self) -> bool
+        ensures { result ≡ is_idle self.now }
+    {
+        match self.flow.want() {
+            Want::Read => !self.lingers && self.kept == 0 && !self.stopwatch.runs(),
+            Want::Advance | Want::Write | Want::Nothing => false,
+        }
+    }
+
     /// Its flow, for the gateway to give up.
     pub fn into_flow(self) -> Flow
         ensures { result ≡ self.flow }
@@ -264,6 +275,7 @@ impl Peer {
     ) -> Outcome
         ensures stepped { IsStepped self.old self.new (Some result.turned.end) lobby.old lobby.new }
         ensures owed { result.turned.owed ≡ owes self.new }
+        ensures idle { result.turned.idle ≡ is_idle self.new }
     {
         gate_flow::laws::gateways_are_hosted();
         if self.lingers {
@@ -285,6 +297,7 @@ impl Peer {
     ) -> Outcome
         ensures stepped { IsStepped self.old self.new (Some result.turned.end) lobby.old lobby.new }
         ensures owed { result.turned.owed ≡ owes self.new }
+        ensures idle { result.turned.idle ≡ is_idle self.new }
     {
         gate_flow::laws::gateways_are_hosted();
         let mut replied = false;
@@ -310,12 +323,14 @@ impl Peer {
     fn turned(&self, end: End, long: bool, replied: bool) -> Turned
         ensures end { result.end ≡ end }
         ensures owed { result.owed ≡ owes self.now }
+        ensures idle { result.idle ≡ is_idle self.now }
     {
         Turned {
             end,
             long,
             replied,
             owed: self.is_owed(),
+            idle: self.is_idle(),
         }
     }
 
@@ -593,6 +608,7 @@ impl Peer {
         ensures flow { self.new.flow ≡ self.old.flow }
         ensures waits { EndsFor result.turned.end self.new }
         ensures owed { result.turned.owed ≡ owes self.new }
+        ensures idle { result.turned.idle ≡ is_idle self.new }
     {
         let end = self.drop_some(tools, now);
         let turned = self.turned(end, false, false);

@@ -289,7 +289,7 @@ impl EventLoop {
     fn time_to_wait(&self, listens: bool, table: &Table, now: Instant) -> Duration {
         if table.has_turns()
             || table.may_resume()
-            || (listens && self.acceptors.may_accept(now, table.has_room()))
+            || (listens && self.acceptors.may_accept(now, table.has_place()))
             || may_accept(&self.control, now)
         {
             Duration::ZERO
@@ -345,15 +345,15 @@ impl EventLoop {
         ensures due { turns_due table.new.turns.lanes ≡ turns_due table.old.turns.lanes }
     {
         gate_flow::laws::gateways_are_hosted();
-        let Some(place) = self.acceptors.next(now, table.has_room()) else {
+        let Some(place) = self.acceptors.next(now, table.has_place()) else {
             return false;
         };
         let arrival = arrivals.accept(place, table.coming());
         self.acceptors.came(place, arrival.came(), now);
         match arrival {
-            Arrival::Socket(stream) => {
+            Arrival::Socket(stream, peer) => {
                 let secret = arrivals.secret(place);
-                table.take_in(&self.poll, stream, secret, lobby, forgets, now);
+                table.welcome(&self.poll, stream, peer, secret, lobby, forgets, now);
             }
             Arrival::Gone | Arrival::Nobody => {}
             Arrival::Starved => {
@@ -468,7 +468,7 @@ fn accept_call(
         return false;
     }
     match entrance.accept(now) {
-        Arrival::Socket(mut stream) => {
+        Arrival::Socket(mut stream, _) => {
             let Some(id) = table.new_id() else {
                 return false;
             };

@@ -1,10 +1,13 @@
 //! The connections by their ids.
-ghost use Rattle.std.specs.Prelude.{◌≡◌, ◌≢◌, ◌+◌, ◌<◌, ◌≤◌, ◌↔◌, ℕ, IsTrue, Some, None, true, false, IfOk, IfSome, IfNone, length, [], unwrap_or, option_copied};
+ghost use Rattle.std.specs.Prelude.{◌≡◌, ◌≢◌, ◌+◌, ◌<◌, ◌≤◌, ◌↔◌, ◌⊎◌, MatchBool, ℕ, IsTrue, Some, None, true, false, IfOk, IfSome, IfNone, length, [], unwrap_or, option_copied};
 ghost use Rattle.std.specs.Option.{option_map, option_map_or};
 ghost use Rattle.gate_flow.specs.Hosted.{IsHosted, IsOwnId};
 ghost use Rattle.gate_turns.specs.Seat.{new_seat};
 ghost use Rattle.gate_turns.specs.Lanes.{turns_due};
-ghost use Rattle.gate_turns.specs.Turns.{seat_at, HasCome, OthersStay};
+ghost use Rattle.gate_turns.specs.Places.{IsLongestIdle, IsPlaced, NobodyIsIdle, places_of};
+ghost use Rattle.gate_turns.specs.Turns.{seat_at, HasCome, HasLeft, IsDismissible, OthersStay};
+ghost use Rattle.gate_turns.specs.declared.places.Choice.{Choice};
+ghost use Rattle.gate_limits.specs.PeerAddress.{places_allowed};
 ghost use Rattle.gate_poll.specs.Peers.{owes};
 ghost use Rattle.gate_core.specs.ConnectionState.{connection_at};
 ghost use Rattle.gate_poll.specs.Table.{peer_in, IsLetGo, OthersKept, IsOwnPeer, AreOwnPeers, IsTurnOf, AreKeptBut, IsSocketCalled};
@@ -13,8 +16,8 @@ use crate::forget::Forget;
 use crate::peer::{Moment, Outcome, Peer};
 use crate::tools::Tools;
 use gate_flow::{Flow, Lobby};
-use gate_limits::{Ids, Limits, register};
-use gate_turns::{Chosen, Lane, Seat, Turns};
+use gate_limits::{Ids, Limits, PeerAddress, register};
+use gate_turns::{Choice, Chosen, Lane, Seat, Turns};
 use log::{Log, warn};
 use mio::Poll;
 use mio::net::TcpStream;
@@ -57,7 +60,7 @@ impl Drop for Table {
 impl Table {
     ghost use Rattle.gate_poll.specs.Events.{IsInformed};
     ghost use Rattle.gate_poll.specs.Secrets.{IsOpenedUnder};
-    ghost use Rattle.gate_poll.specs.Table.{IsTableKept, Serves, ServesUnder, LetsGo};
+    ghost use Rattle.gate_poll.specs.Table.{IsRoomMade, IsTableKept, Serves, ServesUnder, LetsGo};
 
     /// No connections, and room for as many as the limits say.
     pub fn new(alloc: Global, limits: &Limits, now: Instant) -> Result<Table, AllocError>
@@ -76,11 +79,14 @@ impl Table {
         })
     }
 
-    /// Whether there is room for one more connection.
-    pub fn has_room(&self) -> bool
-        ensures { IsTrue result ↔ (length self.now.turns.seats < self.now.tools.limits.most) }
+    /// Whether a newcomer may have a place: one is free, or somebody is idle.
+    pub fn has_place(&self) -> bool
+        ensures { MatchBool result ((length self.now.turns.seats < self.now.turns.lanes.room)
+            ⊎ ((id : ℕ) × IsLongestIdle None self.now.turns.seats id))
+            ((self.now.turns.lanes.room ≤ length self.now.turns.seats)
+            × NobodyIsIdle None self.now.turns.seats) }
     {
-        self.tools.limits.has_room(self.turns.len())
+        self.turns.has_place()
     }
 
     /// How many connections are open.
@@ -120,12 +126,73 @@ impl Table {
         self.ids.take()
     }
 
+    /// Takes a newcomer's socket in, where room can be made for it; else it is dropped.
+    pub fn welcome<S: Store, F: Forget>(
+        &mut self,
+        poll: &Poll,
+        stream: TcpStream,
+        peer: PeerAddress,
+        secret: Option<&[u8]>,
+        lobby: &mut Lobby<S>,
+        forgets: &mut F,
+        now: Instant,
+    )
+        requires { IsTableKept self.old }
+        ensures served { ServesUnder (IsOpenedUnder self.old.ids.next
+            (unwrap_or (option_copied secret.entry) lobby.old.settings.secret))
+            self.old self.new lobby.old lobby.new }
+        ensures let_go { LetsGo (F.forgot forgets.old) (F.forgot forgets.new) self.old self.new
+            lobby.old lobby.new }
+        ensures due { turns_due self.new.turns.lanes ≡ turns_due self.old.turns.lanes }
+    {
+        gate_flow::laws::gateways_are_hosted();
+        if self.make_room(peer, lobby, forgets) {
+            self.take_in(poll, stream, peer, secret, lobby, forgets, now);
+        }
+    }
+
+    /// Makes room for a newcomer, where its address has fewer places than it may and one is free, or somebody is idle who
+    /// has been for longest: of its address, where that has as many as it may, else of all. Says whether there is room.
+    fn make_room<S: Store, F: Forget>(
+        &mut self,
+        peer: PeerAddress,
+        lobby: &mut Lobby<S>,
+        forgets: &mut F,
+    ) -> bool
+        requires { IsTableKept self.old }
+        ensures placed { (choice : Choice) × (IsPlaced self.old.turns.lanes.room
+            (places_allowed self.old.tools.limits peer) peer.number self.old.turns.seats choice
+            × IsRoomMade choice result self.old.peers.entries self.old.turns self.new.turns) }
+        ensures served { Serves self.old self.new lobby.old lobby.new }
+        ensures let_go { LetsGo (F.forgot forgets.old) (F.forgot forgets.new) self.old self.new
+            lobby.old lobby.new }
+        ensures ids { self.new.ids ≡ self.old.ids }
+        ensures due { turns_due self.new.turns.lanes ≡ turns_due self.old.turns.lanes }
+    {
+        gate_flow::laws::gateways_are_hosted();
+        let most = self.tools.limits.places_of(peer);
+        match self.turns.place_for(peer.number, most) {
+            Choice::Opens => true,
+            Choice::Replaces(id) => {
+                let made = self.dismiss(id, lobby, forgets);
+                self.tools.counts.replaces();
+                made
+            }
+            Choice::Refused => {
+                self.tools.counts.refuses();
+                false
+            }
+        }
+    }
+
     /// Takes a socket in, under an id that was not used before. Its connection is opened under this secret, and under the
-    /// gateway's where there is none. Where the system, the gateway or memory refuses it, it is dropped.
-    pub fn take_in<S: Store, F: Forget>(
+    /// gateway's where there is none. Where the system, the gateway or memory refuses it, or its address has as many places
+    /// as it may, it is dropped.
+    fn take_in<S: Store, F: Forget>(
         &mut self,
         poll: &Poll,
         mut stream: TcpStream,
+        from: PeerAddress,
         secret: Option<&[u8]>,
         lobby: &mut Lobby<S>,
         forgets: &mut F,
@@ -153,7 +220,8 @@ impl Table {
             return;
         };
         let peer = Peer::new(stream, flow, now);
-        match add(&mut self.peers, &mut self.turns, id, peer) {
+        let most = self.tools.limits.places_of(from);
+        match add(&mut self.peers, &mut self.turns, id, peer, from.number, most) {
             None => self.tools.counts.opens(self.turns.len()),
             Some(flow) => {
                 give_up(lobby, forgets, flow);
@@ -265,6 +333,7 @@ impl Table {
         ensures let_go { LetsGo (F.forgot forgets.old) (F.forgot forgets.new) self.old self.new
             lobby.old lobby.new }
         ensures turns { self.new.turns ≡ self.old.turns }
+        ensures ids { self.new.ids ≡ self.old.ids }
     {
         gate_flow::laws::gateways_are_hosted();
         self.tools.memory.changes(kept_of(&self.peers, id), 0);
@@ -343,7 +412,9 @@ impl Table {
         self.stopping = true;
         let ids = self.all_ids();
         for id in &ids {
-            self.dismiss(*id, lobby, forgets);
+            if self.dismiss(*id, lobby, forgets) {
+                self.tools.counts.stops();
+            }
         }
     }
 
@@ -358,19 +429,28 @@ impl Table {
         ids
     }
 
-    /// Closes a connection that waits for its socket and to which nothing is owed.
-    fn dismiss<S: Store, F: Forget>(&mut self, id: u64, lobby: &mut Lobby<S>, forgets: &mut F)
+    /// Closes a connection that waits for its socket and to which nothing is owed, and says whether that was so.
+    fn dismiss<S: Store, F: Forget>(
+        &mut self,
+        id: u64,
+        lobby: &mut Lobby<S>,
+        forgets: &mut F,
+    ) -> bool
         requires { IsTableKept self.old }
+        ensures left { MatchBool result (HasLeft id self.old.turns self.new.turns)
+            (¬ (IsDismissible (seat_at self.old.turns id))) }
+        ensures ids { self.new.ids ≡ self.old.ids }
         ensures served { Serves self.old self.new lobby.old lobby.new }
         ensures let_go { LetsGo (F.forgot forgets.old) (F.forgot forgets.new) self.old self.new
             lobby.old lobby.new }
         ensures due { turns_due self.new.turns.lanes ≡ turns_due self.old.turns.lanes }
     {
         gate_flow::laws::gateways_are_hosted();
-        if self.turns.dismiss(id) {
-            self.tools.counts.stops();
-            self.remove(id, lobby, forgets);
+        if !self.turns.dismiss(id) {
+            return false;
         }
+        self.remove(id, lobby, forgets);
+        true
     }
 
     /// Closes all connections.
@@ -434,14 +514,23 @@ fn call<S: Store, R: Clock + CpuClock>(
     }
 }
 
-/// Gives a connection a seat. Where memory is refused its flow comes back, and nothing changed.
-fn add(peers: &mut BTreeMap<u64, Peer>, turns: &mut Turns, id: u64, peer: Peer) -> Option<Flow>
+/// Gives a connection a seat, of an address that may have so many. Where it has them, or memory is refused, its flow comes
+/// back, and nothing changed.
+fn add(
+    peers: &mut BTreeMap<u64, Peer>,
+    turns: &mut Turns,
+    id: u64,
+    peer: Peer,
+    address: u64,
+    most: usize,
+) -> Option<Flow>
     requires fresh { peer_in peers.old.entries id ≡ None }
     requires seat { seat_at turns.old id ≡ None }
     requires idle { turns.old.turn ≡ None }
     requires owed { owes peer ≡ false }
-    ensures added { IfNone result (HasCome id new_seat turns.old turns.new
+    ensures added { IfNone result (HasCome id (new_seat address) turns.old turns.new
         × (peer_in peers.new.entries id ≡ Some peer)) }
+    ensures own { IfNone result (places_of address turns.old.seats < most) }
     ensures refused { IfSome result (λ flow. (flow ≡ peer.flow) × (turns.new ≡ turns.old)
         × (peer_in peers.new.entries id ≡ None)) }
     ensures others { OthersKept id peers.old.entries peers.new.entries }
@@ -452,7 +541,7 @@ fn add(peers: &mut BTreeMap<u64, Peer>, turns: &mut Turns, id: u64, peer: Peer) 
         let (_, peer) = refused.value;
         return Some(peer.into_flow());
     }
-    if turns.open(id) {
+    if turns.open(id, address, most) {
         return None;
     }
     match peers.remove(&id) {

@@ -6,3 +6,4 @@ pub mod Acceptor
 pub mod Acceptors
 pub mod Ending
 pub mod Turns
+pub mod Places

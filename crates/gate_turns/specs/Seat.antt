@@ -20,9 +20,9 @@ is_side_ready Write seat = seat.writable
 abbrev pub lane_for : ℕ → Bool → Lane
 lane_for slow fresh = if nat_lt 0 slow then Slow else (if fresh then Fresh else Quick)
 
--- a connection that was just accepted
-abbrev pub new_seat : Seat
-new_seat = record { place = Queued Fresh; readable = true; writable = true; slow = 0; fresh = true; owed = false }
+-- a connection of an address that was just accepted
+abbrev pub new_seat : ℕ → Seat
+new_seat address = record { address = address; place = Queued Fresh; readable = true; writable = true; slow = 0; fresh = true; owed = false; idle = None }
 
 -- where it waits, it waits for a side that blocked and wasn't reported since
 abbrev pub IsSettledAt : Place → Seat → Type 0
@@ -52,6 +52,8 @@ pub record IsReported (old new : Seat) (read write : Bool) : Type 0 where
   pub slow : new.slow ≡ old.slow
   pub fresh : new.fresh ≡ old.fresh
   pub owed : new.owed ≡ old.owed
+  pub address : new.address ≡ old.address
+  pub idle : new.idle ≡ old.idle
   pub place : new.place ≡ (if is_woken old.place new then Queued (lane_for old.slow old.fresh) else old.place)
 
 -- where a connection is after a turn that ended so, and what is known of its socket
@@ -61,11 +63,14 @@ StandsAfter (Blocked Read) old new = (new.place ≡ Awaits Read) × (new.readabl
 StandsAfter (Blocked Write) old new = (new.place ≡ Awaits Write) × (new.readable ≡ old.readable) × (new.writable ≡ false)
 StandsAfter Over old new = (new.place ≡ Turn) × (new.readable ≡ old.readable) × (new.writable ≡ old.writable)
 
--- Its turn is over: it is a slow one for 255 turns after a long step, and fresh until it has a reply.
-pub record IsTurned (old : Seat) (turned : Turned) (new : Seat) : Type 0 where
+-- Its turn is over, after so many turns in all: it is a slow one for 255 turns after a long step, and fresh until it has a
+-- reply. It is idle since then where nothing of a next request has come.
+pub record IsTurned (turns : ℕ) (old : Seat) (turned : Turned) (new : Seat) : Type 0 where
   pub slow : new.slow ≡ (if turned.long then 255 else old.slow - 1)
   pub fresh : new.fresh ≡ (old.fresh && not turned.replied)
   pub owed : new.owed ≡ turned.owed
+  pub address : new.address ≡ old.address
+  pub idle : new.idle ≡ (if turned.idle then Some turns else None)
   pub place : StandsAfter turned.end old new
 
 -- whether a connection is closed after such a turn: it is over, or serving is to stop and nothing is owed to it
@@ -76,3 +81,13 @@ is_last Over = true
 
 abbrev pub is_closing : Turned → Bool → Bool
 is_closing turned stopping = is_last turned.end || (stopping && not turned.owed)
+
+-- since after how many turns a connection is idle: it waits for its socket, nothing is owed to it, and nothing of a next
+-- request has come
+abbrev pub idle_at : Place → Seat → Option ℕ
+idle_at (Queued lane) seat = None
+idle_at Turn seat = None
+idle_at (Awaits side) seat = if seat.owed then None else seat.idle
+
+abbrev pub idle_since : Seat → Option ℕ
+idle_since seat = idle_at seat.place seat

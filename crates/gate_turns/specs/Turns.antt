@@ -57,11 +57,12 @@ pub record IsSeated (seats : List (ℕ × Seat)) (lanes : LanesState) (turn : Op
   pub one : (id : ℕ) → HasTurnNow turn id (seat_in seats id)
   pub within : length seats ≤ lanes.room
 
--- the connections that are open, the lanes, and who has its turn now
+-- the connections that are open, the lanes, who has its turn now, and how many turns there were
 pub record TurnsState : Type 0 where
   pub seats : List (ℕ × Seat)
   pub lanes : LanesState
   pub turn : Option ℕ
+  pub count : ℕ
 
 -- the place of an open connection
 abbrev pub seat_at : TurnsState → ℕ → Option Seat

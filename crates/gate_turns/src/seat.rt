@@ -1,6 +1,6 @@
 //! One connection's place.
 ghost use Rattle.std.specs.Prelude.{◌≡◌, if◌then◌else◌, None};
-ghost use Rattle.gate_turns.specs.Seat.{IsSeatSettled, IsReported, IsTurned, new_seat, lane_for, lane_in, is_woken, is_closing};
+ghost use Rattle.gate_turns.specs.Seat.{IsSeatSettled, IsReported, IsTurned, new_seat, idle_since, lane_for, lane_in, is_woken, is_closing};
 ghost use Rattle.gate_turns.specs.declared.seat.Place.TheVariants as place;
 
 /// For how many turns after a long step a connection is held to be a slow one.
@@ -58,11 +58,15 @@ pub struct Turned {
     pub replied: bool,
     /// Whether it is still to be told something, or may not have taken all of it.
     pub owed: bool,
+    /// Whether nothing of a next request has come.
+    pub idle: bool,
 }
 
 /// One connection's place, and what is known of its socket.
 #[derive(Clone, Copy, PartialEq, Eq)]
 pub struct Seat {
+    /// Its peer's address, as a number that others of the same address have too.
+    pub address: u64,
     pub place: Place,
     /// Whether its socket was reported readable, and hasn't blocked since.
     pub readable: bool,
@@ -74,6 +78,8 @@ pub struct Seat {
     pub fresh: bool,
     /// Whether it is still to be told something, or may not have taken all of it.
     pub owed: bool,
+    /// Where nothing of a next request had come as its last turn ended: after how many turns of all that was.
+    pub idle: Option<u64>,
 }
 
 impl Turned {
@@ -90,17 +96,29 @@ impl Turned {
 }
 
 impl Seat {
-    /// A connection that was just accepted: it stands among the fresh ones, and its socket may be called.
-    pub fn new() -> Seat
-        ensures { result ≡ new_seat }
+    /// A connection of an address that was just accepted: it stands among the fresh ones, and its socket may be called.
+    pub fn new(address: u64) -> Seat
+        ensures { result ≡ new_seat address }
     {
         Seat {
+            address,
             place: Place::Queued(Lane::Fresh),
             readable: true,
             writable: true,
             slow: 0,
             fresh: true,
             owed: false,
+            idle: None,
+        }
+    }
+
+    /// Since after how many turns it is idle: it waits for a request of which nothing has come, and nothing is owed to it.
+    pub fn idle_since(&self) -> Option<u64>
+        ensures { result ≡ idle_since self.now }
+    {
+        match self.place {
+            Place::Awaits(_) if !self.owed => self.idle,
+            _ => None,
         }
     }
 
@@ -147,9 +165,9 @@ impl Seat {
         self.place = Place::Turn;
     }
 
-    /// Its turn is over. Where it goes on it stands in a lane from now on, which is given.
-    pub fn turns(&mut self, turned: Turned) -> Option<Lane>
-        ensures turned { IsTurned self.old turned self.new }
+    /// Its turn is over, after so many turns of all. Where it goes on it stands in a lane from now on, which is given.
+    pub fn turns(&mut self, turned: Turned, turns: u64) -> Option<Lane>
+        ensures turned { IsTurned turns self.old turned self.new }
         ensures settled { IsSeatSettled self.new }
         ensures lane { result ≡ lane_in self.new.place }
     {
@@ -160,6 +178,7 @@ impl Seat {
         };
         self.fresh = self.fresh && !turned.replied;
         self.owed = turned.owed;
+        self.idle = if turned.idle { Some(turns) } else { None };
         match turned.end {
             End::Again => {
                 let lane = self.lane();

@@ -1,11 +1,13 @@
 //! All connections, with their places.
-ghost use Rattle.std.specs.Prelude.{◌≡◌, ◌≢◌, ◌≤◌, ◌<◌, ◌+◌, IfOk, IfSome, IfNone, MatchBool, IsTrue, ◌↔◌, Some, None, false, not, ℕ, length, IsSome, IsSomeAnd, if◌then◌else◌};
+ghost use Rattle.std.specs.Prelude.{◌≡◌, ◌≢◌, ◌≤◌, ◌<◌, ◌+◌, ◌-◌, ◌^◌, ◌⊎◌, min, IfOk, IfSome, IfNone, MatchBool, IsTrue, ◌↔◌, Some, None, false, not, ℕ, length, IsSome, IsSomeAnd, if◌then◌else◌};
 ghost use Rattle.gate_turns.specs.Seat.{new_seat, IsReported, IsTurned, is_closing, is_woken};
 ghost use Rattle.gate_turns.specs.declared.seat.Place.TheVariants as place;
+ghost use Rattle.gate_turns.specs.Places.{IsLongestIdle, IsPlaced, NobodyIsIdle, places_of};
 ghost use Rattle.gate_turns.specs.Lanes.{HasTurn, lanes_with, lanes_at_round, lanes_cut_short, turns_due, queued_count, empty_lanes};
 ghost use Rattle.gate_turns.specs.Turns.{IsSeated, TurnsState, seat_at, seat_in, lanes_after, OthersStay, HasCome, HasLeft, HasBegun, IsAwaiting, IsDismissible};
 
 use crate::lanes::{Chosen, Lanes};
+use crate::places::{Choice, count_of, longest_idle};
 use crate::seat::{Lane, Place, Seat, Turned};
 use std::alloc::{AllocError, Global};
 use std::collections::BTreeMap;
@@ -17,6 +19,8 @@ pub struct Turns {
     seats: BTreeMap<u64, Seat>,
     lanes: Lanes,
     turn: Option<u64>,
+    /// How many turns are over.
+    count: u64,
 }
 
 impl Model for Turns {
@@ -24,7 +28,7 @@ impl Model for Turns {
 
     ghost Value = { TurnsState };
 
-    ghost view = { λ t. record { seats = t.seats.entries; lanes = t.lanes; turn = t.turn } };
+    ghost view = { λ t. record { seats = t.seats.entries; lanes = t.lanes; turn = t.turn; count = t.count } };
 
     ghost invariant = { λ t. IsSeated t.seats.entries t.lanes t.turn };
 }
@@ -40,6 +44,7 @@ impl Turns {
             seats: BTreeMap::new(alloc),
             lanes: Lanes::new(alloc, room)?,
             turn: None,
+            count: 0,
         })
     }
 
@@ -97,21 +102,63 @@ impl Turns {
         self.lanes.cut_short();
     }
 
-    /// Takes a connection in, under an id that is not open: it stands among the fresh ones. `false` where there is no
-    /// room, or memory was refused: then nothing changed.
-    pub fn open(&mut self, id: u64) -> bool
+    /// What becomes of a newcomer of an address that may have so many places. All are looked at only where no place is
+    /// free, or as many are taken as it may have.
+    pub fn place_for(&self, address: u64, most: usize) -> Choice
+        ensures { IsPlaced self.now.lanes.room most address self.now.seats result }
+    {
+        let longest = if !self.may_have(address, most) {
+            longest_idle(&self.seats, Some(address))
+        } else if self.seats.len() >= self.lanes.room() {
+            longest_idle(&self.seats, None)
+        } else {
+            return Choice::Opens;
+        };
+        match longest {
+            Some(id) => Choice::Replaces(id),
+            None => Choice::Refused,
+        }
+    }
+
+    /// Whether an address that may have so many places has fewer.
+    fn may_have(&self, address: u64, most: usize) -> bool
+        ensures { IsTrue result ↔ (places_of address self.now.seats < most) }
+    {
+        self.seats.len() < most || count_of(&self.seats, address) < most
+    }
+
+    /// Whether a place is free, or one could be: where somebody is idle.
+    pub fn has_place(&self) -> bool
+        ensures { MatchBool result ((length self.now.seats < self.now.lanes.room)
+            ⊎ ((id : ℕ) × IsLongestIdle None self.now.seats id))
+            ((self.now.lanes.room ≤ length self.now.seats) × NobodyIsIdle None self.now.seats) }
+    {
+        if self.seats.len() < self.lanes.room() {
+            return true;
+        }
+        match longest_idle(&self.seats, None) {
+            Some(_) => true,
+            None => false,
+        }
+    }
+
+    /// Takes a connection of an address in, which may have so many places, under an id that is not open: it stands among
+    /// the fresh ones. `false` where there is no room, the address has as many places as it may, or memory was refused:
+    /// then nothing changed.
+    pub fn open(&mut self, id: u64, address: u64, most: usize) -> bool
         requires fresh { seat_at self.old id ≡ None }
         requires idle { self.old.turn ≡ None }
-        ensures came { MatchBool result (HasCome id new_seat self.old self.new)
+        ensures came { MatchBool result (HasCome id (new_seat address) self.old self.new)
             (self.new ≡ self.old) }
         ensures room { IsTrue result → length self.old.seats < self.old.lanes.room }
+        ensures own { IsTrue result → places_of address self.old.seats < most }
         ensures others { OthersStay id self.old self.new }
         ensures turn { self.new.turn ≡ self.old.turn }
     {
-        if self.seats.len() >= self.lanes.room() {
+        if self.seats.len() >= self.lanes.room() || !self.may_have(address, most) {
             return false;
         }
-        if !add_seat(&mut self.seats, id, Seat::new()) {
+        if !add_seat(&mut self.seats, id, Seat::new(address)) {
             return false;
         }
         self.lanes.push(Lane::Fresh, id);
@@ -144,17 +191,19 @@ impl Turns {
         requires turn { self.old.turn ≡ Some id }
         ensures stays { result ≡ not (is_closing turned stopping) }
         ensures turned { IfSome (seat_at self.old id) (λ was. MatchBool result
-            (IsSomeAnd (seat_at self.new id) (λ now. IsTurned was turned now
+            (IsSomeAnd (seat_at self.new id) (λ now. IsTurned self.new.count was turned now
             × HasCome id now self.old self.new))
             (HasLeft id self.old self.new)) }
         ensures idle { self.new.turn ≡ None }
         ensures others { OthersStay id self.old self.new }
+        ensures count { self.new.count ≡ min (self.old.count + 1) (2 ^ 64 - 1) }
     {
         self.turn = None;
+        self.count = self.count.saturating_add(1);
         let Some(mut seat) = self.seats.get(&id).copied() else {
             return false;
         };
-        let lane = seat.turns(turned);
+        let lane = seat.turns(turned, self.count);
         if turned.closes(stopping) {
             drop_seat(&mut self.seats, id);
             return false;

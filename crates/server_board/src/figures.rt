@@ -45,7 +45,7 @@ fn number(name: &'static str, value: u64) -> Named {
 }
 
 /// What happened to connections.
-pub fn connection_figures(counts: &Counts) -> [Named; 9] {
+pub fn connection_figures(counts: &Counts) -> [Named; 10] {
     [
         number("open", counts.open),
         number("waiting", counts.waiting),
@@ -54,6 +54,7 @@ pub fn connection_figures(counts: &Counts) -> [Named; 9] {
         number("failed", counts.failed),
         number("late", counts.late),
         number("stopped", counts.stopped),
+        number("replaced", counts.replaced),
         number("refused", counts.refused),
         number("accept_paused", counts.starved),
     ]

@@ -135,7 +135,7 @@ pub(crate) fn put_line(text: &mut String, line: &String) -> Result<(), AllocErro
 }
 
 /// The figures of the loop.
-fn figures_of(counts: &Counts) -> [Figure; 13] {
+fn figures_of(counts: &Counts) -> [Figure; 14] {
     [
         gauge("uptime_seconds", "Seconds since connections are served.").shows(counts.seconds),
         gauge("connections", "Connections that are open.").shows(counts.open),
@@ -171,8 +171,13 @@ fn figures_of(counts: &Counts) -> [Figure; 13] {
         )
         .shows(counts.stopped),
         counter(
+            "connections_replaced_total",
+            "Idle connections that were closed for newcomers.",
+        )
+        .shows(counts.replaced),
+        counter(
             "sockets_refused_total",
-            "Sockets that were closed at once, since the system or memory refused them.",
+            "Sockets that were closed at once: refused, or their address had its share.",
         )
         .shows(counts.refused),
         counter(

@@ -32,17 +32,17 @@ returns-in-Starved-clause-due g c = refl
 pub returns-in-Starved-clause-let_go : goal.returns-in-Starved-clause-let_go
 returns-in-Starved-clause-let_go g c = none_gone _ _ _
 
-pub take_in-requires : goal.take_in-requires
-take_in-requires g c = c.requires
+pub welcome-requires : goal.welcome-requires
+welcome-requires g c = c.requires
 
 pub returns-in-Socket-clause-served : goal.returns-in-Socket-clause-served
 returns-in-Socket-clause-served g c =
     serves_so _ _ (came_by (g.A.Arrivals.came c.args.arrivals.now) (g.A.Arrivals.secret_at c.args.arrivals.now) c.args.lobby.now.settings.secret c.args.table.now.ids.next c.in-Some.place _
     (subst (λ (i : ℕ). g.A.Arrivals.came c.args.arrivals.now i c.in-Some.place) c.coming.ensures (c.accept-arrival.ensures (subst IsSocket (sym c.in-Socket.is) tt))) c.secret-secret.ensures)
-    c.args.table.now.ids.next c.take_in.new.self.ids.next c.take_in.new.self.peers.entries c.take_in.new.self.turns c.args.lobby.now c.take_in.new.lobby c.take_in.ensures.served
+    c.args.table.now.ids.next c.welcome.new.self.ids.next c.welcome.new.self.peers.entries c.welcome.new.self.turns c.args.lobby.now c.welcome.new.lobby c.welcome.ensures.served
 
 pub returns-in-Socket-clause-due : goal.returns-in-Socket-clause-due
-returns-in-Socket-clause-due g c = c.take_in.ensures.due
+returns-in-Socket-clause-due g c = c.welcome.ensures.due
 
 pub returns-in-Socket-clause-let_go : goal.returns-in-Socket-clause-let_go
-returns-in-Socket-clause-let_go g c = c.take_in.ensures.let_go
+returns-in-Socket-clause-let_go g c = c.welcome.ensures.let_go

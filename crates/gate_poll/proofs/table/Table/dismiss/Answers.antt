@@ -7,4 +7,4 @@ use Rattle.gate_poll.proofs.table.Table.dismiss.Goals as goal
 pub remove-requires : goal.remove-requires
 remove-requires g c =
     kept_but c.args.self.now.ids.next c.args.id c.args.self.now.peers.entries c.args.self.now.peers.entries c.args.self.now.turns c.dismiss.new.self c.requires.first c.requires.each (λ q ne. refl) c.dismiss.ensures.others
-    (own_peer c.args.self.now.ids.next c.args.id (peer_in c.args.self.now.peers.entries c.args.id) (seat_at c.args.self.now.turns c.args.id) (c.requires.each c.args.id)) c.if-dismiss.ensures.left.1.seat (c.dismiss.ensures.turn ∙ c.requires.idle)
+    (own_peer c.args.self.now.ids.next c.args.id (peer_in c.args.self.now.peers.entries c.args.id) (seat_at c.args.self.now.turns c.args.id) (c.requires.each c.args.id)) c.if-not-dismiss.ensures.left.1.seat (c.dismiss.ensures.turn ∙ c.requires.idle)

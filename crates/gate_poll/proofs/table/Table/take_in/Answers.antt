@@ -45,7 +45,7 @@ returns-in-None-clause-served g c =
     let own : IsOwnId 1 c.take.new.self.next c.in-Some.id = given_own c.args.self.now.ids.next c.take.new.self.next c.in-Some.id c.requires.first c.in-Some.ensures.given c.in-Some.ensures.rises in
     record {
       kept = kept_with c.take.new.self.next c.in-Some.id c.args.self.now.peers.entries c.add.new.peers.entries c.args.self.now.turns c.add.new.turns (kept_more c.args.self.now.ids.next c.take.new.self.next c.args.self.now.peers.entries c.args.self.now.turns (ids_rise c.take.result c.args.self.now.ids c.take.new.self c.take.ensures.given c.take.ensures.rises c.take.ensures.none) c.requires) c.add.ensures.others c.add.ensures.seats
-          (seat_new c.take.new.self.next c.in-Some.id (peer_in c.add.new.peers.entries c.in-Some.id) (seat_at c.add.new.turns c.in-Some.id) c.new-peer.result c.in-Ok.flow c.in-None.ensures.added.1 c.in-None.ensures.added.0.seat own c.new-peer.ensures.flow c.in-Ok.ensures.opened c.new-peer.ensures.lingers)
+          (seat_new c.take.new.self.next c.in-Some.id c.args.from.number (peer_in c.add.new.peers.entries c.in-Some.id) (seat_at c.add.new.turns c.in-Some.id) c.new-peer.result c.in-Ok.flow c.in-None.ensures.added.1 c.in-None.ensures.added.0.seat own c.new-peer.ensures.flow c.in-Ok.ensures.opened c.new-peer.ensures.lingers)
           c.add.ensures.turn;
       next_is = (ids_rise c.take.result c.args.self.now.ids c.take.new.self c.take.ensures.given c.take.ensures.rises c.take.ensures.none);
       hosted = under_one _ c.gateways_are_hosted.ensures.opened_wider c.take.new.self.next c.in-Some.id _ c.args.lobby.now c.open.new.self own (c.in-Some.ensures.given, refl) c.in-Ok.ensures.hosted;

@@ -54,7 +54,7 @@ returns-else-not-turned-clause-served g c =
     let now = stays_so c.turned.result c.args.chosen.id c.call-outcome.result.turned c.shorten.new.turns c.turned.new.self (seat_at c.shorten.new.turns c.args.chosen.id) (seat_at c.turned.new.self c.args.chosen.id) c.in-Some.seat c.if-not-turned.false had c.turned.ensures.turned in
     record {
       kept = kept_turned c.args.self.now.ids.next c.args.chosen.id c.args.self.now.peers.entries c.call-outcome.new.peers.entries c.args.self.now.turns c.turned.new.self c.requires c.call-outcome.ensures.others (λ q ne. c.turned.ensures.others q ne ∙ ap (λ (ss : List (ℕ × Seat)). seat_in ss q) c.shorten.ensures.seats)
-          (seat_after c.args.self.now.ids.next c.args.chosen.id (peer_in c.call-outcome.new.peers.entries c.args.chosen.id) (seat_at c.turned.new.self c.args.chosen.id) was.0.after now.0 now.1.0 c.call-outcome.result.turned was.0.found now.1.1.1.seat was.1 same was.0.waits was.0.owed now.1.1.0)
+          (seat_after c.args.self.now.ids.next c.turned.new.self.count c.args.chosen.id (peer_in c.call-outcome.new.peers.entries c.args.chosen.id) (seat_at c.turned.new.self c.args.chosen.id) was.0.after now.0 now.1.0 c.call-outcome.result.turned was.0.found now.1.1.1.seat was.1 same was.0.waits was.0.owed was.0.idle now.1.1.0)
           c.turned.ensures.idle;
       next_is = omega arith;
       hosted = of_own c.gateways_are_hosted.ensures.wider c.args.self.now.ids.next c.args.chosen.id c.args.lobby.now c.call-outcome.new.lobby was.1 c.call-outcome.ensures.hosted;
