@@ -129,6 +129,7 @@ const CLOSED: &[u8] =
 enum Trial {
     Answers,
     Cuts,
+    Places,
     Stops,
     TwoCaps,
     Token,
@@ -156,6 +157,7 @@ fn is_tried_over<R: Net<Stream = TcpStream> + Clock + CpuClock + AllocGlobal + L
     match trial {
         Trial::Answers => are_answered(rt, many),
         Trial::Cuts => are_cut(rt, many),
+        Trial::Places => are_placed(rt, many),
         Trial::Stops => is_stopped(rt, many),
         Trial::TwoCaps => have_two_caps(rt, many),
         Trial::Token => is_stopped_by_the_token(rt, many),
@@ -230,6 +232,55 @@ fn are_cut<R: Net<Stream = TcpStream> + Clock + CpuClock + AllocGlobal + Log + A
     let rows = [silent, slow_head, idle];
     let counts = serves(rt, &limits, many, &rows)?;
     Ok(counts.opened == 3 && counts.late == 3 && counts.over == 0)
+}
+
+#[test]
+fn newcomers_have_places(rt: HostRuntime) -> Result<(), Fail> {
+    assert!(rt; is_tried(&rt, Trial::Places)?);
+    Ok(())
+}
+
+/// Whether one that sent nothing makes room for a newcomer: with all places taken, and with all of its address.
+fn are_placed<R: Net<Stream = TcpStream> + Clock + CpuClock + AllocGlobal + Log + Abort>(
+    rt: &R,
+    many: &mut Lobby<MemStore>,
+) -> Result<bool, Fail> {
+    let silent = Row {
+        sent: b"",
+        ends: false,
+        given: b"",
+    };
+    let asking = Row {
+        sent: GET,
+        ends: true,
+        given: FOO,
+    };
+    let full = Limits::new(1, Duration::from_secs(20));
+    let counts = serves(rt, &full, many, &[silent, asking])?;
+    let one_is_replaced = counts.replaced == 1 && counts.over == 1;
+    let mut limits = Limits::new(10, Duration::from_secs(20));
+    limits.per_address = Some(1);
+    let counts = serves(rt, &limits, many, &[silent, asking])?;
+    let one_of_the_address_is = counts.replaced == 1 && counts.over == 1;
+    Ok(one_is_replaced && one_of_the_address_is && is_refused(rt, many)?)
+}
+
+/// Whether one whose address has all its places is refused where nobody is idle, and nothing is lost.
+fn is_refused<R: Net<Stream = TcpStream> + Clock + CpuClock + AllocGlobal + Log>(
+    rt: &R,
+    many: &mut Lobby<MemStore>,
+) -> Result<bool, Fail> {
+    let listener = listen(rt)?;
+    let address = listener.local_addr()?;
+    let sending = client(rt, address, b"GET /uri/URI", false)?;
+    let refused = client(rt, address, GET, false)?;
+    let mut limits = Limits::new(10, Duration::from_secs(20));
+    limits.per_address = Some(1);
+    limits.grace = Duration::from_millis(100);
+    limits.served = Some(1);
+    let counts = counts_on(rt, listener, &limits, many)?;
+    drop((sending, refused));
+    Ok(counts.opened == 1 && counts.late == 1 && counts.refused == 1 && counts.replaced == 0)
 }
 
 /// Stores a file of 4 MiB, and gives the request for it.
