@@ -4,7 +4,7 @@ ghost use Rattle.std.specs.Option.{option_map, option_map_or};
 ghost use Rattle.gate_flow.specs.Hosted.{IsHosted, IsOwnId};
 ghost use Rattle.gate_turns.specs.Seat.{new_seat};
 ghost use Rattle.gate_turns.specs.Lanes.{turns_due};
-ghost use Rattle.gate_turns.specs.Places.{IsLongestIdle, IsPlaced, NobodyIsIdle, places_of};
+ghost use Rattle.gate_turns.specs.Places.{IsChoiceFor, IsLongestIdle, NobodyIsIdle, places_taken};
 ghost use Rattle.gate_turns.specs.Turns.{seat_at, HasCome, HasLeft, IsDismissible, OthersStay};
 ghost use Rattle.gate_turns.specs.declared.places.Choice.{Choice};
 ghost use Rattle.gate_limits.specs.PeerAddress.{places_allowed};
@@ -160,7 +160,7 @@ impl Table {
         forgets: &mut F,
     ) -> bool
         requires { IsTableKept self.old }
-        ensures placed { (choice : Choice) × (IsPlaced self.old.turns.lanes.room
+        ensures placed { (choice : Choice) × (IsChoiceFor self.old.turns.lanes.room
             (places_allowed self.old.tools.limits peer) peer.number self.old.turns.seats choice
             × IsRoomMade choice result self.old.peers.entries self.old.turns self.new.turns) }
         ensures served { Serves self.old self.new lobby.old lobby.new }
@@ -530,7 +530,7 @@ fn add(
     requires owed { owes peer ≡ false }
     ensures added { IfNone result (HasCome id (new_seat address) turns.old turns.new
         × (peer_in peers.new.entries id ≡ Some peer)) }
-    ensures own { IfNone result (places_of address turns.old.seats < most) }
+    ensures own { IfNone result (places_taken address turns.old.seats < most) }
     ensures refused { IfSome result (λ flow. (flow ≡ peer.flow) × (turns.new ≡ turns.old)
         × (peer_in peers.new.entries id ≡ None)) }
     ensures others { OthersKept id peers.old.entries peers.new.entries }

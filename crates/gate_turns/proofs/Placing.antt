@@ -11,12 +11,12 @@ use Rattle.std.proofs.lemmas.List.Elements.{All-nil, All-push, All-weaker, Conta
 use Rattle.std.proofs.lemmas.Map.Keys.{IsDistinct-from_sorted}
 use Rattle.std.proofs.lemmas.Map.Views.{lookup-from_Contains}
 use Rattle.gate_turns.specs.declared.seat.Seat.{Seat}
-use Rattle.gate_turns.specs.Places.{IsLongestIdle, NobodyIsIdle, idle_for, longer}
+use Rattle.gate_turns.specs.Places.{IsLongestIdle, NobodyIsIdle, idle_for, longer_idle}
 
 -- the best one of those before, and of these
 abbrev pub best_of : Option ℕ → Option (ℕ × ℕ) → List (ℕ × Seat) → Option (ℕ × ℕ)
 best_of wanted best [] = best
-best_of wanted best (e ∷ es) = best_of wanted (longer best e.0 (idle_for wanted e.1)) es
+best_of wanted best (e ∷ es) = best_of wanted (longer_idle best e.0 (idle_for wanted e.1)) es
 
 -- no other that was seen has been idle for longer than the best one
 abbrev IsNoLonger : Option ℕ → ℕ → ℕ × Seat → Type 0
@@ -78,7 +78,7 @@ either wanted seen id seat since best false less more is was = stays wanted seen
 
 -- one more was seen
 seen_one : (wanted : Option ℕ) (seen : List (ℕ × Seat)) (id : ℕ) (seat : Seat) (best : Option (ℕ × ℕ)) (idle : Option ℕ) → idle_for wanted seat ≡ idle → Best wanted seen best
-    → Best wanted (seen ++ (id, seat) ∷ []) (longer best id idle)
+    → Best wanted (seen ++ (id, seat) ∷ []) (longer_idle best id idle)
 seen_one wanted seen id seat None None is was = All-push (λ e. idle_for wanted e.1 ≡ None) seen (id, seat) was is
 seen_one wanted seen id seat (Some best) None is was = stays wanted seen (id, seat) best.0 best.1 was (not_idle wanted best.1 (id, seat) is)
 seen_one wanted seen id seat None (Some since) is was =
@@ -87,8 +87,8 @@ seen_one wanted seen id seat (Some best) (Some since) is was = either wanted see
 
 seen_all : (wanted : Option ℕ) (seen more : List (ℕ × Seat)) (best : Option (ℕ × ℕ)) → Best wanted seen best → Best wanted (seen ++ more) (best_of wanted best more)
 seen_all wanted seen [] best was = subst (λ (s : List (ℕ × Seat)). Best wanted s best) (sym (append-nil seen)) was
-seen_all wanted seen (e ∷ es) best was = subst (λ (s : List (ℕ × Seat)). Best wanted s (best_of wanted (longer best e.0 (idle_for wanted e.1)) es)) (append_assoc seen (e ∷ []) es)
-    (seen_all wanted (seen ++ e ∷ []) es (longer best e.0 (idle_for wanted e.1)) (seen_one wanted seen e.0 e.1 best (idle_for wanted e.1) refl was))
+seen_all wanted seen (e ∷ es) best was = subst (λ (s : List (ℕ × Seat)). Best wanted s (best_of wanted (longer_idle best e.0 (idle_for wanted e.1)) es)) (append_assoc seen (e ∷ []) es)
+    (seen_all wanted (seen ++ e ∷ []) es (longer_idle best e.0 (idle_for wanted e.1)) (seen_one wanted seen e.0 e.1 best (idle_for wanted e.1) refl was))
 
 all_seen : (wanted : Option ℕ) (seats : List (ℕ × Seat)) → Best wanted seats (best_of wanted None seats)
 all_seen wanted seats = seen_all wanted [] seats None (All-nil (λ e. idle_for wanted e.1 ≡ None))

@@ -7,8 +7,8 @@ use Rattle.gate_turns.specs.Seat.{idle_since}
 use Rattle.gate_turns.specs.Turns.{seat_in}
 
 -- how many places an address has
-abbrev pub places_of : ℕ → List (ℕ × Seat) → ℕ
-places_of address seats = count_by (λ e. nat_eq e.1.address address) seats
+abbrev pub places_taken : ℕ → List (ℕ × Seat) → ℕ
+places_taken address seats = count_by (λ e. nat_eq e.1.address address) seats
 
 -- it is asked for any address, or for this one
 abbrev pub is_of : Option ℕ → ℕ → Bool
@@ -20,10 +20,10 @@ abbrev pub idle_for : Option ℕ → Seat → Option ℕ
 idle_for wanted seat = if is_of wanted seat.address then idle_since seat else None
 
 -- the best one of those before, or this one, where it has been idle longer
-abbrev pub longer : Option (ℕ × ℕ) → ℕ → Option ℕ → Option (ℕ × ℕ)
-longer best id None = best
-longer None id (Some since) = Some (id, since)
-longer (Some best) id (Some since) = if nat_lt since best.1 then Some (id, since) else Some best
+abbrev pub longer_idle : Option (ℕ × ℕ) → ℕ → Option ℕ → Option (ℕ × ℕ)
+longer_idle best id None = best
+longer_idle None id (Some since) = Some (id, since)
+longer_idle (Some best) id (Some since) = if nat_lt since best.1 then Some (id, since) else Some best
 
 -- a connection is idle, and no other that is asked for has been for longer
 pub record IsLongestIdle (wanted : Option ℕ) (seats : List (ℕ × Seat)) (id : ℕ) : Type 0 where
@@ -40,11 +40,11 @@ NobodyIsIdle wanted seats = All (λ e. idle_for wanted e.1 ≡ None) seats
 -- What becomes of a newcomer whose address may have so many of all places: it has a place of its own exactly where one is
 -- free and its address has fewer than it may; it has that of the connection of its own address that has been idle longest
 -- where that has as many as it may, else of all; and it is refused exactly where none of these is idle.
-abbrev pub IsPlaced : ℕ → ℕ → ℕ → List (ℕ × Seat) → Choice → Type 0
-IsPlaced room most address seats Opens = (length seats < room) × (places_of address seats < most)
-IsPlaced room most address seats (Replaces id) =
-    ((most ≤ places_of address seats) × IsLongestIdle (Some address) seats id)
-    ⊎ ((places_of address seats < most) × (room ≤ length seats) × IsLongestIdle None seats id)
-IsPlaced room most address seats Refused =
-    ((most ≤ places_of address seats) × NobodyIsIdle (Some address) seats)
-    ⊎ ((places_of address seats < most) × (room ≤ length seats) × NobodyIsIdle None seats)
+abbrev pub IsChoiceFor : ℕ → ℕ → ℕ → List (ℕ × Seat) → Choice → Type 0
+IsChoiceFor room most address seats Opens = (length seats < room) × (places_taken address seats < most)
+IsChoiceFor room most address seats (Replaces id) =
+    ((most ≤ places_taken address seats) × IsLongestIdle (Some address) seats id)
+    ⊎ ((places_taken address seats < most) × (room ≤ length seats) × IsLongestIdle None seats id)
+IsChoiceFor room most address seats Refused =
+    ((most ≤ places_taken address seats) × NobodyIsIdle (Some address) seats)
+    ⊎ ((places_taken address seats < most) × (room ≤ length seats) × NobodyIsIdle None seats)

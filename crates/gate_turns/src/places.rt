@@ -1,6 +1,6 @@
 //! Who is given up for a newcomer.
 ghost use Rattle.std.specs.Prelude.{◌≡◌, IfSome, IfNone};
-ghost use Rattle.gate_turns.specs.Places.{IsLongestIdle, NobodyIsIdle, idle_for, longer, places_of};
+ghost use Rattle.gate_turns.specs.Places.{IsLongestIdle, NobodyIsIdle, idle_for, longer_idle, places_taken};
 
 use crate::seat::Seat;
 use std::collections::BTreeMap;
@@ -18,7 +18,7 @@ pub enum Choice {
 
 /// How many connections of an address are open. Each is looked at.
 pub fn count_of(seats: &BTreeMap<u64, Seat>, address: u64) -> usize
-    ensures { result ≡ places_of address seats.now.entries }
+    ensures { result ≡ places_taken address seats.now.entries }
 {
     seats
         .iter()
@@ -33,7 +33,7 @@ pub fn longest_idle(seats: &BTreeMap<u64, Seat>, wanted: Option<u64>) -> Option<
 {
     let mut best: Option<(u64, u64)> = None;
     for (id, seat) in seats.iter() {
-        best = longer(best, *id, idle_for(seat, wanted));
+        best = longer_idle(best, *id, idle_for(seat, wanted));
     }
     match best {
         Some((id, _)) => Some(id),
@@ -52,8 +52,8 @@ fn idle_for(seat: &Seat, wanted: Option<u64>) -> Option<u64>
 }
 
 /// The one that has been idle longer: the best one of those before, or this one, where it is idle.
-fn longer(best: Option<(u64, u64)>, id: u64, idle: Option<u64>) -> Option<(u64, u64)>
-    ensures { result ≡ longer best id idle }
+fn longer_idle(best: Option<(u64, u64)>, id: u64, idle: Option<u64>) -> Option<(u64, u64)>
+    ensures { result ≡ longer_idle best id idle }
 {
     match (best, idle) {
         (_, None) => best,

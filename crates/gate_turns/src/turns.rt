@@ -2,7 +2,7 @@
 ghost use Rattle.std.specs.Prelude.{◌≡◌, ◌≢◌, ◌≤◌, ◌<◌, ◌+◌, ◌-◌, ◌^◌, ◌⊎◌, min, IfOk, IfSome, IfNone, MatchBool, IsTrue, ◌↔◌, Some, None, false, not, ℕ, length, IsSome, IsSomeAnd, if◌then◌else◌};
 ghost use Rattle.gate_turns.specs.Seat.{new_seat, IsReported, IsTurned, is_closing, is_woken};
 ghost use Rattle.gate_turns.specs.declared.seat.Place.TheVariants as place;
-ghost use Rattle.gate_turns.specs.Places.{IsLongestIdle, IsPlaced, NobodyIsIdle, places_of};
+ghost use Rattle.gate_turns.specs.Places.{IsLongestIdle, IsChoiceFor, NobodyIsIdle, places_taken};
 ghost use Rattle.gate_turns.specs.Lanes.{HasTurn, lanes_with, lanes_at_round, lanes_cut_short, turns_due, queued_count, empty_lanes};
 ghost use Rattle.gate_turns.specs.Turns.{IsSeated, TurnsState, seat_at, seat_in, lanes_after, OthersStay, HasCome, HasLeft, HasBegun, IsAwaiting, IsDismissible};
 
@@ -105,7 +105,7 @@ impl Turns {
     /// What becomes of a newcomer of an address that may have so many places. All are looked at only where no place is
     /// free, or as many are taken as it may have.
     pub fn place_for(&self, address: u64, most: usize) -> Choice
-        ensures { IsPlaced self.now.lanes.room most address self.now.seats result }
+        ensures { IsChoiceFor self.now.lanes.room most address self.now.seats result }
     {
         let longest = if !self.may_have(address, most) {
             longest_idle(&self.seats, Some(address))
@@ -122,7 +122,7 @@ impl Turns {
 
     /// Whether an address that may have so many places has fewer.
     fn may_have(&self, address: u64, most: usize) -> bool
-        ensures { IsTrue result ↔ (places_of address self.now.seats < most) }
+        ensures { IsTrue result ↔ (places_taken address self.now.seats < most) }
     {
         self.seats.len() < most || count_of(&self.seats, address) < most
     }
@@ -151,7 +151,7 @@ impl Turns {
         ensures came { MatchBool result (HasCome id (new_seat address) self.old self.new)
             (self.new ≡ self.old) }
         ensures room { IsTrue result → length self.old.seats < self.old.lanes.room }
-        ensures own { IsTrue result → places_of address self.old.seats < most }
+        ensures own { IsTrue result → places_taken address self.old.seats < most }
         ensures others { OthersStay id self.old self.new }
         ensures turn { self.new.turn ≡ self.old.turn }
     {
