@@ -124,7 +124,13 @@ for name in notes .hidden index.htm 'two words.html' 'é.html' script.mjs; do
 done
 refused
 mkdir "$bad/folder.html"
-ends 34 "$bad/folder.html: " --pages "$bad"
+ends 35 "$bad/folder.html: it is no regular file" --pages "$bad"
+refused
+mkfifo "$bad/fifo.txt"
+ends 35 "$bad/fifo.txt: it is no regular file" --pages "$bad"
+refused
+ln -s /etc/passwd "$bad/link.txt"
+ends 35 "$bad/link.txt: it is no regular file" --pages "$bad"
 refused
 head -c 1048577 /dev/zero > "$bad/long.txt"
 ends 35 "$bad/long.txt: it has more than 1,048,576 bytes" --pages "$bad"

@@ -56,8 +56,8 @@ fn folder_beside<R: Files + AllocGlobal>(rt: &R) -> Result<Option<String>, Alloc
     }
 }
 
-/// The pages that are the files of a folder. The first that is none is told by its name: `NoPage` by its name, `LongPage`
-/// with more than 1,048,576 bytes, `ManyPages` where 64 came before it, and `PageUnread` where it, or the folder, can't be
+/// The pages that are the files of a folder. The first that is none is told by its name: `NoPage` by its name,
+/// `IrregularPage` where it is a link, a FIFO or a folder, `LongPage` with more than 1,048,576 bytes, `ManyPages` where 64 came before it, and `PageUnread` where it, or the folder, can't be
 /// read.
 fn read_pages<R: Files + AllocGlobal + Clone + Drop + Eprint + Log>(
     rt: &R,
@@ -122,8 +122,18 @@ fn read_page<R: Files + AllocGlobal>(
         return Err(ProgramFault::ManyPages);
     }
     let file = format!(in rt.alloc(); "{folder}/{name}")?;
+    look_at(rt, file.as_str())?;
     match read_at_most(rt, file.as_str(), MOST_BYTES) {
         Ok(bytes) => page_of(rt.alloc(), name.as_bytes(), kind, bytes),
+        Err(_) => Err(ProgramFault::PageUnread),
+    }
+}
+
+/// Refuses what is no regular file: a FIFO would be waited for, and a link may lead anywhere.
+fn look_at<R: Files>(rt: &R, path: &str) -> Result<(), ProgramFault> {
+    match fs::symlink_metadata(rt, path) {
+        Ok(found) if found.is_file() => Ok(()),
+        Ok(_) => Err(ProgramFault::IrregularPage),
         Err(_) => Err(ProgramFault::PageUnread),
     }
 }

@@ -5,7 +5,7 @@ use Rattle.folder_shelf.specs.declared.fault.FolderFault.TheVariants as folder
 use Rattle.redis_store.specs.declared.fault.ServerFault.{ServerFault}
 use Rattle.redis_store.specs.declared.fault.ServerFault.TheVariants as server
 use Rattle.server_stores.specs.declared.fault.ProgramFault.{ProgramFault}
-use Rattle.server_stores.specs.declared.fault.ProgramFault.TheVariants.{PollFailed, Arguments, Listen, Shares, Stores, Room, Memory, New, Missing, AllMissing, NoAddress, AddressInUse, NotAllowed, NotBound, SecretUnread, SecretTooLong, TokenUnread, BadToken, FewHandles, NoMemory, NotPrinted, NotThere, NoneAbove, Empty, Folder, OtherGrid, Twice, NewFolder, DiskFull, NoRoom, NotEmpty, OtherCount, ImageUnread, BadImage, ImageUnwritten, NotWell, RedisUnknown, Redis, PasswordUnread, OptionsUnread, Options, PageUnread, NoPage, LongPage, ManyPages}
+use Rattle.server_stores.specs.declared.fault.ProgramFault.TheVariants.{PollFailed, Arguments, Listen, Shares, Stores, Room, Memory, New, Missing, AllMissing, NoAddress, AddressInUse, NotAllowed, NotBound, SecretUnread, SecretTooLong, TokenUnread, BadToken, FewHandles, NoMemory, NotPrinted, NotThere, NoneAbove, Empty, Folder, OtherGrid, Twice, NewFolder, DiskFull, NoRoom, NotEmpty, OtherCount, ImageUnread, BadImage, ImageUnwritten, NotWell, RedisUnknown, Redis, PasswordUnread, OptionsUnread, Options, PageUnread, NoPage, IrregularPage, LongPage, ManyPages}
 
 -- the status where a folder was refused; 20 is between them, that of a full disk
 abbrev pub folder_status : FolderFault → ℕ
@@ -73,5 +73,6 @@ status_of OptionsUnread = 32
 status_of Options = 33
 status_of PageUnread = 34
 status_of NoPage = 35
+status_of IrregularPage = 35
 status_of LongPage = 35
 status_of ManyPages = 35

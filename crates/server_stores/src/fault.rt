@@ -99,6 +99,8 @@ pub enum ProgramFault {
     PageUnread,
     /// A file among the pages is none by its name.
     NoPage,
+    /// An entry among the pages is no regular file, as a link or a FIFO.
+    IrregularPage,
     /// A page has too many bytes.
     LongPage,
     /// There are too many pages.
@@ -188,6 +190,7 @@ impl fmt::Display for ProgramFault {
             ProgramFault::PageUnread => "the page can't be read",
             ProgramFault::NoPage =>
                 "it is no page: its name is to be of letters, digits, dots, hyphens and low lines, and to end in .html, .css, .js, .svg, .png, .json or .txt",
+            ProgramFault::IrregularPage => "it is no regular file",
             ProgramFault::LongPage => "it has more than 1,048,576 bytes",
             ProgramFault::ManyPages => "it is one page too many: there may be 64",
         };
@@ -225,6 +228,7 @@ impl ProgramFault {
             ProgramFault::Options => true,
             ProgramFault::PageUnread => true,
             ProgramFault::NoPage => true,
+            ProgramFault::IrregularPage => true,
             ProgramFault::LongPage => true,
             ProgramFault::ManyPages => true,
             _ => self.is_of_a_store(),
@@ -279,6 +283,7 @@ impl ProgramFault {
             ProgramFault::Options => 33,
             ProgramFault::PageUnread => 34,
             ProgramFault::NoPage => 35,
+            ProgramFault::IrregularPage => 35,
             ProgramFault::LongPage => 35,
             ProgramFault::ManyPages => 35,
         }
