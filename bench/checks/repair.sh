@@ -92,6 +92,13 @@ for kind in '' :10000000,disk; do
     start $(stores) --new "$grid/2"
     grep -q "$grid/2: a new folder" "$folder/words" || fail "'$kind': a new folder isn't told"
     test "$(good "$cap")" = 8 || fail "'$kind': $(good "$cap") shares are good with one of five folders lost"
+    status=0
+    "$program" check "$grid"/* > "$folder/said" 2> "$folder/told" || status=$?
+    test "$status" = 28 || fail "'$kind': check ends with $status where files are short of shares"
+    grep -qx 'files: 0 whole, [23] with fewer than 10 shares, [01] with fewer than 3' "$folder/said" ||
+        fail "'$kind': check counts other files: $(cat "$folder/said")"
+    grep -q 'short: [a-z2-7]*: 8 of 10 shares, and 3 are needed' "$folder/told" || fail "'$kind': check names no file"
+    $curl -f -T "$folder/new" -o "$folder/said" "$base/uri"
     repair "'$kind', lost"
     test "$(good "$directory")" = 8 || fail "'$kind': $(good "$directory") shares of a directory are good"
     again=$($curl "$base/uri/$directory?t=json" | jq '.[1].children' | $curl --data-binary @- "$base/uri?t=mkdir-immutable")

@@ -4,6 +4,8 @@
 
 /// Looking through folders.
 mod checking;
+/// What is counted of the files whose shares stand in folders.
+mod file_tally;
 /// A store that forgets what it is put.
 mod forgetful_store;
 /// Images of a grid in folders.
