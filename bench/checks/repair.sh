@@ -98,6 +98,7 @@ for kind in '' :10000000,disk; do
     grep -qx 'files: 0 whole, [23] with fewer than 10 shares, [01] with fewer than 3' "$folder/said" ||
         fail "'$kind': check counts other files: $(cat "$folder/said")"
     grep -q 'short: [a-z2-7]*: 8 of 10 shares, and 3 are needed' "$folder/told" || fail "'$kind': check names no file"
+    # the upload that mem:1 cut off is made again, or too few of its shares may be there
     $curl -f -T "$folder/new" -o "$folder/said" "$base/uri"
     repair "'$kind', lost"
     test "$(good "$directory")" = 8 || fail "'$kind': $(good "$directory") shares of a directory are good"
@@ -128,10 +129,8 @@ for kind in '' :10000000,disk; do
     stop
     "$program" check "$grid"/* > "$folder/said" 2>&1 || fail "'$kind': check ends with $? after the last repair"
 
-    # by the command: the shares of a folder are taken away, a byte is changed in the files of another, a third one is lost.
-    # The upload that mem:1 cut off is made again, or too few of its shares may be there.
+    # by the command: the shares of a folder are taken away, a byte is changed in the files of another, a third one is lost
     start $(stores)
-    $curl -f -T "$folder/new" -o "$folder/said" "$base/uri"
     second=$(head -c 3000 /dev/urandom | $curl -T - "$base/uri")
     stop
     find "$grid/4" -name '*.[0-9]' -delete
