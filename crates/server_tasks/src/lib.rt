@@ -312,15 +312,17 @@ fn serve_with<R: AllocGlobal + Clock + CpuClock + Net + Log, S: Store>(
     }
 }
 
-/// What is allowed to connections: as many may be open, and silent for as long, and as much may be kept of them, as is asked
-/// for.
+/// What is allowed to connections: as many may be open in all and of one address, and silent for as long, and as much may be
+/// kept of them, as is asked for.
 fn limits_of(options: &Options<'_>) -> Limits
     ensures most { result.most ≡ options.now.connections }
+    ensures per_address { result.per_address ≡ options.now.per_address }
     ensures idle { as_nanos result.idle ≡ options.now.idle * 1_000_000_000 }
     ensures memory { result.memory ≡ options.now.memory }
     ensures endless { result.served ≡ None }
 {
     let mut limits = Limits::new(options.connections, Duration::from_secs(options.idle));
+    limits.per_address = options.per_address;
     limits.memory = options.memory;
     limits
 }
