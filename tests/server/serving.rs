@@ -76,6 +76,7 @@ fn options_have_defaults(rt: HostRuntime) -> Result<(), Fail> {
     assert!(rt; options.secret_file.is_none());
     assert!(rt; options.redis_password_file.is_none());
     assert_eq!(rt; options.connections, 900);
+    assert!(rt; options.per_address.is_none());
     assert_eq!(rt; options.idle, 60);
     assert_eq!(rt; options.log_level, LogLevel::Info);
     assert_eq!(rt; options.log_format, LogFormat::Text);
@@ -154,6 +155,8 @@ fn each_number_that_is_given_is_taken(rt: HostRuntime) -> Result<(), Fail> {
     for (text, value) in [("7", 7), ("11", 11)] {
         let words = words_of(rt.alloc(), &["serve", "--connections", text])?;
         assert_eq!(rt; served_with(rt.alloc(), &words)?.connections, value);
+        let words = words_of(rt.alloc(), &["serve", "--per-address", text])?;
+        assert!(rt; served_with(rt.alloc(), &words)?.per_address == Some(value));
         let words = words_of(rt.alloc(), &["serve", "--idle", text])?;
         assert_eq!(rt; served_with(rt.alloc(), &words)?.idle, value as u64);
         let words = words_of(rt.alloc(), &["serve", "--servers", text])?;
@@ -306,7 +309,7 @@ fn a_file_of_options_is_named_whatever_it_has(rt: HostRuntime) -> Result<(), Fai
 
 #[test]
 fn wrong_words_are_refused(rt: HostRuntime) -> Result<(), Fail> {
-    let wrong: [&[&str]; 21] = [
+    let wrong: [&[&str]; 23] = [
         &["serve", "--shares", "4,3"],
         &["serve", "--shares", "0,3"],
         &["serve", "--shares", "3"],
@@ -319,6 +322,8 @@ fn wrong_words_are_refused(rt: HostRuntime) -> Result<(), Fail> {
         &["serve", "--new", "/b", "--store", "dir:/a"],
         &["serve", "--new", "/a/", "--store", "dir:/a:5"],
         &["serve", "--connections", "0"],
+        &["serve", "--per-address", "0"],
+        &["serve", "--per-address", "1000001"],
         &["serve", "--idle", "0"],
         &["serve", "--port", "80"],
         &["serve", "--store", "disk:/a"],

@@ -5,7 +5,7 @@ use Rattle.clap.specs.Words.{Row, subcommand_of}
 use Rattle.clap.specs.declared.builder.value_parser.ValueParser.{ValueParser}
 use Rattle.server_options.specs.CommandLine.{wozhinnam}
 use Rattle.server_options.specs.Folders.{IsStoreFolder}
-use Rattle.server_options.specs.Given.{given_text, given_texts, given_word, IsFlagGiven, IsNumberGiven}
+use Rattle.server_options.specs.Given.{given_text, given_texts, given_word, IsFlagGiven, IsNumberGiven, IsNumberIfGiven}
 use Rattle.server_options.specs.Listening.{HasNoComma, listen_text}
 use Rattle.server_options.specs.Logging.{named_format, named_level}
 use Rattle.server_options.specs.Missing.{AreServedWithout, IsPresent}
@@ -61,6 +61,7 @@ pub record AreServeOptions (rows : List Row) (o : Options) : Type 0 where
   pub pages : option_map (λ s. s.now) o.pages ≡ given_text rows (codes "pages")
   pub no_pages : IsFlagGiven rows (codes "no-pages") o.no_pages
   pub connections : IsNumberGiven 64 rows (codes "connections") 1 o.connections
+  pub per_address : IsNumberIfGiven 64 rows (codes "per-address") o.per_address
   pub idle : IsNumberGiven 64 rows (codes "idle") 60 o.idle
   pub memory : written_size (given_word rows (codes "memory")) ≡ Some o.memory
   pub log_level : o.log_level ≡ named_level (given_word rows (codes "log-level"))

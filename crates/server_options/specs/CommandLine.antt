@@ -71,6 +71,7 @@ page_rules = option_rule (codes "pages") ∷ excluding (switch_rule (codes "no-p
 
 abbrev pub limit_rules : List Rule
 limit_rules = with_default (codes "900") (with_parser_of (Unsigned 1 1000000) (option_rule (codes "connections")))
+    ∷ with_parser_of (Unsigned 1 1000000) (option_rule (codes "per-address"))
     ∷ with_default (codes "60") (with_parser_of (Unsigned 1 86400) (option_rule (codes "idle")))
     ∷ with_default (codes "256M") (option_rule (codes "memory"))
     ∷ []

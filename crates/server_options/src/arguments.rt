@@ -78,7 +78,7 @@ fn served<'a>(alloc: Global) -> Result<Vec<Arg<'a>>, AllocError>
     ensures { IfOk result (λ list. (levels formats : ValueParser)
         × AllZip FollowsRule (serve_rules levels formats) list.items) }
 {
-    let mut list = Vec::with_capacity(alloc, 20)?;
+    let mut list = Vec::with_capacity(alloc, 21)?;
     add_places(alloc, &mut list)?;
     add_stores(alloc, &mut list)?;
     add_pages(alloc, &mut list)?;
@@ -125,6 +125,7 @@ fn add_limits<'a>(alloc: Global, list: &mut Vec<Arg<'a>>) -> Result<(), AllocErr
     ensures { IfOk result (λ _. GetsRules limit_rules list.old.items list.new.items) }
 {
     add(list, connections(alloc))?;
+    add(list, per_address(alloc))?;
     add(list, idle(alloc))?;
     add(list, memory(alloc))
 }
@@ -479,6 +480,20 @@ fn connections<'a>(alloc: Global) -> Arg<'a>
         parsed(connections, ValueParser::unsigned(1, 1_000_000)),
         "900",
     )
+}
+
+/// `--per-address`.
+fn per_address<'a>(alloc: Global) -> Arg<'a>
+    ensures { FollowsRule (with_parser_of (ValueParser.Unsigned 1 1000000)
+        (option_rule (codes "per-address"))) result }
+{
+    let of_one = option(
+        alloc,
+        "per-address",
+        "MAX",
+        "how many connections one address may have open, of IPv6 its /64; where this isn't given, a quarter of --connections, and any number for the machine's own addresses",
+    );
+    parsed(of_one, ValueParser::unsigned(1, 1_000_000))
 }
 
 /// `--idle`.

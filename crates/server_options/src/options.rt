@@ -4,7 +4,7 @@ ghost use Rattle.clap.specs.Words.{app_of, is_simple, subcommand_of, subcommand_
 ghost use Rattle.octets.specs.Sharing.{IsSharing};
 ghost use Rattle.server_options.specs.Asked.{AreServeOptions, AreSharesGiven, AreStoresGiven, AreStoresServed, IsTaskGiven, IsAskedBy, IsRepairing, IsReshaping, IsRestoring};
 ghost use Rattle.server_options.specs.Folders.{folder_of, IsStoreFolder};
-ghost use Rattle.server_options.specs.Given.{given_rows, given_text, given_texts, given_word, IsFlagGiven, IsNumberGiven};
+ghost use Rattle.server_options.specs.Given.{given_rows, given_text, given_texts, given_word, IsFlagGiven, IsNumberGiven, IsNumberIfGiven};
 ghost use Rattle.server_options.specs.Handles.{keeps_handle};
 ghost use Rattle.server_options.specs.Listening.{HasNoComma, listen_text};
 ghost use Rattle.server_options.specs.Logging.{named_level, named_format};
@@ -72,6 +72,8 @@ pub struct Options<'a> {
     pub no_pages: bool,
     /// How many connections may be open at once.
     pub connections: usize,
+    /// How many of them one address may have open, if that is said: 1 to 1,000,000.
+    pub per_address: Option<usize>,
     /// For how many seconds one may be silent.
     pub idle: u64,
     /// How many bytes may be kept of all connections before those that send long requests, or ask for long replies, have to
@@ -272,6 +274,7 @@ fn read_options<'a>(alloc: Global, given: &ArgMatches<'a>) -> Result<Options<'a>
         pages: find_text(given, "pages"),
         no_pages: has_flag(given, "no-pages"),
         connections: connections_of(given),
+        per_address: per_address_of(given),
         idle: idle_of(given),
         memory,
         log_level: named_level(text_of(given, "log-level")),
@@ -355,6 +358,13 @@ fn connections_of(given: &ArgMatches<'_>) -> usize
     ensures { IsNumberGiven 64 (given_rows given.now) (codes "connections") 1 result }
 {
     given.get_one::<usize>("connections").unwrap_or(1)
+}
+
+/// How many connections one address may have open, if that was given.
+fn per_address_of(given: &ArgMatches<'_>) -> Option<usize>
+    ensures { IsNumberIfGiven 64 (given_rows given.now) (codes "per-address") result }
+{
+    given.get_one::<usize>("per-address")
 }
 
 /// For how many seconds a connection may be silent.

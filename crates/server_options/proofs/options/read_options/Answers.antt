@@ -23,6 +23,7 @@ returns-clause-read c = record {
   pages = c.find_text-4.ensures;
   no_pages = c.has_flag-2.ensures;
   connections = c.connections_of.ensures;
+  per_address = c.per_address_of.ensures;
   idle = c.idle_of.ensures;
   memory = c.in_ok-memory.ensures.some;
   log_level = c.named_level.ensures ∙ ap named_level c.text_of-2.ensures;
