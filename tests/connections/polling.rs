@@ -240,7 +240,7 @@ fn newcomers_have_places(rt: HostRuntime) -> Result<(), Fail> {
     Ok(())
 }
 
-/// Whether one that sent nothing makes room for a newcomer: with all places taken, and with all of its address.
+/// Whether one that sent nothing makes room for a newcomer.
 fn are_placed<R: Net<Stream = TcpStream> + Clock + CpuClock + AllocGlobal + Log + Abort>(
     rt: &R,
     many: &mut Lobby<MemStore>,
@@ -257,12 +257,7 @@ fn are_placed<R: Net<Stream = TcpStream> + Clock + CpuClock + AllocGlobal + Log 
     };
     let full = Limits::new(1, Duration::from_secs(20));
     let counts = serves(rt, &full, many, &[silent, asking])?;
-    let one_is_replaced = counts.replaced == 1 && counts.over == 1;
-    let mut limits = Limits::new(10, Duration::from_secs(20));
-    limits.per_address = Some(1);
-    let counts = serves(rt, &limits, many, &[silent, asking])?;
-    let one_of_the_address_is = counts.replaced == 1 && counts.over == 1;
-    Ok(one_is_replaced && one_of_the_address_is && is_refused(rt, many)?)
+    Ok(counts.replaced == 1 && counts.over == 1 && is_refused(rt, many)?)
 }
 
 /// Whether one whose address has all its places is refused where nobody is idle, and nothing is lost.

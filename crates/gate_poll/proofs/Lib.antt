@@ -2,3 +2,4 @@ pub mod Hosts
 pub mod Keeping
 pub mod LettingGo
 pub mod Listening
+pub mod Placing
