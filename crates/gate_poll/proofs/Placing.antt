@@ -20,10 +20,10 @@ module _ (room most address : ℕ) (ps : List (ℕ × Peer)) (ts us : TurnsState
   Places = (c : Choice) × (IsChoiceFor room most address ts.seats c × IsRoomMade c made ps ts us)
 
   pub room_opens : choice ≡ Opens → IsChoiceFor room most address ts.seats choice → made ≡ true → us ≡ ts → Places
-  room_opens is chosen yes same = (Opens, (subst (IsChoiceFor room most address ts.seats) is chosen, (yes, same)))
+  room_opens is chosen made_is same = (Opens, (subst (IsChoiceFor room most address ts.seats) is chosen, (made_is, same)))
 
   pub room_refused : choice ≡ Refused → IsChoiceFor room most address ts.seats choice → made ≡ false → us ≡ ts → Places
-  room_refused is chosen no same = (Refused, (subst (IsChoiceFor room most address ts.seats) is chosen, (no, same)))
+  room_refused is chosen made_is same = (Refused, (subst (IsChoiceFor room most address ts.seats) is chosen, (made_is, same)))
 
 made_so : (made : Bool) (A B : Type 0) → MatchBool made A (B → ⊥) → B → (made ≡ true) × A
 made_so true A B was is = (refl, was)

@@ -412,9 +412,20 @@ impl Table {
         self.stopping = true;
         let ids = self.all_ids();
         for id in &ids {
-            if self.dismiss(*id, lobby, forgets) {
-                self.tools.counts.stops();
-            }
+            self.stop_one(*id, lobby, forgets);
+        }
+    }
+
+    /// Closes a connection since serving is to stop, if it waits for its socket and nothing is owed to it.
+    fn stop_one<S: Store, F: Forget>(&mut self, id: u64, lobby: &mut Lobby<S>, forgets: &mut F)
+        requires { IsTableKept self.old }
+        ensures served { Serves self.old self.new lobby.old lobby.new }
+        ensures let_go { LetsGo (F.forgot forgets.old) (F.forgot forgets.new) self.old self.new
+            lobby.old lobby.new }
+        ensures due { turns_due self.new.turns.lanes ≡ turns_due self.old.turns.lanes }
+    {
+        if self.dismiss(id, lobby, forgets) {
+            self.tools.counts.stops();
         }
     }
 

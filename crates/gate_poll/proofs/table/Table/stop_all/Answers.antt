@@ -9,10 +9,10 @@ loop-id-init g c = (serves_still c.args.self.now.ids.next c.args.self.now.ids.ne
 pub loop-id-preserved : goal.loop-id-preserved
 loop-id-preserved g c = (
   record {
-    kept = c.dismiss.ensures.served.kept;
-    next_is = omega (arith, c.loop-id.invariant.0.next_is, c.dismiss.ensures.served.next_is);
-    hosted = c.gateways_are_hosted.ensures.joined 1 c.loop-id.self.ids.next c.dismiss.new.self.ids.next c.args.lobby.now c.loop-id.lobby c.dismiss.new.lobby c.dismiss.ensures.served.next_is c.loop-id.invariant.0.hosted c.dismiss.ensures.served.hosted;
+    kept = c.stop_one.ensures.served.kept;
+    next_is = omega (arith, c.loop-id.invariant.0.next_is, c.stop_one.ensures.served.next_is);
+    hosted = c.gateways_are_hosted.ensures.joined 1 c.loop-id.self.ids.next c.stop_one.new.self.ids.next c.args.lobby.now c.loop-id.lobby c.stop_one.new.lobby c.stop_one.ensures.served.next_is c.loop-id.invariant.0.hosted c.stop_one.ensures.served.hosted;
   },
-  gone_then _ _ _ c.args.self.now.peers.entries c.loop-id.self.peers.entries c.dismiss.new.self.peers.entries c.args.lobby.now c.loop-id.lobby c.dismiss.new.lobby c.loop-id.invariant.1 c.dismiss.ensures.let_go,
-  c.dismiss.ensures.due ∙ c.loop-id.invariant.2,
+  gone_then _ _ _ c.args.self.now.peers.entries c.loop-id.self.peers.entries c.stop_one.new.self.peers.entries c.args.lobby.now c.loop-id.lobby c.stop_one.new.lobby c.loop-id.invariant.1 c.stop_one.ensures.let_go,
+  c.stop_one.ensures.due ∙ c.loop-id.invariant.2,
 )
