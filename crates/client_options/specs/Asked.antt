@@ -1,35 +1,18 @@
 -- What the words of a command line ask for, by what clap's reference finds in them.
-use Rattle.std.specs.Prelude.{◌≡◌, ◌==◌, ℕ, Bool, false, List, [], Option, Some, codes, map, option_map, unwrap_or}
+use Rattle.std.specs.Prelude.{◌≡◌, ◌==◌, ℕ, List, Option, codes, map, option_map}
 use Rattle.std.specs.List.{before_first, after_first}
-use Rattle.std.specs.Option.{option_map_or}
-use Rattle.std.specs.Str.{bytes_eq}
-use Rattle.clap.specs.Words.{Row, all_of, first_of, matches_of, subcommand_of}
+use Rattle.clap.specs.Words.{Row, first_of, matches_of, subcommand_of}
+use Rattle.command_words.specs.Given.{IsVerb, is_set, word_of, words_of}
 use Rattle.client_options.specs.CommandLine.{woz}
 use Rattle.client_options.specs.declared.task.Node.{Node}
 use Rattle.client_options.specs.declared.task.Options.{Options}
 use Rattle.client_options.specs.declared.task.Task.{Task}
 use Rattle.client_options.specs.declared.task.Task.TheVariants.{Put, Get, List as Ls, Check, Repair, Mkdir}
 
--- the word under a name, or an empty one
-abbrev pub word_of : List ℕ → List Row → List ℕ
-word_of name rows = unwrap_or (first_of name rows) []
-
--- all words under it, in their order
-abbrev pub words_of : List ℕ → List Row → List (List ℕ)
-words_of name rows = unwrap_or (all_of name rows) []
-
--- a flag is set
-abbrev pub is_set : List ℕ → List Row → Bool
-is_set name rows = option_map_or (λ word. bytes_eq word (codes "true")) (first_of name rows) false
-
 -- the first `/` of a word is behind its cap
 pub record IsNodeOf (rows : List Row) (node : Node) : Type 0 where
   pub cap : node.cap.now ≡ before_first (λ b. b == 47) (word_of (codes "node") rows)
   pub path : node.path.now ≡ after_first (λ b. b == 47) (word_of (codes "node") rows)
-
--- a verb was given, and what stands behind it
-abbrev pub IsVerb : Option (List ℕ × List Row) → List ℕ → (List Row → Type 0) → Type 0
-IsVerb given verb Holds = (rows : List Row) × ((given ≡ Some (verb, rows)) × Holds rows)
 
 -- a task is what a verb asks for
 abbrev pub IsTask : Option (List ℕ × List Row) → Task → Type 0

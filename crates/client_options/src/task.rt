@@ -1,14 +1,16 @@
 //! What the client is asked for.
 
-ghost use Rattle.std.specs.Prelude.{◌≡◌, IfOk, map, option_map, string_bytes};
+ghost use Rattle.std.specs.Prelude.{IfOk, map, string_bytes};
 ghost use Rattle.clap.specs.Faults.{fault_of};
 ghost use Rattle.clap.specs.Kinds.{FailsBy};
-ghost use Rattle.clap.specs.Words.{first_of, found_of, rows_of, subcommand_rows_of};
-ghost use Rattle.client_options.specs.Asked.{AreOptionsOf, IsNodeOf, IsTask, is_set, word_of, words_of};
+ghost use Rattle.clap.specs.Words.{subcommand_rows_of};
+ghost use Rattle.command_words.specs.Given.{given_rows};
+ghost use Rattle.client_options.specs.Asked.{AreOptionsOf, IsNodeOf, IsTask};
 ghost use Rattle.client_options.specs.CommandLine.{woz};
 
 use crate::arguments::program;
 use clap::{ArgMatches, Error};
+use command_words::{find_word, has_flag, word_of, words_of};
 use std::alloc::{AllocError, Global};
 
 /// What the client is asked for, and of whom.
@@ -135,7 +137,7 @@ fn read_task<'a>(alloc: Global, matches: &ArgMatches<'a>) -> Result<Task<'a>, Al
 
 /// The cap, and what follows its first `/`.
 fn node_of<'a>(given: &ArgMatches<'a>) -> Node<'a>
-    ensures { IsNodeOf (rows_of (found_of given.now)) result }
+    ensures { IsNodeOf (given_rows given.now) result }
 {
     let text = word_of(given, "node");
     match text.split_once('/') {
@@ -145,47 +147,4 @@ fn node_of<'a>(given: &ArgMatches<'a>) -> Node<'a>
             path: "",
         },
     }
-}
-
-/// Whether a flag is set.
-fn has_flag(given: &ArgMatches<'_>, name: &str) -> bool
-    ensures { result ≡ is_set name.now (rows_of (found_of given.now)) }
-{
-    match find_word(given, name) {
-        Some(word) => word == "true",
-        None => false,
-    }
-}
-
-/// The word under a name, or an empty one.
-fn word_of<'a>(given: &ArgMatches<'a>, name: &str) -> &'a str
-    ensures { result.now ≡ word_of name.now (rows_of (found_of given.now)) }
-{
-    match find_word(given, name) {
-        Some(word) => word,
-        None => "",
-    }
-}
-
-/// The word under a name, if one was given.
-fn find_word<'a>(given: &ArgMatches<'a>, name: &str) -> Option<&'a str>
-    ensures { option_map (λ s. s.now) result ≡ first_of name.now (rows_of (found_of given.now)) }
-{
-    given.get_str(name)
-}
-
-/// All words under a name, in their order.
-fn words_of<'a>(
-    alloc: Global,
-    given: &ArgMatches<'a>,
-    name: &str,
-) -> Result<Vec<&'a str>, AllocError>
-    ensures { IfOk result (λ words. map (λ s. s.now) words.items
-        ≡ words_of name.now (rows_of (found_of given.now))) }
-{
-    let mut words = Vec::new(alloc);
-    if let Some(values) = given.get_strs(name) {
-        words.extend_from_slice(values)?;
-    }
-    Ok(words)
 }

@@ -1,25 +1,17 @@
 -- What is put together of what was read.
-use Rattle.std.proofs.Common.{◌≡◌, ℕ, Bool, true, false, not, List, Option, None, Some, Box, ap, box_value, codes, is_some, option_map, refl, subst, sym, true≢false, unwrap_or}
+use Rattle.std.proofs.Common.{◌≡◌, ℕ, List, Option, None, Some, Box, ap, box_value, codes, is_some, option_map, subst, sym, true≢false, unwrap_or}
 use Rattle.clap.specs.Words.{Row, Text, found_of, rows_of, subcommand_name_of, subcommand_rows_of}
 use Rattle.clap.specs.Simple.{subcommand_rows}
 use Rattle.clap.specs.declared.parser.matches.ArgMatches.{ArgMatches}
 use Rattle.clap.specs.declared.parser.matches.ArgMatches.TheViews.{out-ArgMatches, out-SubCommand}
 use Rattle.clap.specs.declared.parser.matches.SubCommand.{SubCommand}
 use Rattle.octets.specs.Sharing.{IsSharing}
+use Rattle.command_words.specs.Given.{given_rows, word_of}
 use Rattle.server_options.specs.Asked.{AreSharesGiven}
-use Rattle.server_options.specs.Given.{given_rows, given_word, IsFlagGiven}
 use Rattle.server_options.specs.Shares.{IsPairOf}
 use Rattle.server_options.specs.declared.options.Shares.{Shares}
 
-twice : (b : Bool) → b ≡ not (not b)
-twice true = refl
-twice false = refl
-
--- what holds of a flag holds of what isn't without it
-pub flag_given : (rows : List Row) (name : List ℕ) (set : Bool) → IsFlagGiven rows name set → IsFlagGiven rows name (not (not set))
-flag_given rows name set given = subst (IsFlagGiven rows name) (twice set) given
-
-pub shares_given : (rows : List Row) (text : List ℕ) (shares : Shares) → text ≡ given_word rows (codes "shares") → IsPairOf text shares.needed shares.made
+pub shares_given : (rows : List Row) (text : List ℕ) (shares : Shares) → text ≡ word_of (codes "shares") rows → IsPairOf text shares.needed shares.made
     → IsSharing shares.needed shares.made → AreSharesGiven rows shares
 shares_given rows text shares same pair sharing = record {
   pair = subst (λ t. IsPairOf t shares.needed shares.made) same pair;

@@ -1,8 +1,6 @@
 pub mod AskedLemmas
 pub mod ByteLemmas
 pub mod CommaLemmas
-pub mod CommandLemmas
-pub mod ListLemmas
 pub mod NumberLemmas
 pub mod PairLemmas
 pub mod PlaceLemmas

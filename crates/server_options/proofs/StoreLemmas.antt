@@ -1,14 +1,14 @@
 -- Which stores are given.
 use Rattle.std.proofs.Common.{◌≡◌, ◌∙◌, ◌+◌, ◌<◌, ◌++◌, ◌==◌, ℕ, Bor, List, [], ◌∷◌, ap, arith, codes, false, get_or, length, map, ne_eqb, replicate, subst, sym, take, true, true≢false}
-use Rattle.std.proofs.lemmas.List.{take_more}
+use Rattle.std.proofs.lemmas.List.{map-append, take_more}
 use Rattle.std.specs.List.{AllZip}
 use Rattle.clap.specs.Words.{Row}
+use Rattle.command_words.proofs.CommandLemmas.{zip_append}
 use Rattle.server_options.specs.Asked.{AreNamedStores}
 use Rattle.server_options.specs.Given.{IsNumberGiven}
 use Rattle.server_options.specs.Named.{AreNamesOf, IsNameOf}
 use Rattle.server_options.specs.declared.store_names.StoreWanted.{StoreWanted}
 use Rattle.server_options.specs.declared.store_names.StoreWanted.TheVariants.{Memory}
-use Rattle.server_options.proofs.ListLemmas.{map_one, zip_append}
 
 -- one more text, and the store that it names
 pub names_more : (room : ℕ) (names : List (Bor (List ℕ))) (i : ℕ) (d : Bor (List ℕ)) (stores : List StoreWanted) (store : StoreWanted)
@@ -16,7 +16,7 @@ pub names_more : (room : ℕ) (names : List (Bor (List ℕ))) (i : ℕ) (d : Bor
     → AreNamesOf room (map (λ s. s.now) (take (i + 1) names)) (stores ++ store ∷ [])
 names_more room names i d stores store before less named =
     subst (λ texts. AllZip (IsNameOf room) texts (stores ++ store ∷ []))
-    (sym (ap (map (λ (s : Bor (List ℕ)). s.now)) (take_more names i d less) ∙ map_one (λ (s : Bor (List ℕ)). s.now) (take i names) (get_or names i d)))
+    (sym (ap (map (λ (s : Bor (List ℕ)). s.now)) (take_more names i d less) ∙ map-append (λ (s : Bor (List ℕ)). s.now) (take i names) (get_or names i d ∷ [])))
     (zip_append (IsNameOf room) (map (λ s. s.now) (take i names)) ((get_or names i d).now ∷ []) stores (store ∷ []) before (named, tt))
 
 -- those that are named, where there are some

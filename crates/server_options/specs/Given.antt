@@ -1,30 +1,7 @@
--- What a command line gives under an option's name, and what it is read as.
-use Rattle.std.specs.Prelude.{◌≡◌, ◌<◌, ◌^◌, ◌⊎◌, ℕ, Bool, true, false, List, [], Option, Some, None, unwrap_or, codes}
-use Rattle.clap.specs.declared.parser.matches.ArgMatches.{ArgMatches}
-use Rattle.clap.specs.Words.{Row, all_of, first_of, found_of, one_of, rows_of}
+-- Which number a command line gives under an option's name.
+use Rattle.std.specs.Prelude.{◌≡◌, ◌<◌, ◌^◌, ◌⊎◌, ℕ, List, Option, Some, None}
+use Rattle.clap.specs.Words.{Row, one_of}
 use Rattle.server_options.specs.Shares.{IsCountOf}
-
--- what was given
-abbrev pub given_rows : ArgMatches → List Row
-given_rows given = rows_of (found_of given)
-
--- the text that was given under a name, or none
-abbrev pub given_text : List Row → List ℕ → Option (List ℕ)
-given_text rows name = first_of name rows
-
--- the same, or an empty one
-abbrev pub given_word : List Row → List ℕ → List ℕ
-given_word rows name = unwrap_or (first_of name rows) []
-
--- all texts that were given under it, in their order
-abbrev pub given_texts : List Row → List ℕ → List (List ℕ)
-given_texts rows name = unwrap_or (all_of name rows) []
-
--- a flag is set exactly where it was given
-pub record IsFlagGiven (rows : List Row) (name : List ℕ) (set : Bool) : Type 0 where
-  pub absent : one_of name rows ≡ None → set ≡ false
-  pub yes : one_of name rows ≡ Some (codes "true") → set ≡ true
-  pub no : one_of name rows ≡ Some (codes "false") → set ≡ false
 
 -- a number is the one that a text writes, or another one where the text writes none of so many bits
 abbrev pub IsNumberOr : ℕ → List ℕ → ℕ → ℕ → Type 0

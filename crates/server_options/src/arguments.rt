@@ -1,11 +1,14 @@
 //! The program's command line.
-ghost use Rattle.std.specs.Prelude.{◌≡◌, ◌++◌, [], ◌∷◌, IfOk, Ok, codes};
+ghost use Rattle.std.specs.Prelude.{◌≡◌, [], ◌∷◌, IfOk, codes};
 ghost use Rattle.std.specs.List.{AllZip};
 ghost use Rattle.clap.specs.Words.{app_of, rule_of};
-ghost use Rattle.server_options.specs.CommandLine.{FollowsRule, FollowsShape, GetsRules, entry_rules, excluding, file_rule, limit_rules, log_rules, many, option_rule, page_rules, paths_rule, repair_rules, repeated, reshape_rules, restore_rules, serve_rules, store_rules, switch_rule, verb_shape, verbs_of, with_default, with_parser_of, wozhinnam};
+ghost use Rattle.command_words.specs.Rules.{HasRule, flag, repeated, valued};
+ghost use Rattle.command_words.specs.Verbs.{HasShape, verb};
+ghost use Rattle.server_options.specs.CommandLine.{excluding, many, paths_rule, repair_rules, reshape_rules, restore_rules, serve_rules, verbs_of, with_default, with_parser_of, wozhinnam};
 
 use clap::builder::ValueParser;
 use clap::{Arg, ArgAction, Command};
+use command_words::{add_verb, flag, needed_place, place, program_of, valued, verb};
 use std::alloc::{AllocError, Global};
 
 /// The program's command line.
@@ -13,19 +16,22 @@ pub fn program<'a>(alloc: Global) -> Result<Command<'a>, AllocError>
     ensures { IfOk result (λ command. (levels formats : ValueParser)
         × (app_of command ≡ wozhinnam levels formats)) }
 {
-    Command::new(alloc, "wozhinnam")
-        .version("0.1.0")
-        .about(
-            "A web gateway for capability-addressed storage, over stores in memory, in folders and on Redis servers.",
-        )
-        .subcommand_required(true)
-        .subcommands(verbs(alloc)?)
+    let verbs = verbs(alloc)?;
+    let options = Vec::new(alloc);
+    program_of(
+        alloc,
+        "wozhinnam",
+        "0.1.0",
+        "A web gateway for capability-addressed storage, over stores in memory, in folders and on Redis servers.",
+        options,
+        verbs,
+    )
 }
 
 /// What the program can be asked for.
 fn verbs<'a>(alloc: Global) -> Result<Vec<Command<'a>>, AllocError>
     ensures { IfOk result (λ list. (levels formats : ValueParser)
-        × AllZip FollowsShape (verbs_of levels formats) list.items) }
+        × AllZip HasShape (verbs_of levels formats) list.items) }
 {
     let mut list = Vec::with_capacity(alloc, 6)?;
     add_verb(&mut list, serving(alloc))?;
@@ -37,172 +43,125 @@ fn verbs<'a>(alloc: Global) -> Result<Vec<Command<'a>>, AllocError>
     Ok(list)
 }
 
-/// A verb more in a list, where there is one.
-fn add_verb<'a>(
-    list: &mut Vec<Command<'a>>,
-    verb: Result<Command<'a>, AllocError>,
-) -> Result<(), AllocError>
-    ensures { IfOk result (λ _. (command : Command) × (verb.entry ≡ Ok command)
-        × (list.new.items ≡ list.old.items ++ command ∷ [])) }
-{
-    match verb {
-        Ok(verb) => match list.push(verb) {
-            Ok(()) => Ok(()),
-            Err(_) => Err(AllocError),
-        },
-        Err(error) => Err(error),
-    }
-}
-
-/// An argument more in a list. What has several arguments makes a list of them first: a command line that is handed on past
-/// a `?` is spelled out there whole, which costs the prover seconds each time.
-fn add<'a>(list: &mut Vec<Arg<'a>>, argument: Arg<'a>) -> Result<(), AllocError>
-    ensures { IfOk result (λ _. list.new.items ≡ list.old.items ++ argument.entry ∷ []) }
-{
-    list.push(argument)?;
-    Ok(())
-}
-
 /// The command line of `serve`.
 fn serving<'a>(alloc: Global) -> Result<Command<'a>, AllocError>
     ensures { IfOk result (λ command. (levels formats : ValueParser)
-        × FollowsShape (verb_shape (codes "serve") (serve_rules levels formats)) command) }
+        × HasShape (verb (codes "serve") (serve_rules levels formats)) command) }
 {
-    Command::new(alloc, "serve")
-        .about("Serves connections until it is stopped.")
-        .args(served(alloc)?)
-}
-
-/// The arguments of `serve`.
-fn served<'a>(alloc: Global) -> Result<Vec<Arg<'a>>, AllocError>
-    ensures { IfOk result (λ list. (levels formats : ValueParser)
-        × AllZip FollowsRule (serve_rules levels formats) list.items) }
-{
-    let mut list = Vec::with_capacity(alloc, 21)?;
-    add_places(alloc, &mut list)?;
-    add_stores(alloc, &mut list)?;
-    add_pages(alloc, &mut list)?;
-    add_limits(alloc, &mut list)?;
-    add_log(alloc, &mut list)?;
-    Ok(list)
-}
-
-/// Adds the file of options, and where connections and control requests are accepted.
-fn add_places<'a>(alloc: Global, list: &mut Vec<Arg<'a>>) -> Result<(), AllocError>
-    ensures { IfOk result (λ _. GetsRules entry_rules list.old.items list.new.items) }
-{
-    add(list, config(alloc))?;
-    add(list, listen(alloc))?;
-    add(list, control(alloc))?;
-    add(list, control_token_file(alloc))?;
-    add(list, shares(alloc))
-}
-
-/// Adds the options of pages.
-fn add_pages<'a>(alloc: Global, list: &mut Vec<Arg<'a>>) -> Result<(), AllocError>
-    ensures { IfOk result (λ _. GetsRules page_rules list.old.items list.new.items) }
-{
-    add(list, pages(alloc))?;
-    add(list, no_pages(alloc)?)
-}
-
-/// Adds the options of stores.
-fn add_stores<'a>(alloc: Global, list: &mut Vec<Arg<'a>>) -> Result<(), AllocError>
-    ensures { IfOk result (λ _. GetsRules store_rules list.old.items list.new.items) }
-{
-    add(list, store(alloc))?;
-    add(list, servers(alloc)?)?;
-    add(list, room(alloc))?;
-    add(list, new_folders(alloc))?;
-    add(list, missing_folders(alloc))?;
-    add(list, no_sync(alloc))?;
-    add(list, secret_file(alloc))?;
-    add(list, redis_password_file(alloc))
-}
-
-/// Adds the options of connections.
-fn add_limits<'a>(alloc: Global, list: &mut Vec<Arg<'a>>) -> Result<(), AllocError>
-    ensures { IfOk result (λ _. GetsRules limit_rules list.old.items list.new.items) }
-{
-    add(list, connections(alloc))?;
-    add(list, per_address(alloc))?;
-    add(list, idle(alloc))?;
-    add(list, memory(alloc))
-}
-
-/// Adds the options of the log.
-fn add_log<'a>(alloc: Global, list: &mut Vec<Arg<'a>>) -> Result<(), AllocError>
-    ensures { IfOk result (λ _. (levels formats : ValueParser)
-        × GetsRules (log_rules levels formats) list.old.items list.new.items) }
-{
-    add(list, log_level(alloc))?;
-    add(list, log_format(alloc))
+    let servers = servers(alloc)?;
+    let no_pages = no_pages(alloc)?;
+    let list = vec![in alloc;
+        config(alloc),
+        listen(alloc),
+        control(alloc),
+        control_token_file(alloc),
+        shares(alloc),
+        store(alloc),
+        servers,
+        room(alloc),
+        new_folders(alloc),
+        missing_folders(alloc),
+        no_sync(alloc),
+        secret_file(alloc),
+        redis_password_file(alloc),
+        pages(alloc),
+        no_pages,
+        connections(alloc),
+        per_address(alloc),
+        idle(alloc),
+        memory(alloc),
+        log_level(alloc),
+        log_format(alloc),
+    ]?;
+    verb(
+        alloc,
+        "serve",
+        "Serves connections until it is stopped.",
+        list,
+    )
 }
 
 /// The command line of `check`.
 fn checking<'a>(alloc: Global) -> Result<Command<'a>, AllocError>
-    ensures { IfOk result (FollowsShape (verb_shape (codes "check") (paths_rule ∷ []))) }
+    ensures { IfOk result (HasShape (verb (codes "check") (paths_rule ∷ []))) }
 {
-    Command::new(alloc, "check")
-        .about(
-            "Reads folders of a grid, and tells what stands in each; status 0 only if all is well.",
-        )
-        .arg(paths(alloc))
+    let list = vec![in alloc; paths(alloc, "a folder")]?;
+    verb(
+        alloc,
+        "check",
+        "Reads folders of a grid, and tells what stands in each; status 0 only if all is well.",
+        list,
+    )
 }
 
 /// The command line of `repair`.
 fn repairing<'a>(alloc: Global) -> Result<Command<'a>, AllocError>
-    ensures { IfOk result (FollowsShape (verb_shape (codes "repair") repair_rules)) }
+    ensures { IfOk result (HasShape (verb (codes "repair") repair_rules)) }
 {
-    Command::new(alloc, "repair")
-        .about(
-            "Puts the shares of a grid that are missing or rotten back into the folders of its servers, which are given in their order, made of the other shares; status 0 only if each is there afterwards.",
-        )
-        .args(repaired(alloc)?)
-}
-
-/// The arguments of `repair`.
-fn repaired<'a>(alloc: Global) -> Result<Vec<Arg<'a>>, AllocError>
-    ensures { IfOk result (λ list. AllZip FollowsRule repair_rules list.items) }
-{
-    let mut list = Vec::with_capacity(alloc, 4)?;
-    add(&mut list, new_folders(alloc))?;
-    add(&mut list, no_sync(alloc))?;
-    add(&mut list, redis_password_file(alloc))?;
-    add(
-        &mut list,
-        paths(alloc).help("a folder, or redis:HOST:PORT[/NAME]"),
-    )?;
-    Ok(list)
+    let list = vec![in alloc;
+        new_folders(alloc),
+        no_sync(alloc),
+        redis_password_file(alloc),
+        paths(alloc, "a folder, or redis:HOST:PORT[/NAME]"),
+    ]?;
+    verb(
+        alloc,
+        "repair",
+        "Puts the shares of a grid that are missing or rotten back into the folders of its servers, which are given in their order, made of the other shares; status 0 only if each is there afterwards.",
+        list,
+    )
 }
 
 /// The command line of `reshape`.
 fn reshaping<'a>(alloc: Global) -> Result<Command<'a>, AllocError>
-    ensures { IfOk result (FollowsShape (verb_shape (codes "reshape") reshape_rules)) }
+    ensures { IfOk result (HasShape (verb (codes "reshape") reshape_rules)) }
 {
-    Command::new(alloc, "reshape")
-        .about(
-            "Lays the shares of a grid in its folders, which are given in the order of its servers, into another number of new folders; status 0 only if each is there afterwards.",
-        )
-        .args(reshaped(alloc)?)
+    let list = vec![in alloc; paths(alloc, "a folder"), new_places(alloc), no_sync(alloc)]?;
+    verb(
+        alloc,
+        "reshape",
+        "Lays the shares of a grid in its folders, which are given in the order of its servers, into another number of new folders; status 0 only if each is there afterwards.",
+        list,
+    )
 }
 
-/// The arguments of `reshape`.
-fn reshaped<'a>(alloc: Global) -> Result<Vec<Arg<'a>>, AllocError>
-    ensures { IfOk result (λ list. AllZip FollowsRule reshape_rules list.items) }
+/// The command line of `image`.
+fn imaging<'a>(alloc: Global) -> Result<Command<'a>, AllocError>
+    ensures { IfOk result (HasShape (verb (codes "image") (paths_rule ∷ []))) }
 {
-    let mut list = Vec::with_capacity(alloc, 3)?;
-    add(&mut list, paths(alloc))?;
-    add(&mut list, new_places(alloc))?;
-    add(&mut list, no_sync(alloc))?;
-    Ok(list)
+    let list = vec![in alloc; paths(alloc, "a folder")]?;
+    verb(
+        alloc,
+        "image",
+        "Writes the image of the grid in its folders, in their order, on standard output.",
+        list,
+    )
+}
+
+/// The command line of `restore`.
+fn restoring<'a>(alloc: Global) -> Result<Command<'a>, AllocError>
+    ensures { IfOk result (HasShape (verb (codes "restore") restore_rules)) }
+{
+    let list = vec![in alloc;
+        shares(alloc),
+        secret_file(alloc),
+        no_sync(alloc),
+        needed_place(alloc, "file", "FILE", "the image"),
+        paths(alloc, "a folder"),
+    ]?;
+    verb(
+        alloc,
+        "restore",
+        "Lays an image into new folders, one for each of its servers, in their order.",
+        list,
+    )
 }
 
 /// `--into`.
 fn new_places<'a>(alloc: Global) -> Arg<'a>
-    ensures { FollowsRule (many (option_rule (codes "into"))) result }
+    ensures { HasRule (many (valued (codes "into"))) result }
 {
-    many(option(
+    many(valued(
         alloc,
         "into",
         "PATH",
@@ -210,54 +169,12 @@ fn new_places<'a>(alloc: Global) -> Arg<'a>
     ))
 }
 
-/// The command line of `image`.
-fn imaging<'a>(alloc: Global) -> Result<Command<'a>, AllocError>
-    ensures { IfOk result (FollowsShape (verb_shape (codes "image") (paths_rule ∷ []))) }
-{
-    Command::new(alloc, "image")
-        .about("Writes the image of the grid in its folders, in their order, on standard output.")
-        .arg(paths(alloc))
-}
-
-/// The command line of `restore`.
-fn restoring<'a>(alloc: Global) -> Result<Command<'a>, AllocError>
-    ensures { IfOk result (FollowsShape (verb_shape (codes "restore") restore_rules)) }
-{
-    Command::new(alloc, "restore")
-        .about("Lays an image into new folders, one for each of its servers, in their order.")
-        .args(restored(alloc)?)
-}
-
-/// The arguments of `restore`.
-fn restored<'a>(alloc: Global) -> Result<Vec<Arg<'a>>, AllocError>
-    ensures { IfOk result (λ list. AllZip FollowsRule restore_rules list.items) }
-{
-    let mut list = Vec::with_capacity(alloc, 5)?;
-    add(&mut list, shares(alloc))?;
-    add(&mut list, secret_file(alloc))?;
-    add(&mut list, no_sync(alloc))?;
-    add(&mut list, image(alloc))?;
-    add(&mut list, paths(alloc))?;
-    Ok(list)
-}
-
-/// The image that is restored.
-fn image<'a>(alloc: Global) -> Arg<'a>
-    ensures { FollowsRule file_rule result }
-{
-    Arg::new(alloc, "file")
-        .value_name("FILE")
-        .help("the image")
-        .required(true)
-        .action(ArgAction::Set)
-}
-
 /// `--listen`.
 fn listen<'a>(alloc: Global) -> Arg<'a>
-    ensures { FollowsRule (with_default (codes "127.0.0.1:3456")
-        (repeated (option_rule (codes "listen")))) result }
+    ensures { HasRule (with_default (codes "127.0.0.1:3456")
+        (repeated (valued (codes "listen")))) result }
 {
-    option(
+    valued(
         alloc,
         "listen",
         "ADDR[,secret=PATH]",
@@ -269,10 +186,10 @@ fn listen<'a>(alloc: Global) -> Arg<'a>
 
 /// `--no-pages`.
 fn no_pages<'a>(alloc: Global) -> Result<Arg<'a>, AllocError>
-    ensures { IfOk result (FollowsRule (excluding (switch_rule (codes "no-pages")))) }
+    ensures { IfOk result (HasRule (excluding (flag (codes "no-pages")))) }
 {
     excluding(
-        switch(
+        flag(
             alloc,
             "no-pages",
             "no pages, also where the folder pages is there",
@@ -283,9 +200,9 @@ fn no_pages<'a>(alloc: Global) -> Result<Arg<'a>, AllocError>
 
 /// `--store`.
 fn store<'a>(alloc: Global) -> Arg<'a>
-    ensures { FollowsRule (repeated (option_rule (codes "store"))) result }
+    ensures { HasRule (repeated (valued (codes "store"))) result }
 {
-    option(
+    valued(
         alloc,
         "store",
         "STORE",
@@ -296,10 +213,10 @@ fn store<'a>(alloc: Global) -> Arg<'a>
 
 /// `--servers`.
 fn servers<'a>(alloc: Global) -> Result<Arg<'a>, AllocError>
-    ensures { IfOk result (FollowsRule (excluding (with_default (codes "5")
-        (with_parser_of (ValueParser.Unsigned 1 256) (option_rule (codes "servers")))))) }
+    ensures { IfOk result (HasRule (excluding (with_default (codes "5")
+        (with_parser_of (ValueParser.Unsigned 1 256) (valued (codes "servers")))))) }
 {
-    let count = option(
+    let count = valued(
         alloc,
         "servers",
         "COUNT",
@@ -313,9 +230,9 @@ fn servers<'a>(alloc: Global) -> Result<Arg<'a>, AllocError>
 
 /// `--room`.
 fn room<'a>(alloc: Global) -> Arg<'a>
-    ensures { FollowsRule (with_default (codes "1G") (option_rule (codes "room"))) result }
+    ensures { HasRule (with_default (codes "1G") (valued (codes "room"))) result }
 {
-    option(
+    valued(
         alloc,
         "room",
         "BYTES",
@@ -325,10 +242,10 @@ fn room<'a>(alloc: Global) -> Arg<'a>
 }
 
 /// The folders of a grid.
-fn paths<'a>(alloc: Global) -> Arg<'a>
-    ensures { FollowsRule paths_rule result }
+fn paths<'a>(alloc: Global, help: &'a str) -> Arg<'a>
+    ensures { HasRule paths_rule result }
 {
-    many(Arg::new(alloc, "paths").value_name("PATH").help("a folder"))
+    many(place(alloc, "paths", "PATH", help))
 }
 
 /// An argument that has to stand, with 1 to 256 values.
@@ -344,9 +261,9 @@ fn many<'a>(argument: Arg<'a>) -> Arg<'a>
 
 /// `--shares`.
 fn shares<'a>(alloc: Global) -> Arg<'a>
-    ensures { FollowsRule (with_default (codes "3,10") (option_rule (codes "shares"))) result }
+    ensures { HasRule (with_default (codes "3,10") (valued (codes "shares"))) result }
 {
-    option(
+    valued(
         alloc,
         "shares",
         "K,N",
@@ -357,9 +274,9 @@ fn shares<'a>(alloc: Global) -> Arg<'a>
 
 /// `--secret-file`.
 fn secret_file<'a>(alloc: Global) -> Arg<'a>
-    ensures { FollowsRule (option_rule (codes "secret-file")) result }
+    ensures { HasRule (valued (codes "secret-file")) result }
 {
-    option(
+    valued(
         alloc,
         "secret-file",
         "PATH",
@@ -369,9 +286,9 @@ fn secret_file<'a>(alloc: Global) -> Arg<'a>
 
 /// `--control-token-file`.
 fn control_token_file<'a>(alloc: Global) -> Arg<'a>
-    ensures { FollowsRule (option_rule (codes "control-token-file")) result }
+    ensures { HasRule (valued (codes "control-token-file")) result }
 {
-    option(
+    valued(
         alloc,
         "control-token-file",
         "PATH",
@@ -381,9 +298,9 @@ fn control_token_file<'a>(alloc: Global) -> Arg<'a>
 
 /// `--redis-password-file`.
 fn redis_password_file<'a>(alloc: Global) -> Arg<'a>
-    ensures { FollowsRule (option_rule (codes "redis-password-file")) result }
+    ensures { HasRule (valued (codes "redis-password-file")) result }
 {
-    option(
+    valued(
         alloc,
         "redis-password-file",
         "PATH",
@@ -393,9 +310,9 @@ fn redis_password_file<'a>(alloc: Global) -> Arg<'a>
 
 /// `--new`.
 fn new_folders<'a>(alloc: Global) -> Arg<'a>
-    ensures { FollowsRule (repeated (option_rule (codes "new"))) result }
+    ensures { HasRule (repeated (valued (codes "new"))) result }
 {
-    option(
+    valued(
         alloc,
         "new",
         "PATH",
@@ -406,9 +323,9 @@ fn new_folders<'a>(alloc: Global) -> Arg<'a>
 
 /// `--missing`.
 fn missing_folders<'a>(alloc: Global) -> Arg<'a>
-    ensures { FollowsRule (repeated (option_rule (codes "missing"))) result }
+    ensures { HasRule (repeated (valued (codes "missing"))) result }
 {
-    option(
+    valued(
         alloc,
         "missing",
         "PATH",
@@ -419,9 +336,9 @@ fn missing_folders<'a>(alloc: Global) -> Arg<'a>
 
 /// `--no-sync`.
 fn no_sync<'a>(alloc: Global) -> Arg<'a>
-    ensures { FollowsRule (switch_rule (codes "no-sync")) result }
+    ensures { HasRule (flag (codes "no-sync")) result }
 {
-    switch(
+    flag(
         alloc,
         "no-sync",
         "doesn't wait for disks: faster, but a crash of the machine, not of the program, may lose the last seconds or leave files of them rotten",
@@ -430,9 +347,9 @@ fn no_sync<'a>(alloc: Global) -> Arg<'a>
 
 /// `--config`.
 fn config<'a>(alloc: Global) -> Arg<'a>
-    ensures { FollowsRule (option_rule (codes "config")) result }
+    ensures { HasRule (valued (codes "config")) result }
 {
-    option(
+    valued(
         alloc,
         "config",
         "FILE",
@@ -442,9 +359,9 @@ fn config<'a>(alloc: Global) -> Arg<'a>
 
 /// `--control`.
 fn control<'a>(alloc: Global) -> Arg<'a>
-    ensures { FollowsRule (option_rule (codes "control")) result }
+    ensures { HasRule (valued (codes "control")) result }
 {
-    option(
+    valued(
         alloc,
         "control",
         "ADDR",
@@ -454,9 +371,9 @@ fn control<'a>(alloc: Global) -> Arg<'a>
 
 /// `--pages`.
 fn pages<'a>(alloc: Global) -> Arg<'a>
-    ensures { FollowsRule (option_rule (codes "pages")) result }
+    ensures { HasRule (valued (codes "pages")) result }
 {
-    option(
+    valued(
         alloc,
         "pages",
         "FOLDER",
@@ -466,11 +383,11 @@ fn pages<'a>(alloc: Global) -> Arg<'a>
 
 /// `--connections`.
 fn connections<'a>(alloc: Global) -> Arg<'a>
-    ensures { FollowsRule (with_default (codes "900")
+    ensures { HasRule (with_default (codes "900")
         (with_parser_of (ValueParser.Unsigned 1 1000000)
-        (option_rule (codes "connections")))) result }
+        (valued (codes "connections")))) result }
 {
-    let connections = option(
+    let connections = valued(
         alloc,
         "connections",
         "MAX",
@@ -484,10 +401,10 @@ fn connections<'a>(alloc: Global) -> Arg<'a>
 
 /// `--per-address`.
 fn per_address<'a>(alloc: Global) -> Arg<'a>
-    ensures { FollowsRule (with_parser_of (ValueParser.Unsigned 1 1000000)
-        (option_rule (codes "per-address"))) result }
+    ensures { HasRule (with_parser_of (ValueParser.Unsigned 1 1000000)
+        (valued (codes "per-address"))) result }
 {
-    let of_one = option(
+    let of_one = valued(
         alloc,
         "per-address",
         "MAX",
@@ -498,10 +415,10 @@ fn per_address<'a>(alloc: Global) -> Arg<'a>
 
 /// `--idle`.
 fn idle<'a>(alloc: Global) -> Arg<'a>
-    ensures { FollowsRule (with_default (codes "60")
-        (with_parser_of (ValueParser.Unsigned 1 86400) (option_rule (codes "idle")))) result }
+    ensures { HasRule (with_default (codes "60")
+        (with_parser_of (ValueParser.Unsigned 1 86400) (valued (codes "idle")))) result }
 {
-    let idle = option(
+    let idle = valued(
         alloc,
         "idle",
         "SECONDS",
@@ -512,9 +429,9 @@ fn idle<'a>(alloc: Global) -> Arg<'a>
 
 /// `--memory`.
 fn memory<'a>(alloc: Global) -> Arg<'a>
-    ensures { FollowsRule (with_default (codes "256M") (option_rule (codes "memory"))) result }
+    ensures { HasRule (with_default (codes "256M") (valued (codes "memory"))) result }
 {
-    let memory = option(
+    let memory = valued(
         alloc,
         "memory",
         "BYTES",
@@ -525,10 +442,10 @@ fn memory<'a>(alloc: Global) -> Arg<'a>
 
 /// `--log-level`.
 fn log_level<'a>(alloc: Global) -> Arg<'a>
-    ensures { (levels : ValueParser) × FollowsRule (with_default (codes "info")
-        (with_parser_of levels (option_rule (codes "log-level")))) result }
+    ensures { (levels : ValueParser) × HasRule (with_default (codes "info")
+        (with_parser_of levels (valued (codes "log-level")))) result }
 {
-    let level = option(
+    let level = valued(
         alloc,
         "log-level",
         "LEVEL",
@@ -540,10 +457,10 @@ fn log_level<'a>(alloc: Global) -> Arg<'a>
 
 /// `--log-format`.
 fn log_format<'a>(alloc: Global) -> Arg<'a>
-    ensures { (formats : ValueParser) × FollowsRule (with_default (codes "text")
-        (with_parser_of formats (option_rule (codes "log-format")))) result }
+    ensures { (formats : ValueParser) × HasRule (with_default (codes "text")
+        (with_parser_of formats (valued (codes "log-format")))) result }
 {
-    let format = option(
+    let format = valued(
         alloc,
         "log-format",
         "FORMAT",
@@ -575,25 +492,4 @@ fn excluding<'a>(argument: Arg<'a>, other: &'a str) -> Result<Arg<'a>, AllocErro
     ensures local { IfOk result (λ arg. arg.global ≡ argument.entry.global) }
 {
     argument.conflicts_with(other)
-}
-
-/// An option without a value.
-fn switch<'a>(alloc: Global, name: &'a str, help: &'a str) -> Arg<'a>
-    ensures { FollowsRule (switch_rule name.entry.now) result }
-{
-    Arg::new(alloc, name)
-        .long(name)
-        .help(help)
-        .action(ArgAction::SetTrue)
-}
-
-/// An option with a value.
-fn option<'a>(alloc: Global, name: &'a str, value: &'a str, help: &'a str) -> Arg<'a>
-    ensures { FollowsRule (option_rule name.entry.now) result }
-{
-    Arg::new(alloc, name)
-        .long(name)
-        .value_name(value)
-        .help(help)
-        .action(ArgAction::Set)
 }

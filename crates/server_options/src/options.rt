@@ -1,10 +1,11 @@
 //! What the program is asked for.
 ghost use Rattle.std.specs.Prelude.{◌≡◌, ◌≢◌, ◌<◌, ◌≤◌, ◌^◌, ℕ, true, All, Any, Err, IfOk, IfSome, IsFalse, IsTrue, None, Some, codes, count_by, length, map, option_map, string_bytes};
-ghost use Rattle.clap.specs.Words.{app_of, is_simple, subcommand_of, subcommand_rows_of};
+ghost use Rattle.clap.specs.Words.{app_of, first_of, is_simple, subcommand_of, subcommand_rows_of};
+ghost use Rattle.command_words.specs.Given.{given_rows, word_of, words_of};
 ghost use Rattle.octets.specs.Sharing.{IsSharing};
 ghost use Rattle.server_options.specs.Asked.{AreServeOptions, AreSharesGiven, AreStoresGiven, AreStoresServed, IsTaskGiven, IsAskedBy, IsRepairing, IsReshaping, IsRestoring};
 ghost use Rattle.server_options.specs.Folders.{folder_of, IsStoreFolder};
-ghost use Rattle.server_options.specs.Given.{given_rows, given_text, given_texts, given_word, IsFlagGiven, IsNumberGiven, IsNumberIfGiven};
+ghost use Rattle.server_options.specs.Given.{IsNumberGiven, IsNumberIfGiven};
 ghost use Rattle.server_options.specs.Handles.{keeps_handle};
 ghost use Rattle.server_options.specs.Listening.{HasNoComma, listen_text};
 ghost use Rattle.server_options.specs.Logging.{named_level, named_format};
@@ -19,6 +20,7 @@ use crate::logging::{LogFormat, LogLevel, named_format, named_level};
 use crate::sizes::read_size;
 use crate::store_names::{StoreWanted, read_store};
 use clap::{ArgMatches, Command, Error};
+use command_words::{find_word, has_flag, word_of, words_of};
 use octets::is_sharing;
 use std::alloc::{AllocError, AllocFailed, Global};
 
@@ -212,13 +214,13 @@ fn read_task<'a>(alloc: Global, matches: &ArgMatches<'a>) -> Result<Task<'a>, Re
     if let Some(given) = matches.subcommand_matches("serve") {
         Ok(Task::Serve(read_options(alloc, given)?))
     } else if let Some(given) = matches.subcommand_matches("check") {
-        Ok(Task::Check(texts_of(alloc, given, "paths")?))
+        Ok(Task::Check(words_of(alloc, given, "paths")?))
     } else if let Some(given) = matches.subcommand_matches("repair") {
         Ok(Task::Repair(read_repairing(alloc, given)?))
     } else if let Some(given) = matches.subcommand_matches("reshape") {
         Ok(Task::Reshape(read_reshaping(alloc, given)?))
     } else if let Some(given) = matches.subcommand_matches("image") {
-        Ok(Task::Image(texts_of(alloc, given, "paths")?))
+        Ok(Task::Image(words_of(alloc, given, "paths")?))
     } else if let Some(given) = matches.subcommand_matches("restore") {
         Ok(Task::Restore(read_restoring(alloc, given)?))
     } else {
@@ -239,46 +241,46 @@ pub fn read_config<'a>(alloc: Global, words: &'a [String]) -> Result<Option<&'a 
 
 /// The file of more options that was given.
 fn config_of<'a>(given: &ArgMatches<'a>) -> Option<&'a str>
-    ensures { option_map (λ s. s.now) result ≡ given_text (given_rows given.now) (codes "config") }
+    ensures { option_map (λ s. s.now) result ≡ first_of (codes "config") (given_rows given.now) }
 {
-    find_text(given, "config")
+    find_word(given, "config")
 }
 
 /// Reads what was given with `serve`.
 fn read_options<'a>(alloc: Global, given: &ArgMatches<'a>) -> Result<Options<'a>, Refusal>
     ensures read { IfOk result (AreServeOptions (given_rows given.now)) }
-    ensures no_shares { ((k n : ℕ) → IsPairOf (given_word (given_rows given.now) (codes "shares"))
+    ensures no_shares { ((k n : ℕ) → IsPairOf (word_of (codes "shares") (given_rows given.now))
         k n → ¬ (IsSharing k n)) → result ≡ Err Refusal.Shares }
 {
-    let Some(shares) = read_shares(text_of(given, "shares")) else {
+    let Some(shares) = read_shares(word_of(given, "shares")) else {
         return Err(Refusal::Shares);
     };
     let listen = read_listens(alloc, given)?;
     let stores = read_served(alloc, given)?;
-    let new = texts_of(alloc, given, "new")?;
+    let new = words_of(alloc, given, "new")?;
     if !are_folders_of(&stores, &new) {
         return Err(Refusal::New);
     }
     let memory = memory_of(given)?;
-    let secret_file = find_text(given, "secret-file");
+    let secret_file = find_word(given, "secret-file");
     Ok(Options {
         listen,
-        control: find_text(given, "control"),
-        control_token_file: find_text(given, "control-token-file"),
+        control: find_word(given, "control"),
+        control_token_file: find_word(given, "control-token-file"),
         shares,
         stores,
         new,
         synced: !has_flag(given, "no-sync"),
         secret_file,
-        redis_password_file: find_text(given, "redis-password-file"),
-        pages: find_text(given, "pages"),
+        redis_password_file: find_word(given, "redis-password-file"),
+        pages: find_word(given, "pages"),
         no_pages: has_flag(given, "no-pages"),
         connections: connections_of(given),
         per_address: per_address_of(given),
         idle: idle_of(given),
         memory,
-        log_level: named_level(text_of(given, "log-level")),
-        log_format: named_format(text_of(given, "log-format")),
+        log_level: named_level(word_of(given, "log-level")),
+        log_format: named_format(word_of(given, "log-format")),
     })
 }
 
@@ -286,9 +288,9 @@ fn read_options<'a>(alloc: Global, given: &ArgMatches<'a>) -> Result<Options<'a>
 fn read_repairing<'a>(alloc: Global, given: &ArgMatches<'a>) -> Result<Repairing<'a>, AllocError>
     ensures { IfOk result (IsRepairing (given_rows given.now)) }
 {
-    let places = texts_of(alloc, given, "paths")?;
-    let may_be_new = texts_of(alloc, given, "new")?;
-    let password_file = find_text(given, "redis-password-file");
+    let places = words_of(alloc, given, "paths")?;
+    let may_be_new = words_of(alloc, given, "new")?;
+    let password_file = find_word(given, "redis-password-file");
     Ok(Repairing {
         places,
         new: may_be_new,
@@ -301,8 +303,8 @@ fn read_repairing<'a>(alloc: Global, given: &ArgMatches<'a>) -> Result<Repairing
 fn read_reshaping<'a>(alloc: Global, given: &ArgMatches<'a>) -> Result<Reshaping<'a>, AllocError>
     ensures { IfOk result (IsReshaping (given_rows given.now)) }
 {
-    let from = texts_of(alloc, given, "paths")?;
-    let into = texts_of(alloc, given, "into")?;
+    let from = words_of(alloc, given, "paths")?;
+    let into = words_of(alloc, given, "into")?;
     Ok(Reshaping {
         from,
         into,
@@ -313,44 +315,20 @@ fn read_reshaping<'a>(alloc: Global, given: &ArgMatches<'a>) -> Result<Reshaping
 /// Reads what was given with `restore`.
 fn read_restoring<'a>(alloc: Global, given: &ArgMatches<'a>) -> Result<Restoring<'a>, Refusal>
     ensures read { IfOk result (IsRestoring (given_rows given.now)) }
-    ensures no_shares { ((k n : ℕ) → IsPairOf (given_word (given_rows given.now) (codes "shares"))
+    ensures no_shares { ((k n : ℕ) → IsPairOf (word_of (codes "shares") (given_rows given.now))
         k n → ¬ (IsSharing k n)) → result ≡ Err Refusal.Shares }
 {
-    let Some(shares) = read_shares(text_of(given, "shares")) else {
+    let Some(shares) = read_shares(word_of(given, "shares")) else {
         return Err(Refusal::Shares);
     };
-    let folders = texts_of(alloc, given, "paths")?;
+    let folders = words_of(alloc, given, "paths")?;
     Ok(Restoring {
-        file: text_of(given, "file"),
+        file: word_of(given, "file"),
         folders,
         shares,
         synced: !has_flag(given, "no-sync"),
-        secret_file: find_text(given, "secret-file"),
+        secret_file: find_word(given, "secret-file"),
     })
-}
-
-/// The text that was given under a name, if one was.
-fn find_text<'a>(given: &ArgMatches<'a>, name: &str) -> Option<&'a str>
-    ensures { option_map (λ s. s.now) result ≡ given_text (given_rows given.now) name.now }
-{
-    given.get_str(name)
-}
-
-/// The text that was given under a name, and an empty one where none was.
-fn text_of<'a>(given: &ArgMatches<'a>, name: &str) -> &'a str
-    ensures { result.now ≡ given_word (given_rows given.now) name.now }
-{
-    match find_text(given, name) {
-        Some(text) => text,
-        None => "",
-    }
-}
-
-/// Whether a flag was given.
-fn has_flag(given: &ArgMatches<'_>, name: &str) -> bool
-    ensures { IsFlagGiven (given_rows given.now) name.now result }
-{
-    given.get_flag(name)
 }
 
 /// How many connections may be open at once.
@@ -377,42 +355,26 @@ fn idle_of(given: &ArgMatches<'_>) -> u64
 /// How many bytes may be kept of connections.
 fn memory_of(given: &ArgMatches<'_>) -> Result<u64, Refusal>
     ensures some { IfOk result (λ memory.
-        written_size (given_word (given_rows given.now) (codes "memory")) ≡ Some memory) }
-    ensures none { written_size (given_word (given_rows given.now) (codes "memory")) ≡ None →
+        written_size (word_of (codes "memory") (given_rows given.now)) ≡ Some memory) }
+    ensures none { written_size (word_of (codes "memory") (given_rows given.now)) ≡ None →
         result ≡ Err Refusal.Memory }
 {
-    match read_size(text_of(given, "memory")) {
+    match read_size(word_of(given, "memory")) {
         Some(memory) => Ok(memory),
         None => Err(Refusal::Memory),
     }
 }
 
-/// The values of an argument.
-fn texts_of<'a>(
-    alloc: Global,
-    given: &ArgMatches<'a>,
-    name: &str,
-) -> Result<Vec<&'a str>, AllocError>
-    ensures { IfOk result (λ texts. map (λ s. s.now) texts.items
-        ≡ given_texts (given_rows given.now) name.now) }
-{
-    let mut texts = Vec::new(alloc);
-    if let Some(values) = given.get_strs(name) {
-        texts.extend_from_slice(values)?;
-    }
-    Ok(texts)
-}
-
 /// Where connections are to be accepted.
 fn read_listens<'a>(alloc: Global, given: &ArgMatches<'a>) -> Result<Vec<ListenWanted<'a>>, Refusal>
     ensures texts { IfOk result (λ listens. map listen_text listens.items
-        ≡ given_texts (given_rows given.now) (codes "listen")) }
+        ≡ words_of (codes "listen") (given_rows given.now)) }
     ensures addresses { IfOk result (λ listens.
         All (λ wanted. HasNoComma wanted.address.now) listens.items) }
     ensures most { IfOk result (λ listens. length listens.items ≤ 64) }
 {
     let mut listens = Vec::new(alloc);
-    let texts = texts_of(alloc, given, "listen")?;
+    let texts = words_of(alloc, given, "listen")?;
     if texts.len() > MOST_LISTENS {
         return Err(Refusal::Listen);
     }
@@ -428,10 +390,10 @@ fn read_listens<'a>(alloc: Global, given: &ArgMatches<'a>) -> Result<Vec<ListenW
 /// The stores that are wanted: those that are named, and else so many in memory.
 fn read_stores<'a>(alloc: Global, given: &ArgMatches<'a>) -> Result<Vec<StoreWanted<'a>>, Refusal>
     ensures given { IfOk result (λ stores. AreStoresGiven (given_rows given.now) stores.items) }
-    ensures room { written_size (given_word (given_rows given.now) (codes "room")) ≡ None →
+    ensures room { written_size (word_of (codes "room") (given_rows given.now)) ≡ None →
         result ≡ Err Refusal.Room }
 {
-    let Some(room) = read_size(text_of(given, "room")) else {
+    let Some(room) = read_size(word_of(given, "room")) else {
         return Err(Refusal::Room);
     };
     let stores = read_named(alloc, given, room)?;
@@ -451,7 +413,7 @@ fn read_served<'a>(alloc: Global, given: &ArgMatches<'a>) -> Result<Vec<StoreWan
     ensures one_is_present { IfOk result (λ stores. Any IsPresent stores.items) }
 {
     let named = read_stores(alloc, given)?;
-    let missing = texts_of(alloc, given, "missing")?;
+    let missing = words_of(alloc, given, "missing")?;
     if !are_folders_of(&named, &missing) {
         return Err(Refusal::Missing);
     }
@@ -505,10 +467,10 @@ fn read_named<'a>(
     room: u64,
 ) -> Result<Vec<StoreWanted<'a>>, Refusal>
     ensures { IfOk result (λ stores. AreNamesOf room
-        (given_texts (given_rows given.now) (codes "store")) stores.items) }
+        (words_of (codes "store") (given_rows given.now)) stores.items) }
 {
     let mut stores = Vec::new(alloc);
-    let names = texts_of(alloc, given, "store")?;
+    let names = words_of(alloc, given, "store")?;
     for name in &names {
         let Some(store) = read_store(*name, room) else {
             return Err(Refusal::Stores);

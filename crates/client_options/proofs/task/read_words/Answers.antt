@@ -2,7 +2,8 @@ use Rattle.std.proofs.Common.{◌≡◌, ◌∙◌, [], List, Option, ap, codes,
 use Rattle.clap.specs.Faults.{fault_of, is_simple_and_free}
 use Rattle.clap.specs.Words.{App, Row, Text, first_of, found_of, is_simple, matches_of, rows_of, subcommand_of, subcommand_rows_of}
 use Rattle.clap.proofs.OnLiterals.{clap_on_literals}
-use Rattle.client_options.specs.Asked.{IsTask, is_set}
+use Rattle.command_words.specs.Given.{is_set}
+use Rattle.client_options.specs.Asked.{IsTask}
 use Rattle.client_options.specs.CommandLine.{woz}
 use Rattle.client_options.proofs.task.read_words.Goals as goal
 

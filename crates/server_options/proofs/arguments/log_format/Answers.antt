@@ -6,7 +6,7 @@ pub returns : goal.returns
 returns c = (
   _,
   (
-    c.defaulted.ensures.rule ∙ ap (with_default (codes "text")) (c.parsed.ensures.rule ∙ ap (with_parser_of _) c.option-format.ensures.0),
-    c.defaulted.ensures.local ∙ c.parsed.ensures.local ∙ c.option-format.ensures.1,
+    c.defaulted.ensures.rule ∙ ap (with_default (codes "text")) (c.parsed.ensures.rule ∙ ap (with_parser_of _) c.valued-format.ensures.0),
+    c.defaulted.ensures.local ∙ c.parsed.ensures.local ∙ c.valued-format.ensures.1,
   ),
 )

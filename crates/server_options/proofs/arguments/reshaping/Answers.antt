@@ -1,13 +1,6 @@
-use Rattle.std.proofs.Common.{◌∙◌, ap, codes}
-use Rattle.std.proofs.lemmas.Result.{IfOk-weaker}
-use Rattle.clap.specs.Words.{App}
-use Rattle.clap.specs.Simple.{new_shape, shape_of_fields}
-use Rattle.server_options.specs.CommandLine.{FollowsShape, reshape_rules}
-use Rattle.server_options.proofs.CommandLemmas.{with_rules}
+use Rattle.server_options.specs.CommandLine.{reshape_rules}
+use Rattle.command_words.proofs.CommandLemmas.{listed}
 use Rattle.server_options.proofs.arguments.reshaping.Goals as goal
 
 pub returns : goal.returns
-returns c =
-    let start : FollowsShape (new_shape (codes "reshape")) c.about.result =
-    (ap shape_of_fields c.about.ensures ∙ ap (λ (b : App). b.top) c.new.ensures.app, ap (λ f. f.has_globals) c.about.ensures ∙ c.new.ensures.local) in
-    IfOk-weaker c.args-2.result _ _ (λ command adds. with_rules c.about.result command (new_shape (codes "reshape")) reshape_rules c.in_ok-reshaped.field-0.items adds start c.in_ok-reshaped.ensures) c.args-2.ensures
+returns c = c.verb.ensures reshape_rules (listed reshape_rules c.in_ok-list.ensures.items (c.paths.ensures, (c.new_places.ensures, (c.no_sync.ensures, tt))))

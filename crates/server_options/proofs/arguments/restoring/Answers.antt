@@ -1,13 +1,6 @@
-use Rattle.std.proofs.Common.{◌∙◌, ap, codes}
-use Rattle.std.proofs.lemmas.Result.{IfOk-weaker}
-use Rattle.clap.specs.Words.{App}
-use Rattle.clap.specs.Simple.{new_shape, shape_of_fields}
-use Rattle.server_options.specs.CommandLine.{FollowsShape, restore_rules}
-use Rattle.server_options.proofs.CommandLemmas.{with_rules}
+use Rattle.server_options.specs.CommandLine.{restore_rules}
+use Rattle.command_words.proofs.CommandLemmas.{listed}
 use Rattle.server_options.proofs.arguments.restoring.Goals as goal
 
 pub returns : goal.returns
-returns c =
-    let start : FollowsShape (new_shape (codes "restore")) c.about.result =
-    (ap shape_of_fields c.about.ensures ∙ ap (λ (b : App). b.top) c.new.ensures.app, ap (λ f. f.has_globals) c.about.ensures ∙ c.new.ensures.local) in
-    IfOk-weaker c.args-2.result _ _ (λ command adds. with_rules c.about.result command (new_shape (codes "restore")) restore_rules c.in_ok-restored.field-0.items adds start c.in_ok-restored.ensures) c.args-2.ensures
+returns c = c.verb.ensures restore_rules (listed restore_rules c.in_ok-list.ensures.items (c.shares.ensures, (c.secret_file.ensures, (c.no_sync.ensures, (c.needed_place.ensures, (c.paths.ensures, tt))))))

@@ -1,14 +1,13 @@
-use Rattle.std.proofs.Common.{◌∙◌, ap, codes}
 use Rattle.std.proofs.lemmas.Result.{IfOk-weaker}
-use Rattle.clap.specs.Words.{App}
-use Rattle.clap.specs.Simple.{new_shape, shape_of_fields}
-use Rattle.server_options.specs.CommandLine.{FollowsShape, serve_rules}
-use Rattle.server_options.proofs.CommandLemmas.{with_rules}
+use Rattle.server_options.specs.CommandLine.{serve_rules}
+use Rattle.command_words.proofs.CommandLemmas.{listed}
 use Rattle.server_options.proofs.arguments.serving.Goals as goal
 
 pub returns : goal.returns
 returns c =
-    let start : FollowsShape (new_shape (codes "serve")) c.about.result =
-    (ap shape_of_fields c.about.ensures ∙ ap (λ (b : App). b.top) c.new.ensures.app, ap (λ f. f.has_globals) c.about.ensures ∙ c.new.ensures.local) in
-    let rules = c.in_ok-served.ensures in
-    IfOk-weaker c.args-2.result _ _ (λ command adds. (rules.0, rules.1, with_rules c.about.result command (new_shape (codes "serve")) (serve_rules rules.0 rules.1) c.in_ok-served.field-0.items adds start rules.2)) c.args-2.ensures
+    let level = c.log_level.ensures in
+    let format = c.log_format.ensures in
+    let rules = serve_rules level.0 format.0 in
+    let zip = listed rules c.in_ok-list.ensures.items
+    (c.config.ensures, (c.listen.ensures, (c.control.ensures, (c.control_token_file.ensures, (c.shares.ensures, (c.store.ensures, (c.in_ok-servers.ensures, (c.room.ensures, (c.new_folders.ensures, (c.missing_folders.ensures, (c.no_sync.ensures, (c.secret_file.ensures, (c.redis_password_file.ensures, (c.pages.ensures, (c.in_ok-no_pages.ensures, (c.connections.ensures, (c.per_address.ensures, (c.idle.ensures, (c.memory.ensures, (level.1, (format.1, tt))))))))))))))))))))) in
+    IfOk-weaker c.verb.result _ _ (λ command is. (level.0, format.0, is)) (c.verb.ensures rules zip)

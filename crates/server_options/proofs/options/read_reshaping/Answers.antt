@@ -1,9 +1,9 @@
-use Rattle.server_options.proofs.AskedLemmas.{flag_given}
+use Rattle.std.proofs.Common.{ap, not}
 use Rattle.server_options.proofs.options.read_reshaping.Goals as goal
 
 pub returns : goal.returns
 returns c = record {
   from = c.in_ok-from.ensures;
   into = c.in_ok-into.ensures;
-  synced = flag_given _ _ _ c.has_flag.ensures;
+  synced = ap not c.has_flag.ensures;
 }

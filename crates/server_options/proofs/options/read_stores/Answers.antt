@@ -1,5 +1,5 @@
 use Rattle.std.proofs.Common.{rules, codes}
-use Rattle.server_options.specs.Given.{given_rows, given_texts}
+use Rattle.command_words.specs.Given.{given_rows, words_of}
 use Rattle.server_options.proofs.StoreLemmas.{named_ones}
 use Rattle.server_options.proofs.options.read_stores.Goals as goal
 
@@ -9,5 +9,5 @@ returns-clause-given c =
     record {
       room = c.in-Some.room;
       says_room = search rules;
-      named = named_ones rows c.in-Some.room (given_texts rows (codes "store")) c.in_ok-stores.stores.items c.in_ok-stores.ensures (search rules);
+      named = named_ones rows c.in-Some.room (words_of (codes "store") rows) c.in_ok-stores.stores.items c.in_ok-stores.ensures (search rules);
     }

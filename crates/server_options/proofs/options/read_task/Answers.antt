@@ -1,5 +1,5 @@
 use Rattle.std.proofs.Common.{codes, refl}
-use Rattle.server_options.specs.Given.{given_rows}
+use Rattle.command_words.specs.Given.{given_rows}
 use Rattle.server_options.proofs.AskedLemmas.{verb_given}
 use Rattle.server_options.proofs.options.read_task.Goals as goal
 
