@@ -1,11 +1,12 @@
 //! Requests that are under way at once: while one is waited for, the next ones are sent ahead, each on a lane of its own.
 ghost use Rattle.std.specs.Prelude.{◌≡◌, ◌≢◌, [], Result, IfOk, OnOk, IfErr, OnErr, MatchResult, Ok};
-ghost use Rattle.client_wire.specs.declared.ask.Ask.TheVariants as asked;
+ghost use Rattle.client_core.specs.declared.ask.Ask.TheVariants as asked;
 ghost use Rattle.cap_binding.specs.Binds.{Binds, AreFileOf};
 ghost use Rattle.client_core.specs.Given.{IsBoundAnswer, IsUnboundAnswer, IsNamedAnswer};
 ghost use Rattle.client_core.specs.declared.exchange.Answer.{Answer as Answered};
 ghost use Rattle.client_core.specs.declared.exchange.LinkFault.{LinkFault as Fault};
 
+use crate::ask::Ask;
 use crate::exchange::{Answer, Exchange, LinkFault};
 use crate::fault::ClientFault;
 use crate::fetch::{body_of, fetch_file, most_of};
@@ -13,7 +14,6 @@ use crate::held::file_held;
 use crate::store::MOST_OF_A_CAP;
 use cap_binding::bound;
 use caps::{Cap, ReadFields};
-use client_wire::Ask;
 use std::alloc::Global;
 
 /// The lane of the request at a place in a row of them, the first of which has place 0.

@@ -1,6 +1,7 @@
-//! Why a call is refused.
+//! Why a call is refused, or a request isn't written.
 ghost use Rattle.std.specs.Prelude.{◌≡◌};
 ghost use Rattle.client_core.specs.declared.fault.ClientFault.TheVariants as fault;
+ghost use Rattle.client_core.specs.declared.fault.WireFault.TheVariants as wire;
 
 use crate::exchange::LinkFault;
 use caps::CapFault;
@@ -76,5 +77,31 @@ impl From<CapFault> for ClientFault {
             CapFault::NoMemory => ClientFault::NoMemory,
             _ => ClientFault::NotBound,
         }
+    }
+}
+
+/// Why a request isn't written.
+#[derive(Clone, Copy, PartialEq, Eq)]
+pub enum WireFault {
+    /// The head would have more than 16,384 bytes: the host's name is too long.
+    TooLong,
+    /// Memory was refused.
+    NoMemory,
+}
+
+impl fmt::Display for WireFault {
+    fn fmt<W: fmt::Write>(&self, f: &mut fmt::Formatter<W>) -> fmt::Result {
+        f.write_str(match self {
+            WireFault::TooLong => "the gateway's name is too long",
+            WireFault::NoMemory => "out of memory",
+        })
+    }
+}
+
+impl From<AllocError> for WireFault {
+    ghost from_gives = { λ _ made. made ≡ wire.NoMemory };
+
+    fn from(_error: AllocError) -> WireFault {
+        WireFault::NoMemory
     }
 }

@@ -7,11 +7,11 @@ ghost use Rattle.client_core.specs.Given.{IsBoundAnswer, IsUnboundAnswer, most_t
 ghost use Rattle.client_core.specs.declared.exchange.Answer.{Answer as Answered};
 ghost use Rattle.client_core.specs.declared.exchange.LinkFault.{LinkFault as Fault};
 
+use crate::ask::Ask;
 use crate::exchange::{Answer, Exchange};
 use crate::fault::ClientFault;
 use cap_binding::bound;
 use caps::{Cap, ReadFields};
-use client_wire::Ask;
 use dir_codec::{Directory, decode, is_memory};
 use std::alloc::Global;
 

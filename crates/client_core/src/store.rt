@@ -4,13 +4,13 @@ ghost use Rattle.dir_codec.specs.DirectoryText.{directory_text};
 ghost use Rattle.cap_binding.specs.Binds.{AreFileOf, AreTextOf};
 ghost use Rattle.client_core.specs.Way.{IsDirectoryOf};
 
+use crate::ask::Ask;
+use crate::children_writer::children_json;
 use crate::exchange::Exchange;
 use crate::fault::ClientFault;
 use crate::fetch::body_of;
 use crate::held::{file_held, text_held};
 use caps::Cap;
-use children_json::children_json;
-use client_wire::Ask;
 use dir_codec::laws::written_directories_are_read_back;
 use dir_codec::{Directory, encode};
 use std::alloc::Global;

@@ -2,8 +2,7 @@
 ghost use Rattle.std.specs.Prelude.{◌≡◌, ◌≢◌, ◌≤◌, ℕ, length, slice_get, vec_len, IfOk};
 
 use crate::redial::{Dial, Redialing};
-use client_core::{Answer, Exchange, LinkFault};
-use client_wire::Ask;
+use client_core::{Answer, Ask, Exchange, LinkFault};
 use std::alloc::{AllocError, Global};
 
 /// A gateway that is asked over several connections at once, each of which is opened when it is needed. A request that is sent

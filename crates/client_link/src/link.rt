@@ -5,8 +5,7 @@ ghost use Rattle.client_link.specs.Sent.{request_bytes};
 
 use crate::reply::Replies;
 use crate::sending::send_request;
-use client_core::{Answer, Exchange, LinkFault};
-use client_wire::Ask;
+use client_core::{Answer, Ask, Exchange, LinkFault};
 use std::alloc::Global;
 use std::io::{Read, Write};
 

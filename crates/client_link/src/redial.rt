@@ -2,8 +2,7 @@
 ghost use Rattle.std.specs.Prelude.{◌≤◌, length, IfOk};
 
 use crate::link::Link;
-use client_core::{Answer, Exchange, LinkFault};
-use client_wire::Ask;
+use client_core::{Answer, Ask, Exchange, LinkFault};
 use std::alloc::Global;
 use std::io::{Read, Write};
 

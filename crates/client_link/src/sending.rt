@@ -3,8 +3,7 @@ ghost use Rattle.std.specs.Prelude.{OnOk};
 ghost use Rattle.std.specs.Io.KnownBytes.{Appends};
 ghost use Rattle.client_link.specs.Sent.{request_bytes};
 
-use client_core::LinkFault;
-use client_wire::{Ask, WireFault, request_head};
+use client_core::{Ask, LinkFault, WireFault, request_head};
 use octets::write_whole;
 use std::alloc::Global;
 use std::io::Write;

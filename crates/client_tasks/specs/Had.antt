@@ -7,8 +7,8 @@ use Rattle.caps.specs.declared.cap.VerifyCap.{VerifyCap}
 use Rattle.caps.specs.declared.fields.ReadFields.{ReadFields}
 use Rattle.dir_codec.specs.declared.entry.Entry.{Entry}
 use Rattle.cap_binding.specs.Binds.{Binds}
-use Rattle.client_wire.specs.declared.ask.Ask.{Ask}
-use Rattle.client_wire.specs.declared.ask.Ask.TheVariants.{Check}
+use Rattle.client_core.specs.declared.ask.Ask.{Ask}
+use Rattle.client_core.specs.declared.ask.Ask.TheVariants.{Check}
 use Rattle.client_core.specs.declared.exchange.Answer.{Answer}
 use Rattle.client_core.specs.declared.exchange.LinkFault.{LinkFault}
 use Rattle.client_core.specs.Way.{IsDirectoryOf, LeadsTo}

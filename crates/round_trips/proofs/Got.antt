@@ -22,9 +22,9 @@ use Rattle.web_ops.specs.Answers.{with_bytes, made_reply}
 use Rattle.web_ops.specs.Uploads.{as_directory, directory_upload, directory_cap, made_upload, upload_in, after_stored}
 use Rattle.gate_core.specs.Settings.{GatewaySettings, encoding_in}
 use Rattle.cap_binding.specs.Binds.{Binds}
-use Rattle.client_wire.specs.Asks.{meant}
-use Rattle.client_wire.specs.declared.ask.Ask.{Ask}
-use Rattle.client_wire.specs.declared.ask.Ask.TheVariants.{Put, Mkdir, Read}
+use Rattle.client_core.specs.Asks.{meant}
+use Rattle.client_core.specs.declared.ask.Ask.{Ask}
+use Rattle.client_core.specs.declared.ask.Ask.TheVariants.{Put, Mkdir, Read}
 use Rattle.client_core.specs.Given.{IsBoundAnswer, IsUnboundAnswer}
 use Rattle.client_core.specs.declared.exchange.Answer.{Answer}
 use Rattle.client_core.specs.declared.exchange.LinkFault.{LinkFault}

@@ -20,9 +20,9 @@ use Rattle.gate_base.specs.Browsers.{is_condition, sent_reply}
 use Rattle.gate_core.specs.Answers.{asked_reply, answer}
 use Rattle.gate_core.specs.Items.{Asked}
 use Rattle.gate_core.specs.Runs.{upload_asked, upload_by, after_entry, told}
-use Rattle.client_wire.specs.Asks.{asked_head, method_of, target_of, meant, IsAsk, IsAsked}
-use Rattle.client_wire.specs.declared.ask.Ask.{Ask}
-use Rattle.client_wire.specs.declared.ask.Ask.TheVariants.{Put, Mkdir, Read, Check}
+use Rattle.client_core.specs.Asks.{asked_head, method_of, target_of, meant, IsAsk, IsAsked}
+use Rattle.client_core.specs.declared.ask.Ask.{Ask}
+use Rattle.client_core.specs.declared.ask.Ask.TheVariants.{Put, Mkdir, Read, Check}
 use Rattle.round_trips.specs.Honest.{with_asked}
 use Rattle.round_trips.specs.Said.{head_asked, item_of, sent_for, told_for}
 

@@ -26,9 +26,9 @@ use Rattle.web_replies.specs.Replies.{bytes_reply}
 use Rattle.web_ops.specs.Answers.{with_bytes, made_reply, checked_reply, request_reply}
 use Rattle.gate_core.specs.Settings.{GatewaySettings, encoding_in}
 use Rattle.gate_base.specs.Wire.{status_line, media_type, further_lines, wire_reply}
-use Rattle.client_wire.specs.Asks.{meant}
-use Rattle.client_wire.specs.declared.ask.Ask.{Ask}
-use Rattle.client_wire.specs.declared.ask.Ask.TheVariants.{Put, Mkdir, Read, Check}
+use Rattle.client_core.specs.Asks.{meant}
+use Rattle.client_core.specs.declared.ask.Ask.{Ask}
+use Rattle.client_core.specs.declared.ask.Ask.TheVariants.{Put, Mkdir, Read, Check}
 use Rattle.round_trips.specs.Honest.{code_of, as_answer, IsWrittenAnswer}
 use Rattle.round_trips.specs.Said.{sent_for}
 use Rattle.round_trips.proofs.Lists.{both_true}

@@ -24,9 +24,9 @@ use Rattle.gate_core.specs.Items.{Entry}
 use Rattle.gate_base.specs.Browsers.{sent_reply}
 use Rattle.gate_core.specs.Runs.{after_entry, world_after, told, said}
 use Rattle.cap_binding.specs.Binds.{Binds}
-use Rattle.client_wire.specs.Asks.{meant, IsAsked}
-use Rattle.client_wire.specs.declared.ask.Ask.{Ask}
-use Rattle.client_wire.specs.declared.ask.Ask.TheVariants.{Put, Mkdir, Read}
+use Rattle.client_core.specs.Asks.{meant, IsAsked}
+use Rattle.client_core.specs.declared.ask.Ask.{Ask}
+use Rattle.client_core.specs.declared.ask.Ask.TheVariants.{Put, Mkdir, Read}
 use Rattle.round_trips.specs.Stands.{IsSetUp, HasEnough, IsStanding, IsStandingFor, IsUnspoiled, AreOne}
 use Rattle.round_trips.specs.Trips.{IsBody}
 use Rattle.round_trips.specs.Said.{head_asked, told_for}

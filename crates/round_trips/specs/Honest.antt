@@ -10,8 +10,8 @@ use Rattle.web_ops.specs.Answers.{request_reply}
 use Rattle.gate_core.specs.Settings.{GatewaySettings, encoding_in}
 use Rattle.gate_core.specs.Items.{Entry}
 use Rattle.gate_core.specs.Runs.{world_after}
-use Rattle.client_wire.specs.Asks.{meant}
-use Rattle.client_wire.specs.declared.ask.Ask.{Ask}
+use Rattle.client_core.specs.Asks.{meant}
+use Rattle.client_core.specs.declared.ask.Ask.{Ask}
 use Rattle.client_core.specs.declared.exchange.Answer.{Answer}
 use Rattle.client_core.specs.declared.exchange.LinkFault.{LinkFault}
 

@@ -10,8 +10,8 @@ use Rattle.web_ops.specs.Answers.{request_reply}
 use Rattle.gate_core.specs.Settings.{GatewaySettings, encoding_in}
 use Rattle.gate_base.specs.Wire.{wire_reply}
 use Rattle.gate_base.specs.Browsers.{sent_reply}
-use Rattle.client_wire.specs.Asks.{asked_head, meant}
-use Rattle.client_wire.specs.declared.ask.Ask.{Ask}
+use Rattle.client_core.specs.Asks.{asked_head, meant}
+use Rattle.client_core.specs.declared.ask.Ask.{Ask}
 
 -- the head that a request has
 abbrev pub head_asked : List ℕ → Ask → List ℕ → Head

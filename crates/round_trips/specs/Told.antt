@@ -12,7 +12,7 @@ use Rattle.gate_core.specs.Items.{Entry, Asked}
 use Rattle.gate_base.specs.Browsers.{sent_reply}
 use Rattle.gate_core.specs.Runs.{after_entry, world_after, said}
 use Rattle.cap_binding.specs.Binds.{Binds}
-use Rattle.client_wire.specs.declared.ask.Ask.{Ask}
+use Rattle.client_core.specs.declared.ask.Ask.{Ask}
 use Rattle.round_trips.specs.Stands.{AreOne}
 use Rattle.round_trips.specs.Said.{item_of}
 

@@ -8,8 +8,8 @@ use Rattle.caps.specs.declared.cap.Cap.{Cap}
 use Rattle.dir_codec.specs.Entries.{IsDirectory}
 use Rattle.dir_codec.specs.DirectoryText.{directory_text}
 use Rattle.dir_codec.specs.declared.entry.Entry.{Entry}
-use Rattle.children_json.specs.Texts.{children_text}
-use Rattle.client_wire.specs.declared.ask.Ask.{Ask}
+use Rattle.client_core.specs.ChildrenJson.{children_text}
+use Rattle.client_core.specs.declared.ask.Ask.{Ask}
 use Rattle.client_core.specs.Given.{IsBoundAnswer}
 use Rattle.client_core.specs.declared.exchange.Answer.{Answer}
 use Rattle.client_core.specs.declared.exchange.LinkFault.{LinkFault}

@@ -10,7 +10,7 @@ ghost use Rattle.caps.specs.Fields.{ReadValue};
 ghost use Rattle.dir_codec.specs.DirectoryText.{directory_text};
 ghost use Rattle.dir_codec.specs.Reading.{directory_reading};
 ghost use Rattle.dir_codec.specs.declared.entry.Entry.{Entry as Child};
-ghost use Rattle.children_json.specs.Texts.{children_text};
+ghost use Rattle.client_core.specs.ChildrenJson.{children_text};
 ghost use Rattle.chk_file.specs.Upload.{Upload, IsUpload, fields, index, upload_cap};
 ghost use Rattle.chk_file.specs.Held.{uploaded_bytes};
 ghost use Rattle.chk_file.specs.Look.{Look};
@@ -28,9 +28,9 @@ ghost use Rattle.gate_base.specs.Browsers.{sent_reply};
 ghost use Rattle.gate_core.specs.Secrets.{upload_under};
 ghost use Rattle.gate_core.specs.Runs.{after_entry, world_after, told};
 ghost use Rattle.cap_binding.specs.Binds.{Binds};
-ghost use Rattle.client_wire.specs.Asks.{IsAsked, meant};
-ghost use Rattle.client_wire.specs.declared.ask.Ask.{Ask};
-ghost use Rattle.client_wire.specs.declared.ask.Ask.TheVariants.{Put, Mkdir, Read};
+ghost use Rattle.client_core.specs.Asks.{IsAsked, meant};
+ghost use Rattle.client_core.specs.declared.ask.Ask.{Ask};
+ghost use Rattle.client_core.specs.declared.ask.Ask.TheVariants.{Put, Mkdir, Read};
 ghost use Rattle.client_core.specs.declared.exchange.Answer.{Answer};
 ghost use Rattle.client_core.specs.declared.exchange.LinkFault.{LinkFault};
 ghost use Rattle.round_trips.specs.Honest.{IsHonestExchange, IsWrittenAnswer, as_answer, LeadsOn, with_asked, by_the_book, written_answer};
@@ -62,7 +62,7 @@ pub fn asks_are_items()
         after_entry settings (Asked caller secret (item_of host ask body)) w
         ≡ with_asked (under settings secret) ask body w }
 {
-    client_wire::laws::requests_are_meant();
+    client_core::laws::requests_are_meant();
     gate_base::laws::browsers_are_told_the_same();
 }
 
@@ -183,12 +183,12 @@ pub fn what_is_put_is_told_again()
         IsToldAgain settings reader w (before ++ x ∷ between) (head_asked its (Read f) [])
         (entry_asked reader other its (Read f) []) after f (directory_text entries) }
 {
-    client_wire::laws::requests_are_meant();
+    client_core::laws::requests_are_meant();
     cap_binding::laws::uploads_bind_their_bytes();
     cap_binding::laws::what_is_bound_was_uploaded();
     caps::laws::caps_have_one_text();
     caps::laws::texts_have_one_cap();
-    children_json::laws::written_children_are_made();
+    client_core::laws::written_children_are_made();
     children_reader::laws::made_children_are_named();
     tag_hash::laws::digests_are_bytes();
     tag_hash::laws::texts_fix_their_parts();
@@ -249,7 +249,7 @@ pub fn directories_come_back<E: Exchange>()
     cap_binding::laws::what_is_bound_was_uploaded();
     caps::laws::caps_have_one_text();
     caps::laws::texts_have_one_cap();
-    children_json::laws::written_children_are_made();
+    client_core::laws::written_children_are_made();
     children_reader::laws::made_children_are_named();
     dir_codec::laws::written_directories_are_read_back();
     tag_hash::laws::digests_are_bytes();

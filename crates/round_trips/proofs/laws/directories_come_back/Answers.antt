@@ -1,7 +1,7 @@
 use Rattle.std.proofs.Common.{◌≡◌, List, Some, ap}
 use Rattle.children_reader.specs.Children.{made}
 use Rattle.dir_codec.specs.declared.entry.Entry.{Entry as Child}
-use Rattle.children_json.specs.Texts.{children_text}
+use Rattle.client_core.specs.ChildrenJson.{children_text}
 use Rattle.web_ops.specs.Uploads.{directory_upload, as_directory}
 use Rattle.gate_core.specs.Settings.{encoding_in}
 use Rattle.round_trips.specs.Trips.{IsSendable}

@@ -1,6 +1,6 @@
 use Rattle.std.proofs.Common.{[]}
 use Rattle.chk_file.specs.Upload.{fields}
-use Rattle.client_wire.specs.declared.ask.Ask.TheVariants.{Read}
+use Rattle.client_core.specs.declared.ask.Ask.TheVariants.{Read}
 use Rattle.round_trips.proofs.Got.{bound_back}
 use Rattle.round_trips.proofs.laws.what_a_cap_binds_comes_back.Goals as goal
 

@@ -1,7 +1,7 @@
 use Rattle.std.proofs.Common.{◌≡◌, List, Some}
 use Rattle.children_reader.specs.Children.{made}
 use Rattle.dir_codec.specs.declared.entry.Entry.{Entry as Child}
-use Rattle.children_json.specs.Texts.{children_text}
+use Rattle.client_core.specs.ChildrenJson.{children_text}
 use Rattle.round_trips.specs.Trips.{IsSendable}
 use Rattle.round_trips.proofs.Caps.{HashLaws, TextLaws}
 use Rattle.round_trips.proofs.Telling.{put_told, made_told, file_told_again, directory_told_again}

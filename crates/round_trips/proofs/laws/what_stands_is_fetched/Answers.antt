@@ -1,6 +1,6 @@
 use Rattle.std.proofs.Common.{[]}
 use Rattle.std.proofs.lemmas.Result.{MatchResult-weaker}
-use Rattle.client_wire.specs.declared.ask.Ask.TheVariants.{Read}
+use Rattle.client_core.specs.declared.ask.Ask.TheVariants.{Read}
 use Rattle.round_trips.specs.Trips.{GivesJust}
 use Rattle.round_trips.proofs.Got.{gives, just_these, none_refused}
 use Rattle.round_trips.proofs.laws.what_stands_is_fetched.Goals as goal

@@ -1,2 +1,0 @@
--- One file.
-pub mod Asks
