@@ -13,6 +13,9 @@ mod script_calls;
 /// Connections.
 #[cfg(test)]
 mod connections;
+/// The gateway over stores that fail or lie, and after crashes.
+#[cfg(test)]
+mod gateway;
 /// The server's words, control requests and figures, and one folder.
 #[cfg(test)]
 mod server;

@@ -1,8 +1,8 @@
 //! Stores that fail at each of their calls, or lie.
 
-use super::counted::with_counted;
 use super::rows::{Row, are_told, holds, with_room};
 use gate_core::Gateway;
+use octets::fakes::counted_bytes;
 use share_store::{FailAt, Liar, MemStore, Store};
 use std::alloc::Global;
 use std::rc::RcSlice;
@@ -67,23 +67,12 @@ const FOURTH_FAILS: &[(bool, &[Row<'static>])] = &[
 fn a_store_that_fails_tells_of_what_is_dropped(rt: HostRuntime) -> Result<(), Fail> {
     for case in FOURTH_FAILS {
         let (for_good, rows) = *case;
-        is_told_of(rt.alloc(), for_good, rows)?;
+        let mut gateway = failing(rt.alloc(), 4, for_good)?;
+        gateway.open(1, None)?;
+        gateway.open(2, None)?;
+        are_told(&mut gateway, rows)?;
     }
     Ok(())
-}
-
-fn is_told_of(alloc: Global, for_good: bool, rows: &[Row<'_>]) -> Result<(), Fail> {
-    match failing(alloc, 4, for_good) {
-        Ok(mut gateway) => two_are_told(&mut gateway, rows),
-        Err(fault) => Err(fault),
-    }
-}
-
-/// Two connections are opened, and told so.
-fn two_are_told(gateway: &mut Gateway<FailAt>, rows: &[Row<'_>]) -> Result<(), Fail> {
-    gateway.open(1, None)?;
-    gateway.open(2, None)?;
-    are_told(gateway, rows)
 }
 
 /// A row, the rows before it, the reply where a call of the store fails, and how many calls both make where none does.
@@ -138,10 +127,8 @@ fn holds_at_each_failure(alloc: Global, trial: &Trial, for_good: bool) -> Result
 
 /// Whether a call fails in a trial where this one of its row would.
 fn fails_at(alloc: Global, trial: &Trial, at: u64, for_good: bool) -> Result<bool, Fail> {
-    match failing(alloc, trial.calls_before.saturating_add(at), for_good) {
-        Ok(mut gateway) => fails_in(&mut gateway, trial, for_good),
-        Err(fault) => Err(fault),
-    }
+    let call = trial.calls_before.saturating_add(at);
+    fails_in(&mut failing(alloc, call, for_good)?, trial, for_good)
 }
 
 /// Whether a call fails in a trial. Its reply is told, or its refusal where a call failed; a store that fails once then
@@ -191,7 +178,8 @@ const BIG_CHECKED: Row<'static> = (
 #[test]
 fn a_store_that_lies_gives_no_other_bytes(rt: HostRuntime) -> Result<(), Fail> {
     let alloc = rt.alloc();
-    let request = with_counted(alloc, PUT_BIG, 200_000)?;
+    let mut request = Vec::from_slice(alloc, PUT_BIG)?;
+    request.extend_from_slice(&counted_bytes(alloc, 200_000)?)?;
     let image = image_of_letters(alloc)?;
     // Shares of another file, whole, cut off, and empty; and what is no share.
     for length in [394, 393, 0] {
@@ -206,15 +194,9 @@ fn a_store_that_lies_gives_no_other_bytes(rt: HostRuntime) -> Result<(), Fail> {
 
 /// The image of a gateway that stored the file of letters.
 fn image_of_letters(alloc: Global) -> Result<Vec<u8>, Fail> {
-    match with_room(alloc, 10_000) {
-        Ok(mut gateway) => image_after(alloc, &mut gateway),
-        Err(fault) => Err(fault),
-    }
-}
-
-fn image_after(alloc: Global, gateway: &mut Gateway<MemStore>) -> Result<Vec<u8>, Fail> {
+    let mut gateway = with_room(alloc, 10_000)?;
     gateway.open(1, None)?;
-    are_told(gateway, &[STORED])?;
+    are_told(&mut gateway, &[STORED])?;
     let mut image = Vec::new(alloc);
     gateway.image(&mut image)?;
     Ok(image)
@@ -238,15 +220,8 @@ fn shares_in(alloc: Global, image: &[u8], length: usize) -> Result<Vec<RcSlice<u
 fn is_big_refused(alloc: Global, request: &[u8], answers: Vec<RcSlice<u8>>) -> Result<(), Fail> {
     let mut stores = Vec::new(alloc);
     stores.push(Liar::new(alloc, answers))?;
-    match Gateway::new(alloc, 3, 10, stores, b"") {
-        Ok(mut gateway) => is_big_gone(&mut gateway, request),
-        Err(fault) => Err(Fail::from(fault)),
-    }
-}
-
-/// The big file is taken, and gone.
-fn is_big_gone(gateway: &mut Gateway<Liar>, request: &[u8]) -> Result<(), Fail> {
+    let mut gateway = Gateway::new(alloc, 3, 10, stores, b"")?;
     gateway.open(1, None)?;
     let stored: Row<'_> = (1, request, BIG_STORED);
-    are_told(gateway, &[stored, BIG_GONE, BIG_CHECKED, BIG_GONE])
+    are_told(&mut gateway, &[stored, BIG_GONE, BIG_CHECKED, BIG_GONE])
 }

@@ -1,8 +1,6 @@
 //! Replies for browsers.
 
-use super::rows::{Row, are_told};
-use gate_core::Gateway;
-use share_store::MemStore;
+use super::rows::{Row, are_told, with_room};
 use std::test::Fail;
 
 /// A file of 56 bytes, whose caps are another program's, is put and asked for. Fields and their order are those of
@@ -111,16 +109,7 @@ const ROWS: &[Row<'static>] = &[
 
 #[test]
 fn browsers_are_told_more(rt: HostRuntime) -> Result<(), Fail> {
-    let alloc = rt.alloc();
-    let mut stores = Vec::new(alloc);
-    stores.push(MemStore::new(alloc, 100_000))?;
-    match Gateway::new(alloc, 3, 10, stores, b"") {
-        Ok(gateway) => is_told_more(&mut gateway.for_browsers()),
-        Err(fault) => Err(Fail::from(fault)),
-    }
-}
-
-fn is_told_more(gateway: &mut Gateway<MemStore>) -> Result<(), Fail> {
+    let mut gateway = with_room(rt.alloc(), 100_000)?.for_browsers();
     gateway.open(1, None)?;
-    are_told(gateway, ROWS)
+    are_told(&mut gateway, ROWS)
 }

@@ -15,7 +15,6 @@ pub const LETTERS_CAP: &[u8] =
 type Kept = Gateway<KeptStore<MemShelf>>;
 
 fn opened(alloc: Global, shelf: MemShelf) -> Result<KeptStore<MemShelf>, Fail> {
-    shelf.settled();
     let store = KeptStore::open(alloc, shelf, 100_000);
     Ok(store.ok().ok_or("not opened")?)
 }
@@ -29,19 +28,14 @@ fn left(
 ) -> Result<KeptStore<MemShelf>, Fail> {
     let store = gateway.servers().get(server).ok_or("no such server")?;
     let shelf = store.shelf();
-    if moment <= shelf.moment() {
-        return opened(alloc, shelf.left_at(alloc, moment)?);
+    if moment > shelf.moment() {
+        return Err(Fail::from("no such moment"));
     }
-    let none: Option<KeptStore<MemShelf>> = None;
-    Ok(none.ok_or("no such moment")?)
+    opened(alloc, shelf.left_at(alloc, moment)?)
 }
 
 /// 3 of 10 on two servers.
-fn resumed(
-    alloc: Global,
-    first: KeptStore<MemShelf>,
-    second: KeptStore<MemShelf>,
-) -> Result<Kept, Fail> {
+pub fn resumed<S: Store + Drop>(alloc: Global, first: S, second: S) -> Result<Gateway<S>, Fail> {
     let mut stores = Vec::new(alloc);
     stores.push(first)?;
     stores.push(second)?;
@@ -95,33 +89,25 @@ fn are_as_left(
 ) -> Result<(), Fail> {
     let first = left(alloc, gateway, 0, here)?;
     let second = left(alloc, gateway, 1, there)?;
-    match resumed(alloc, first, second) {
-        Ok(mut again) => are_given(&mut again, caps, here.saturating_add(there) >= 13),
-        Err(fault) => Err(fault),
-    }
+    let mut again = resumed(alloc, first, second)?;
+    are_given(&mut again, caps, here.saturating_add(there) >= 13)
 }
 
 /// Two files are put, and a crash comes at each moment of the second.
-fn are_whole_or_gone(alloc: Global, gateway: &mut Kept) -> Result<(), Fail> {
+#[test]
+fn after_a_crash_a_file_is_whole_or_gone(rt: HostRuntime) -> Result<(), Fail> {
+    let alloc = rt.alloc();
+    let one = opened(alloc, MemShelf::new(alloc))?;
+    let another = opened(alloc, MemShelf::new(alloc))?;
+    let mut gateway = resumed(alloc, one, another)?;
     gateway.open(1, None)?;
-    let first = put(alloc, gateway, b'b')?;
-    let second = put(alloc, gateway, b'a')?;
+    let first = put(alloc, &mut gateway, b'b')?;
+    let second = put(alloc, &mut gateway, b'a')?;
     holds(second.as_slice() == LETTERS_CAP, "another cap")?;
     for at in 0..36usize {
         let here = 5 + at / 6;
         let there = 5 + at % 6;
-        are_as_left(alloc, gateway, (&first, &second), here, there)?;
+        are_as_left(alloc, &gateway, (&first, &second), here, there)?;
     }
     Ok(())
-}
-
-#[test]
-fn after_a_crash_a_file_is_whole_or_gone(rt: HostRuntime) -> Result<(), Fail> {
-    let alloc = rt.alloc();
-    let first = opened(alloc, MemShelf::new(alloc))?;
-    let second = opened(alloc, MemShelf::new(alloc))?;
-    match resumed(alloc, first, second) {
-        Ok(mut gateway) => are_whole_or_gone(alloc, &mut gateway),
-        Err(fault) => Err(fault),
-    }
 }

@@ -16,17 +16,11 @@ const MANY: u64 = 2_000;
 
 #[test]
 fn connections_are_forgotten(rt: HostRuntime) -> Result<(), Fail> {
-    match with_room(rt.alloc(), 0) {
-        Ok(mut gateway) => are_forgotten(&mut gateway),
-        Err(fault) => Err(fault),
-    }
-}
-
-fn are_forgotten(gateway: &mut Gateway<MemStore>) -> Result<(), Fail> {
-    many_are_served(gateway)?;
-    many_are_forgotten(gateway)?;
-    some_go_on(gateway)?;
-    the_greatest_is_forgotten(gateway)
+    let mut gateway = with_room(rt.alloc(), 0)?;
+    many_are_served(&mut gateway)?;
+    many_are_forgotten(&mut gateway)?;
+    some_go_on(&mut gateway)?;
+    the_greatest_is_forgotten(&mut gateway)
 }
 
 /// Many connections are opened and ask, and then each is told and ends.

@@ -1,10 +1,10 @@
 //! A shelf that fails and has done its change all the same, later calls, and a crash.
 
-use super::restarting::{LETTERS_CAP, is_given, put, put_reply};
+use super::restarting::{LETTERS_CAP, is_given, put, put_reply, resumed};
 use super::rows::holds;
 use gate_core::Gateway;
 use kept_store::KeptStore;
-use share_shelf::{FailShelf, MemShelf, OpenFault};
+use share_shelf::{FailShelf, MemShelf};
 use share_store::Store;
 use std::alloc::Global;
 use std::test::Fail;
@@ -15,31 +15,10 @@ const SHARE: u64 = 394;
 type Kept = Gateway<KeptStore<FailShelf>>;
 
 /// A store over a shelf of which this call fails, counted from 1, and is done all the same; none does for 0.
-fn over_failing(
-    alloc: Global,
-    inner: MemShelf,
-    at: u64,
-) -> Result<KeptStore<FailShelf>, OpenFault> {
-    inner.settled();
-    KeptStore::open(alloc, FailShelf::new(inner, at, false, true), 100_000)
-}
-
-/// The same, as a test wants it.
 fn opened(alloc: Global, inner: MemShelf, at: u64) -> Result<KeptStore<FailShelf>, Fail> {
-    let store = over_failing(alloc, inner, at);
+    let shelf = FailShelf::new(inner, at, false, true);
+    let store = KeptStore::open(alloc, shelf, 100_000);
     Ok(store.ok().ok_or("not opened")?)
-}
-
-/// 3 of 10 on two servers.
-fn resumed(
-    alloc: Global,
-    first: KeptStore<FailShelf>,
-    second: KeptStore<FailShelf>,
-) -> Result<Kept, Fail> {
-    let mut stores = Vec::new(alloc);
-    stores.push(first)?;
-    stores.push(second)?;
-    Ok(Gateway::resume(alloc, 3, 10, stores, b"")?)
 }
 
 /// The put of 56 times a letter is answered that a store failed.
@@ -76,10 +55,7 @@ fn is_done_though_it_failed(alloc: Global, gateway: &mut Kept) -> Result<(), Fai
     // The crash. The other server lost all, so three shares of the first one are needed.
     let first = left(alloc, gateway)?;
     let second = opened(alloc, MemShelf::new(alloc), 0)?;
-    match resumed(alloc, first, second) {
-        Ok(mut again) => are_both_given(&mut again, &cap),
-        Err(fault) => Err(fault),
-    }
+    are_both_given(&mut resumed(alloc, first, second)?, &cap)
 }
 
 /// The first server holds the eighth share too, and both files are whole.
@@ -99,8 +75,5 @@ fn what_a_shelf_did_though_it_failed_stands_after_a_later_crash(
     // Its first call lists what it has, and five put the shares of the first file.
     let first = opened(alloc, MemShelf::new(alloc), 9)?;
     let second = opened(alloc, MemShelf::new(alloc), 0)?;
-    match resumed(alloc, first, second) {
-        Ok(mut gateway) => is_done_though_it_failed(alloc, &mut gateway),
-        Err(fault) => Err(fault),
-    }
+    is_done_though_it_failed(alloc, &mut resumed(alloc, first, second)?)
 }
