@@ -40,11 +40,16 @@ pub room_replaced : (next id room most address : ℕ) (ps : List (ℕ × Peer)) 
     → IsChoiceFor room most address ts.seats choice → AreKept next ps ts → MatchBool made (HasLeft id ts us) (IsDismissible (seat_at ts id) → ⊥)
     → Places room most address ps ts us choice made
 room_replaced next id room most address ps ts us choice made is chosen kept was =
-    let so : IsChoiceFor room most address ts.seats (Replaces id) = subst (IsChoiceFor room most address ts.seats) is chosen in
-    (Replaces id, (so, elim so [
-      | inl own ↦ replaced_by (Some address) next id ps ts us made own.1 kept was
-      | inr any ↦ replaced_by None next id ps ts us made any.2 kept was
-    ]))
+    let so : IsChoiceFor room most address ts.seats (Replaces id) = subst (IsChoiceFor room most address ts.seats) is chosen in (
+      Replaces id,
+      (
+        so,
+        elim so [
+          | inl own ↦ replaced_by (Some address) next id ps ts us made own.1 kept was
+          | inr any ↦ replaced_by None next id ps ts us made any.2 kept was
+        ],
+      ),
+    )
 
 -- room was made, and then a connection was opened under a secret, or the gateway's, which is the same since
 pub welcome_served : OpenedThen → (id at : ℕ) (own : Option (List ℕ)) (before mid next : ℕ) (ps qs : List (ℕ × Peer)) (ts us : TurnsState) (g h k : State)

@@ -221,7 +221,14 @@ impl Table {
         };
         let peer = Peer::new(stream, flow, now);
         let most = self.tools.limits.places_of(from);
-        match add(&mut self.peers, &mut self.turns, id, peer, from.number, most) {
+        match add(
+            &mut self.peers,
+            &mut self.turns,
+            id,
+            peer,
+            from.number,
+            most,
+        ) {
             None => self.tools.counts.opens(self.turns.len()),
             Some(flow) => {
                 give_up(lobby, forgets, flow);

@@ -121,7 +121,12 @@ impl FileTally {
     }
 
     /// Tells all that was counted.
-    pub(crate) fn tell<R: Print>(&self, rt: &R, needed: u16, made: u16) -> Result<(), ProgramFault> {
+    pub(crate) fn tell<R: Print>(
+        &self,
+        rt: &R,
+        needed: u16,
+        made: u16,
+    ) -> Result<(), ProgramFault> {
         let FileTally { whole, short, lost } = *self;
         let told = println!(rt;
             "files: {whole} whole, {short} with fewer than {made} shares, {lost} with fewer than {needed}"
