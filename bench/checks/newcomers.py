@@ -54,7 +54,7 @@ class Server:
 
 
 def answer(stream):
-    """What a connection is given until it has a whole reply, or ends."""
+    """What a connection is given until it has a whole reply, or ends, or nothing came for ten seconds."""
     given = b""
     try:
         while not given.endswith(b"foo"):
@@ -62,7 +62,7 @@ def answer(stream):
             if not more:
                 break
             given += more
-    except ConnectionResetError:
+    except (ConnectionResetError, TimeoutError):
         pass
     return given
 
