@@ -37,8 +37,8 @@ struct Folders {
 
 /// A folder of the grid, and what was found there so far.
 #[derive(Drop)]
-struct Looked<'a> {
-    folder: &'a str,
+struct Looked {
+    folder: String,
     settings: StoreSettings,
     contents: Contents,
     /// Whether it could be read so far.
@@ -91,16 +91,16 @@ fn tell_fault<R: Eprint>(rt: &R, folder: &str, fault: ProgramFault) -> Result<()
 }
 
 /// A folder that is to be looked through, which is of one grid with those that were seen before it.
-fn open<'a, R: Files + AllocGlobal + Clone + Drop>(
+fn open<R: Files + AllocGlobal + Clone + Drop>(
     rt: &R,
-    folder: &'a str,
+    folder: &str,
     seen: &mut Folders,
-) -> Result<Looked<'a>, ProgramFault> {
+) -> Result<Looked, ProgramFault> {
     let settings = settings_in(rt, folder)?;
     seen.add(&settings)?;
     let unfinished = format!(in rt.alloc(); "{folder}/new")?;
     Ok(Looked {
-        folder,
+        folder: String::from_str(rt.alloc(), folder)?,
         settings,
         contents: Contents {
             shares: 0,
@@ -117,7 +117,7 @@ fn open<'a, R: Files + AllocGlobal + Clone + Drop>(
 /// whole.
 fn look_through<R: Files + AllocGlobal + Clone + Drop + Log + Print + Eprint>(
     rt: &R,
-    looked: &mut [Looked<'_>],
+    looked: &mut [Looked],
     seen: &Folders,
 ) -> Result<bool, ProgramFault> {
     let Some(StoreSettings { needed, made, .. }) = seen.first else {
@@ -136,7 +136,7 @@ fn look_through<R: Files + AllocGlobal + Clone + Drop + Log + Print + Eprint>(
 /// then on.
 fn shares_in<R: Files + AllocGlobal + Clone + Drop + Log + Eprint>(
     rt: &R,
-    looked: &mut [Looked<'_>],
+    looked: &mut [Looked],
     number: u8,
 ) -> Result<Shares, ProgramFault> {
     let mut shares = Shares::new(rt.alloc());
@@ -145,7 +145,7 @@ fn shares_in<R: Files + AllocGlobal + Clone + Drop + Log + Eprint>(
             && let Err(fault) = one.look_in(rt, number, &mut shares)
         {
             one.is_read = false;
-            tell_fault(rt, one.folder, ProgramFault::from(fault))?;
+            tell_fault(rt, one.folder.as_str(), ProgramFault::from(fault))?;
         }
     }
     Ok(shares)
@@ -188,7 +188,7 @@ impl Folders {
     }
 }
 
-impl Looked<'_> {
+impl Looked {
     /// Looks through the folder of shares of this number. Each file that is rotten, and each stranger's, is logged.
     fn look_in<R: Files + AllocGlobal + Clone + Drop + Log>(
         &mut self,
@@ -196,7 +196,7 @@ impl Looked<'_> {
         number: u8,
         shares: &mut Shares,
     ) -> Result<(), FolderFault> {
-        let folder = self.folder;
+        let folder = self.folder.as_str();
         let place = format!(in rt.alloc(); "{folder}/{number}")?;
         let names = names_in(rt, place.as_str())?;
         for name in &names {
@@ -218,7 +218,7 @@ impl Looked<'_> {
         if !self.is_read {
             return Ok(false);
         }
-        let folder = self.folder;
+        let folder = self.folder.as_str();
         let StoreSettings {
             place,
             servers,
