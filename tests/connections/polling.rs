@@ -130,6 +130,7 @@ enum Trial {
     Answers,
     Cuts,
     Places,
+    FullAddress,
     Stops,
     TwoCaps,
     Token,
@@ -158,6 +159,7 @@ fn is_tried_over<R: Net<Stream = TcpStream> + Clock + CpuClock + AllocGlobal + L
         Trial::Answers => are_answered(rt, many),
         Trial::Cuts => are_cut(rt, many),
         Trial::Places => are_placed(rt, many),
+        Trial::FullAddress => is_refused(rt, many),
         Trial::Stops => is_stopped(rt, many),
         Trial::TwoCaps => have_two_caps(rt, many),
         Trial::Token => is_stopped_by_the_token(rt, many),
@@ -257,7 +259,13 @@ fn are_placed<R: Net<Stream = TcpStream> + Clock + CpuClock + AllocGlobal + Log 
     };
     let full = Limits::new(1, Duration::from_secs(20));
     let counts = serves(rt, &full, many, &[silent, asking])?;
-    Ok(counts.replaced == 1 && counts.over == 1 && is_refused(rt, many)?)
+    Ok(counts.replaced == 1 && counts.over == 1)
+}
+
+#[test]
+fn newcomers_of_a_full_address_are_refused(rt: HostRuntime) -> Result<(), Fail> {
+    assert!(rt; is_tried(&rt, Trial::FullAddress)?);
+    Ok(())
 }
 
 /// Whether one whose address has all its places is refused where nobody is idle, and nothing is lost.
