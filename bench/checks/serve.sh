@@ -148,7 +148,7 @@ for line in open(sys.argv[1]).read().splitlines():
         assert value.isdigit(), line
     replies += int(value) if name == "wozhinnam_replies_total" else 0
     assert name in said["HELP"] and name in said["TYPE"], line
-assert said["HELP"].keys() == said["TYPE"].keys() and len(said["HELP"]) == 19, said
+assert said["HELP"].keys() == said["TYPE"].keys() and len(said["HELP"]) == 20, said
 assert said["TYPE"]["wozhinnam_request_seconds"] == "histogram", said
 # each histogram: bounds that rise to +Inf, numbers that don't fall, the last of which is that of all, and a sum
 assert sorted(times) == ["get", "head", "other", "post", "put"], times
